@@ -1,0 +1,3 @@
+pub mod Rules
+pub mod Outcome
+pub mod Outside

@@ -1,0 +1,16 @@
+//! What every crate shares: names, stops, the traits of the outside, and tables.
+#![tactic(auto)]
+
+mod gates;
+mod names;
+mod sinks;
+mod sources;
+mod stops;
+mod tables;
+
+pub use gates::{Gate, OpenGate};
+pub use names::{Name, NameList};
+pub use sinks::Sink;
+pub use sources::Source;
+pub use stops::{Failed, NoMemory, Refusal, Rule, Stop};
+pub use tables::Table;
