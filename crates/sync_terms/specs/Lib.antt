@@ -1,0 +1,4 @@
+pub mod Trees
+pub mod Maps
+pub mod Values
+pub mod Stored

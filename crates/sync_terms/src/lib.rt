@@ -1,0 +1,8 @@
+//! Terms and formulas: a store in which equal trees are one, and the trees of proof scripts.
+#![tactic(auto)]
+
+mod nodes;
+mod scripts;
+
+pub use nodes::{FormId, FormNode, Node, Sym, TermId};
+pub use scripts::{Block, HypName, Part, Script, ScriptStep, StepKind};
