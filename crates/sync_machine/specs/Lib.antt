@@ -1,0 +1,4 @@
+pub mod Machines
+pub mod Statements
+pub mod States
+pub mod Scope
