@@ -1,9 +1,12 @@
 -- Which symbols stand for what in a term, so that its value depends on these alone.
-use Rattle.std.specs.Prelude.{◌≡◌, ℕ, ◌+◌, ◌*◌, ◌<◌, ◌≤◌, List, [], ◌∷◌, length, nat_lt, nat_eq, Bool, true, false, ◌||◌, ◌&&◌, if◌then◌else◌, Option, Some, None}
-use Rattle.std.specs.List.{list_any}
+use Rattle.std.specs.Prelude.{◌≡◌, ℕ, ◌+◌, ◌*◌, ◌<◌, ◌≤◌, List, [], ◌∷◌, length, slice_index_or, nat_lt, nat_eq, Bool, true, false, ◌||◌, ◌&&◌, if◌then◌else◌, Option, Some, None}
+use Rattle.std.specs.List.{list_any, AllByRecursion}
 use Rattle.sync_terms.specs.Trees.{Tree, Lit, Name, Add, Sub, Scale, Get, Has, Size, Sum, Nil, Put, Del, Bump, Formula, Le, Lt, Eq, Not, And, Or, Imp}
 use Rattle.sync_machine.specs.declared.fields.Field.{Field}
-use Rattle.sync_machine.specs.States.{Sort, Numbers, Maps, sort_of, strategy_at}
+use Rattle.sync_machine.specs.declared.fields.OpMode.TheVariants as mode
+use Rattle.sync_machine.specs.Machines.{StepTree, OperationTree, InvariantTree, MachineTree}
+use Rattle.sync_machine.specs.Statements.{condition, changed_by}
+use Rattle.sync_machine.specs.States.{Sort, Numbers, Maps, sort_of, strategy_at, strategy_of, current_of, advanced, last_values, first_values}
 
 -- the sort of each known symbol
 abbrev pub Known : Type 0
@@ -58,3 +61,35 @@ HasSort k Maps t = IsMap k t
 -- the symbols of the fields, and of a list of numbers
 abbrev pub knows : List Field → List ℕ → Known
 knows fs names x = if nat_lt x (length fs) then Some (sort_of (strategy_at fs x)) else (if list_any (nat_eq x) names then Some Numbers else None)
+
+-- a number that a name of the text may have as a parameter or bound name: 64, 68, 72, ..
+abbrev pub IsNameSymbol : ℕ → Type 0
+IsNameSymbol x = (n : ℕ) × (x ≡ 64 + 4 * n)
+
+abbrev pub IsConditionIn : Known → Option Formula → Type 0
+IsConditionIn k None = Unit {0}
+IsConditionIn k (Some f) = IsFormula k f
+
+-- the conditions of an operation's statements name known symbols alone
+unfoldable pub AreConditionsIn : List Field → Known → List Tree → List StepTree → Type 0
+AreConditionsIn fs k cur [] = Unit {0}
+AreConditionsIn fs k cur (s ∷ ss) = IsConditionIn k (condition (strategy_of fs s.act) (current_of cur s.act) s.act) × AreConditionsIn fs k (advanced fs cur s.act) ss
+
+-- An operation speaks of the fields, its parameters and the names that it binds alone, each as its sort; and a property changes nothing.
+pub record IsScopedOperation (fs : List Field) (o : OperationTree) : Type 0 where
+  pub given : List ℕ
+  pub are_names : AllByRecursion IsNameSymbol given
+  pub conditions : AreConditionsIn fs (knows fs given) (first_values fs o.mode) o.steps
+  pub values : (x : ℕ) → x < length fs → HasSort (knows fs given) (sort_of (strategy_at fs x)) (slice_index_or (last_values fs (first_values fs o.mode) o.steps) x Nil)
+  pub property_changes_nothing : o.mode ≡ mode.Property → AllByRecursion (λ (s : StepTree). changed_by s.act ≡ None) o.steps
+
+-- an invariant speaks of the fields and its parameters alone
+pub record IsScopedInvariant (fs : List Field) (i : InvariantTree) : Type 0 where
+  pub are_names : AllByRecursion IsNameSymbol i.params
+  pub form : IsFormula (knows fs i.params) i.form
+
+-- every term and formula of the machine speaks of known symbols alone
+pub record IsScoped (m : MachineTree) : Type 0 where
+  pub few_fields : length m.fields ≤ 32
+  pub operations : AllByRecursion (IsScopedOperation m.fields) m.ops
+  pub invariants : AllByRecursion (IsScopedInvariant m.fields) m.invariants

@@ -1,0 +1,4 @@
+//! Whether a machine's invariants are inductive: every reached state meets them, and no condition ever fails.
+#![tactic(auto)]
+
+fn nothing() {}
