@@ -15,7 +15,7 @@ use Rattle.sync_machine.specs.declared.fields.OpMode.TheVariants as mode
 use Rattle.sync_machine.specs.Machines.{StepTree, OperationTree, InvariantTree, MachineTree}
 use Rattle.sync_machine.specs.Statements.{changed_by}
 use Rattle.sync_machine.specs.States.{State, Value, Number, Mapped, Sort, Numbers, Maps, sort_of, value_in, StandsFor, IsAtFrom, IsAt, AreGiven, strategy_at, last_values, first_values, blank, AreMet, IsKeptSafe, values_in, IsInit, Steps, Starts, IsReached, starts, steps, MeetsInvariants, IsSafe, StartsSafe, HoldsAlways}
-use Rattle.sync_machine.specs.Scope.{Known, IsNumber, IsMap, IsFormula, HasSort, knows, IsNameSymbol, IsScopedOperation, IsScopedInvariant, IsScoped}
+use Rattle.sync_machine.specs.Scope.{Known, IsNumber, IsMap, IsFormula, HasSort, knows, IsNameSymbol, IsScopedOperation, IsScopedInvariant, ChangesNothing, IsScoped}
 use Rattle.sync_rules.specs.Obligations.{names, form_names, has_to_keep, is_kept_by}
 use Rattle.sync_induct.specs.Facts.{Fact}
 use Rattle.sync_induct.specs.Duties.{invariant_facts, facts_behind, step_duties, keeps_duties, closing, base_facts, operation_duties, duties_of, givens_of, AreProved}
@@ -270,29 +270,29 @@ spared-name m o x no_init lt h = last-spared m.fields (first_values m.fields o.m
   names-at mode.Property apart = get_or-map-range_with_len Name 0 (length m.fields) x x Nil lt (zero-add x)
 
 -- an invariant that an operation does not have to keep names no field that it changes
-not-kept-spares : (m : MachineTree) (o : OperationTree) (h : IsScopedOperation m.fields o) (form : Formula) (x : ℕ) → (IsInit o → ⊥) → is_kept_by o.mode o.steps form ≡ false → form_names x form ≡ true → AllByRecursion (Spares x) o.steps
-not-kept-spares m o h form x no_init e named = by o.mode refl e where
+not-kept-spares : (o : OperationTree) (h : ChangesNothing o) (form : Formula) (x : ℕ) → (IsInit o → ⊥) → is_kept_by o.mode o.steps form ≡ false → form_names x form ≡ true → AllByRecursion (Spares x) o.steps
+not-kept-spares o h form x no_init e named = by o.mode refl e where
   by : (k : OpMode) → o.mode ≡ k → is_kept_by k o.steps form ≡ false → AllByRecursion (Spares x) o.steps
   by mode.Init is f = absurd (no_init is)
   by mode.Transition is f = untouched form x o.steps named f
-  by mode.Property is f = nothing-changed x o.steps (h.property_changes_nothing is)
+  by mode.Property is f = nothing-changed x o.steps (h is)
 
 -- behind a step each invariant is true again
-step-keeps : (m : MachineTree) (o : OperationTree) (few : length m.fields ≤ 32) (h : IsScopedOperation m.fields o) (s : State) (v : Valuation) (is : List InvariantTree) → length s ≡ length m.fields → (IsInit o → ⊥) → IsAt s v
+step-keeps : (m : MachineTree) (o : OperationTree) (few : length m.fields ≤ 32) (h : IsScopedOperation m.fields o) (still : ChangesNothing o) (s : State) (v : Valuation) (is : List InvariantTree) → length s ≡ length m.fields → (IsInit o → ⊥) → IsAt s v
     → AreMet m.fields v (first_values m.fields o.mode) o.steps
     → ((u : Valuation) → IsAt s u → FactsHold u (base_facts o.mode m.invariants))
     → AllByRecursion (IsScopedInvariant m.fields) is → AllByRecursion (KeepsIt o (facts_of m o) (last_of m o)) is → AllByRecursion (IsTrueAt s) is
     → AllByRecursion (IsTrueAt (values_in v m.fields (last_of m o))) is
-step-keeps m o few h s v [] len no_init at met base scoped keeps meets = tt
-step-keeps m o few h s v (i ∷ is) len no_init at met base scoped keeps meets =
-    (one (is_kept_by o.mode o.steps i.form) refl, step-keeps m o few h s v is len no_init at met base scoped.1 keeps.1 meets.1) where
+step-keeps m o few h still s v [] len no_init at met base scoped keeps meets = tt
+step-keeps m o few h still s v (i ∷ is) len no_init at met base scoped keeps meets =
+    (one (is_kept_by o.mode o.steps i.form) refl, step-keeps m o few h still s v is len no_init at met base scoped.1 keeps.1 meets.1) where
       one : (b : Bool) → is_kept_by o.mode o.steps i.form ≡ b → IsTrueAt (values_in v m.fields (last_of m o)) i
       one true e w at_w =
           kept m.fields h.given i.params (last_of m o) v w i.form (facts_of m o) (ends-of m o few h) scoped.0.are_names scoped.0.form (keeps.0 e)
           (facts-hold m o few h i.params v w scoped.0.are_names (base (dollar i.params w v) (isat-dollar s i.params v w (omega arith) scoped.0.are_names at)) met) at_w
       one false e w at_w =
           stays m.fields i.params (last_of m o) s v w i.form scoped.0.form (last-is m o) len
-          (λ x lt named. spared-name m o x no_init lt (not-kept-spares m o h i.form x no_init e named)) at meets.0 at_w
+          (λ x lt named. spared-name m o x no_init lt (not-kept-spares o still i.form x no_init e named)) at meets.0 at_w
 
 -- behind an init each invariant is true
 start-keeps : (m : MachineTree) (o : OperationTree) (few : length m.fields ≤ 32) (h : IsScopedOperation m.fields o) (v : Valuation) (is : List InvariantTree) → IsInit o
@@ -311,6 +311,9 @@ start-keeps m o few h v (i ∷ is) is_init met scoped keeps = (one, start-keeps 
 module _ (m : MachineTree) (scoped : IsScoped m) (proved : AreProved (duties_of m)) where
   operation : (o : OperationTree) → Contains m.ops o → IsScopedOperation m.fields o
   operation o h = All-contains (IsScopedOperation m.fields) m.ops o (All-from_recursion (IsScopedOperation m.fields) m.ops scoped.operations) h
+
+  property : (o : OperationTree) → Contains m.ops o → ChangesNothing o
+  property o h = All-contains ChangesNothing m.ops o (All-from_recursion ChangesNothing m.ops scoped.properties) h
 
   operation-proved : (o : OperationTree) → Contains m.ops o → IsOperationProved m o
   operation-proved o h = All-contains (IsOperationProved m) m.ops o (All-from_recursion (IsOperationProved m) m.ops (operations-proved m 0 m.ops proved)) h
@@ -341,7 +344,7 @@ module _ (m : MachineTree) (scoped : IsScoped m) (proved : AreProved (duties_of 
   fine-step : (o : OperationTree) (args : List ℤ) (s t : State) → IsFine m s → Steps m s o args t → IsFine m t
   fine-step o args s t f h = subst (IsFine m) (sym h.leaves) (record {
     length_is = values-length h.names m.fields (last_of m o) (last-is m o);
-    meets = step-keeps m o scoped.few_fields (operation o h.declared) s h.names m.invariants f.length_is h.no_init h.before h.met (base s f o.mode) scoped.invariants (keeps-proved o h.declared) f.meets;
+    meets = step-keeps m o scoped.few_fields (operation o h.declared) (property o h.declared) s h.names m.invariants f.length_is h.no_init h.before h.met (base s f o.mode) scoped.invariants (keeps-proved o h.declared) f.meets;
   })
 
   fine : (s : State) → IsReached m s → IsFine m s

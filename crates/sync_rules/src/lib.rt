@@ -2,5 +2,7 @@
 #![tactic(auto)]
 
 mod claims;
+mod kinds;
 
 pub use claims::{Claim, Obligation};
+pub use kinds::OpKind;
