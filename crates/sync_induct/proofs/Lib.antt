@@ -1,3 +1,4 @@
 pub mod Agreement
 pub mod Walks
 pub mod Soundness
+pub mod Scoping
