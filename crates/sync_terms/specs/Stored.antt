@@ -1,6 +1,5 @@
 -- What a store of terms holds: nodes that point to earlier nodes, and the trees that they stand for.
-use Rattle.std.specs.Prelude.{◌≡◌, ℕ, ◌<◌, ◌≤◌, List, [], ◌∷◌, ◌++◌, length, fold, slice_index_or}
-use Rattle.sync_terms.specs.declared.nodes.Sym.{Sym}
+use Rattle.std.specs.Prelude.{◌≡◌, ℕ, ◌<◌, List, [], ◌∷◌, ◌++◌, length, fold, slice_index_or}
 use Rattle.sync_terms.specs.declared.nodes.TermId.{TermId}
 use Rattle.sync_terms.specs.declared.nodes.FormId.{FormId}
 use Rattle.sync_terms.specs.declared.nodes.Node.{Node}
@@ -81,30 +80,38 @@ shape s n = grown (trees s.nodes) n
 unfoldable pub form_shape : Stored → FormNode → Formula
 form_shape s n = grown_form (trees s.nodes) (formulas (trees s.nodes) s.forms) n
 
+-- the children of a node are ids below a number
+abbrev pub ChildrenBelow : ℕ → Node → Type 0
+ChildrenBelow n (node.Lit k) = Unit {0}
+ChildrenBelow n (node.Name x) = Unit {0}
+ChildrenBelow n (node.Add a b) = (a.0 < n) × (b.0 < n)
+ChildrenBelow n (node.Sub a b) = (a.0 < n) × (b.0 < n)
+ChildrenBelow n (node.Scale k a) = a.0 < n
+ChildrenBelow n (node.Get m k) = (m.0 < n) × (k.0 < n)
+ChildrenBelow n (node.Has m k) = (m.0 < n) × (k.0 < n)
+ChildrenBelow n (node.Size m) = m.0 < n
+ChildrenBelow n (node.Sum m) = m.0 < n
+ChildrenBelow n node.Nil = Unit {0}
+ChildrenBelow n (node.Put m k v) = (m.0 < n) × (k.0 < n) × (v.0 < n)
+ChildrenBelow n (node.Del m k) = (m.0 < n) × (k.0 < n)
+ChildrenBelow n (node.Bump m k c) = (m.0 < n) × (k.0 < n) × (c.0 < n)
+
+-- the terms of a formula's node are ids below one number, and its formulas ids below another
+abbrev pub PartsBelow : ℕ → ℕ → FormNode → Type 0
+PartsBelow n p (form.Le a b) = (a.0 < n) × (b.0 < n)
+PartsBelow n p (form.Lt a b) = (a.0 < n) × (b.0 < n)
+PartsBelow n p (form.Eq a b) = (a.0 < n) × (b.0 < n)
+PartsBelow n p (form.Not f) = f.0 < p
+PartsBelow n p (form.And f g) = (f.0 < p) × (g.0 < p)
+PartsBelow n p (form.Or f g) = (f.0 < p) × (g.0 < p)
+PartsBelow n p (form.Imp f g) = (f.0 < p) × (g.0 < p)
+
 -- the children of a node are ids of this store
 abbrev pub HasChildren : Stored → Node → Type 0
-HasChildren s (node.Lit n) = Unit {0}
-HasChildren s (node.Name x) = Unit {0}
-HasChildren s (node.Add a b) = IsTerm s a × IsTerm s b
-HasChildren s (node.Sub a b) = IsTerm s a × IsTerm s b
-HasChildren s (node.Scale n a) = IsTerm s a
-HasChildren s (node.Get m k) = IsTerm s m × IsTerm s k
-HasChildren s (node.Has m k) = IsTerm s m × IsTerm s k
-HasChildren s (node.Size m) = IsTerm s m
-HasChildren s (node.Sum m) = IsTerm s m
-HasChildren s node.Nil = Unit {0}
-HasChildren s (node.Put m k v) = IsTerm s m × IsTerm s k × IsTerm s v
-HasChildren s (node.Del m k) = IsTerm s m × IsTerm s k
-HasChildren s (node.Bump m k n) = IsTerm s m × IsTerm s k × IsTerm s n
+HasChildren s n = ChildrenBelow (length s.nodes) n
 
 abbrev pub HasParts : Stored → FormNode → Type 0
-HasParts s (form.Le a b) = IsTerm s a × IsTerm s b
-HasParts s (form.Lt a b) = IsTerm s a × IsTerm s b
-HasParts s (form.Eq a b) = IsTerm s a × IsTerm s b
-HasParts s (form.Not f) = IsForm s f
-HasParts s (form.And f g) = IsForm s f × IsForm s g
-HasParts s (form.Or f g) = IsForm s f × IsForm s g
-HasParts s (form.Imp f g) = IsForm s f × IsForm s g
+HasParts s n = PartsBelow (length s.nodes) (length s.forms) n
 
 -- the new store has each earlier id, with the same tree
 pub record Extends (old new : Stored) : Type 0 where

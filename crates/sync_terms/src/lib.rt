@@ -3,6 +3,8 @@
 
 mod nodes;
 mod scripts;
+mod store;
 
 pub use nodes::{FormId, FormNode, Node, Sym, TermId};
 pub use scripts::{Block, HypName, Part, Script, ScriptStep, StepKind};
+pub use store::{TermStop, Terms};

@@ -1,0 +1,5 @@
+pub mod Growth
+pub mod Sharing
+pub mod Keeping
+pub mod Equal
+pub mod Reading
