@@ -1,0 +1,4 @@
+pub mod Held
+pub mod SignLen
+pub mod Numbers
+pub mod Within

@@ -1,0 +1,4 @@
+pub mod Bytes
+pub mod Signs
+pub mod Pieces
+pub mod Lexemes

@@ -1,0 +1,55 @@
+//! From bytes to lexemes.
+ghost use Rattle.std.specs.Prelude.{◌≡◌};
+ghost use Rattle.sync_base.specs.Outcome.{Gives};
+ghost use Rattle.sync_lex.specs.Lexemes.{lexemes_of};
+
+use crate::lexemes::{Lexeme, Tokens};
+use crate::pieces::{Piece, next_piece};
+use sqlite_items::Items;
+use std::alloc::Global;
+use sync_base::{Refusal, Rule, Stop};
+
+const LONGEST_TEXT: usize = 1_048_576;
+
+/// The lexemes of a text, or the first rule L that it breaks, at the line of its first byte.
+#[tactic(auto, unfolding(crate::specs::Lexemes::lexemes_of))]
+pub fn lex(alloc: Global, text: &[u8]) -> Result<Tokens, Stop>
+    ensures { Gives (λ t. (t.list, t.last_line)) result (lexemes_of text.now) }
+{
+    if text.len() > LONGEST_TEXT {
+        return Err(Stop::Refused(Refusal {
+            line: 1,
+            rule: Rule::L1,
+        }));
+    }
+    let mut list = Items::new(alloc);
+    let mut line = 1;
+    let mut skip = 0;
+    for (at, byte) in text.iter().enumerate() {
+        if skip == 0 {
+            match next_piece(&text[at..]) {
+                Piece::Gap(len) => skip = len,
+                Piece::Word(kind, len) => {
+                    list.push(Lexeme {
+                        kind,
+                        start: at as u32,
+                        end: (at + len) as u32,
+                        line,
+                    })?;
+                    skip = len;
+                }
+                Piece::Broken(rule) => {
+                    return Err(Stop::Refused(Refusal { line, rule }));
+                }
+            }
+        }
+        skip -= 1;
+        if *byte == b'\n' {
+            line += 1;
+        }
+    }
+    Ok(Tokens {
+        list,
+        last_line: line,
+    })
+}
