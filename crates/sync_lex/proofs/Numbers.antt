@@ -34,7 +34,7 @@ take-take (suc k) (suc n) (x ∷ xs) le = ap (λ (r : List ℕ). x ∷ r) (take-
 grows : (k n : ℕ) (xs : List ℕ) → k ≤ n → number_value (take k xs) ≤ number_value (take n xs)
 grows k n xs le = rw (← take-take k n xs le) (after_grows 0 k (take n xs))
 
-digit_bounds : (c : ℕ) → is_ascii_digit c ≡ true → (48 ≤ c) × (c ≤ 57)
+pub digit_bounds : (c : ℕ) → is_ascii_digit c ≡ true → (48 ≤ c) × (c ≤ 57)
 digit_bounds c e = let parts = both (leb 48 c) (leb c 57) e in (leb-true 48 c parts.0, leb-true c 57 parts.1)
 
 module _ (bytes : List ℕ) (i value : ℕ) (lt : i < length bytes) (digit : is_ascii_digit (get_or bytes i 0) ≡ true) (valued : value ≡ number_value (take i bytes)) where

@@ -24,9 +24,10 @@ IsIn size (Gap len) = (0 < len) × (len ≤ size)
 IsIn size (Word kind len) = (0 < len) × (len ≤ size)
 IsIn size (Broken rule) = Unit {0}
 
-in_if : (size : ℕ) (c : Bool) (x y : Piece) → (c ≡ true → IsIn size x) → (c ≡ false → IsIn size y) → IsIn size (cond c x y)
-in_if size true x y p q = p refl
-in_if size false x y p q = q refl
+-- a fact of the piece that a test chooses
+pub by_test : (P : Piece → Type 0) (c : Bool) (x y : Piece) → (c ≡ true → P x) → (c ≡ false → P y) → P (cond c x y)
+by_test P true x y p q = p refl
+by_test P false x y p q = q refl
 
 run_is_in : (p : ℕ → Bool) (b : ℕ) (bytes : List ℕ) → p b ≡ true → (0 < prefix_len p (b ∷ bytes)) × (prefix_len p (b ∷ bytes) ≤ length (b ∷ bytes))
 run_is_in p b bytes passes = (rw passes (omega arith), prefix_len-le-length p (b ∷ bytes))
@@ -60,11 +61,11 @@ unfolding sign_len
 sign_within bytes = longest_within signs bytes
 
 name_is_in : (size len : ℕ) → (0 < len) × (len ≤ size) → IsIn size (name_piece len)
-name_is_in size len fits = in_if size (nat_lt 64 len) (Broken L4) (Word Name len) (λ _. tt) (λ _. fits)
+name_is_in size len fits = by_test (IsIn size) (nat_lt 64 len) (Broken L4) (Word Name len) (λ _. tt) (λ _. fits)
 
 number_is_in : (size : ℕ) (digits : List ℕ) → (0 < length digits) × (length digits ≤ size) → IsIn size (number_piece digits)
 number_is_in size digits fits =
-    in_if size (nat_lt 170141183460469231731687303715884105727 (number_value digits)) (Broken L3) (Word Number (length digits)) (λ _. tt) (λ _. fits)
+    by_test (IsIn size) (nat_lt 170141183460469231731687303715884105727 (number_value digits)) (Broken L3) (Word Number (length digits)) (λ _. tt) (λ _. fits)
 
 sign_is_in : (size len : ℕ) → len ≤ size → IsIn size (sign_piece len)
 sign_is_in size zero le = tt
@@ -75,10 +76,10 @@ unfolding piece
 piece_is_in [] = tt
 piece_is_in (b ∷ bytes) =
     let size = length (b ∷ bytes) in
-    in_if size (is_blank b) _ _ (λ _. (omega arith, omega arith)) (λ _.
-    in_if size (begins_name b) _ _ (λ e. name_is_in size _ (run_is_in continues_name b bytes (continues b e))) (λ _.
-    in_if size (is_ascii_digit b) _ _ (λ e. number_is_in size (take_while is_ascii_digit (b ∷ bytes)) (rw (length-prefix_len is_ascii_digit (b ∷ bytes)) (run_is_in is_ascii_digit b bytes e))) (λ _.
-    in_if size (starts_with nat_eq (b ∷ bytes) (codes "//")) _ _ (λ e. run_is_in (λ c. not (c == 10)) b bytes (no_feed b (both (eqb 47 b) (pointwise nat_eq (47 ∷ []) (take 1 bytes)) e).0))
+    by_test (IsIn size) (is_blank b) _ _ (λ _. (omega arith, omega arith)) (λ _.
+    by_test (IsIn size) (begins_name b) _ _ (λ e. name_is_in size _ (run_is_in continues_name b bytes (continues b e))) (λ _.
+    by_test (IsIn size) (is_ascii_digit b) _ _ (λ e. number_is_in size (take_while is_ascii_digit (b ∷ bytes)) (rw (length-prefix_len is_ascii_digit (b ∷ bytes)) (run_is_in is_ascii_digit b bytes e))) (λ _.
+    by_test (IsIn size) (starts_with nat_eq (b ∷ bytes) (codes "//")) _ _ (λ e. run_is_in (λ c. not (c == 10)) b bytes (no_feed b (both (eqb 47 b) (pointwise nat_eq (47 ∷ []) (take 1 bytes)) e).0))
     (λ _. sign_is_in size _ (sign_within (b ∷ bytes))))))
 
 pub gap_fits : (bytes : List ℕ) (len : ℕ) → Gap len ≡ piece bytes → (0 < len) × (len ≤ length bytes)

@@ -1,7 +1,8 @@
 //! From bytes to lexemes.
-ghost use Rattle.std.specs.Prelude.{◌≡◌};
+ghost use Rattle.std.specs.Prelude.{◌≡◌, ◌≤◌, IfOk, All, AllPairs, length};
 ghost use Rattle.sync_base.specs.Outcome.{Gives};
 ghost use Rattle.sync_lex.specs.Lexemes.{lexemes_of};
+ghost use Rattle.sync_lex.specs.Spelling.{IsLexeme, line_at};
 
 use crate::lexemes::{Lexeme, Tokens};
 use crate::pieces::{Piece, next_piece};
@@ -11,10 +12,16 @@ use sync_base::{Refusal, Rule, Stop};
 
 const LONGEST_TEXT: usize = 1_048_576;
 
-/// The lexemes of a text, or the first rule L that it breaks, at the line of its first byte.
+/// The lexemes of a text in order, or the first of the rules L1 to L4 that it breaks.
+///
+/// L1: the text is longer than 1,048,576 bytes; this is told first, on line 1. L2: no lexeme begins with a byte.
+/// L3: a number is above 2^127 - 1. L4: a name is longer than 64 bytes. The line is that of the first byte at fault.
 #[tactic(auto, unfolding(crate::specs::Lexemes::lexemes_of))]
 pub fn lex(alloc: Global, text: &[u8]) -> Result<Tokens, Stop>
-    ensures { Gives (λ t. (t.list, t.last_line)) result (lexemes_of text.now) }
+    ensures exact { Gives (λ t. (t.list, t.last_line)) result (lexemes_of text.now) }
+    ensures lexemes { IfOk result (λ t. All (IsLexeme text.now) t.list) }
+    ensures apart { IfOk result (λ t. AllPairs (λ x y. x.end ≤ y.start) t.list) }
+    ensures last { IfOk result (λ t. t.last_line ≡ line_at text.now (length text.now)) }
 {
     if text.len() > LONGEST_TEXT {
         return Err(Stop::Refused(Refusal {

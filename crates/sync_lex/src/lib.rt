@@ -9,3 +9,6 @@ mod signs;
 
 pub use lexemes::{Kind, Lexeme, Tokens};
 pub use lexer::lex;
+
+#[cfg(test)]
+mod tests;

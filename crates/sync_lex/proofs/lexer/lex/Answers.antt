@@ -1,9 +1,17 @@
 use Rattle.std.proofs.Common.{◌≡◌, ℕ, ◌+◌, ◌-◌, ◌<◌, ◌≤◌, [], length, drop, length-drop, get_or, arith, ◌∙◌, sym, ap}
+use Rattle.std.proofs.lemmas.List.Elements.{All-from_recursion}
+use Rattle.sync_lex.specs.Spelling.{IsLexeme}
 use Rattle.sync_lex.specs.Lexemes.{lexemes_of, line_after}
 use Rattle.sync_lex.proofs.Held.{held_from, goes_on, gap_begins, word_begins, is_broken, is_done, read_here, is_next_line, is_same_line, whole}
+use Rattle.sync_lex.proofs.Places.{lies}
 use Rattle.sync_lex.proofs.Within.{gap_fits, word_fits}
 use Rattle.sync_lex.proofs.lexer.lex.Goals as goal
 use Rattle.sync_lex.proofs.lexer.lex.Goals.{then-skip-eq0+in-Gap, then-skip-eq0+in-Word+in_ok-push-in-Word, else-skip-eq0, then-byte-eq10, else-byte-eq10}
+
+is_read : goal.returns-clause-exact
+is_read c =
+    let l = c.loop-at in
+    whole c.args.text.now (omega arith) ∙ is_done c.args.text.now l.list l.at l.line _ l.skip (omega arith) l.invariant.so_far
 
 pub overflow_add-at : goal.overflow_add-at
 overflow_add-at c =
@@ -27,8 +35,8 @@ overflow_sub-skip c =
       | else-skip-eq0 w ↦ omega arith
     ]
 
-pub returns-in-Broken : goal.returns-in-Broken
-returns-in-Broken c =
+pub returns-in-Broken-clause-exact : goal.returns-in-Broken-clause-exact
+returns-in-Broken-clause-exact c =
     let l = c.loop-at in
     let text = c.args.text.now in
     let here = read_here text l.at _ c.in-Broken.ensures in
@@ -72,7 +80,14 @@ loop-at-preserved c =
           }
     ]
 
-pub returns : goal.returns
-returns c =
-    let l = c.loop-at in
-    whole c.args.text.now (omega arith) ∙ is_done c.args.text.now l.list l.at l.line _ l.skip (omega arith) l.invariant.so_far
+pub returns-clause-exact : goal.returns-clause-exact
+returns-clause-exact c = is_read c
+
+pub returns-clause-lexemes : goal.returns-clause-lexemes
+returns-clause-lexemes c = All-from_recursion (IsLexeme c.args.text.now) c.loop-at.list (lies c.args.text.now _ (is_read c)).each
+
+pub returns-clause-apart : goal.returns-clause-apart
+returns-clause-apart c = (lies c.args.text.now _ (is_read c)).apart
+
+pub returns-clause-last : goal.returns-clause-last
+returns-clause-last c = (lies c.args.text.now _ (is_read c)).last
