@@ -1,4 +1,6 @@
 //! Whether a machine's invariants are inductive: every reached state meets them, and no condition ever fails.
 #![tactic(auto)]
 
-fn nothing() {}
+mod proofs;
+
+pub use proofs::{Proof, Proofs};
