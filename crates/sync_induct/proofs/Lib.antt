@@ -2,3 +2,4 @@ pub mod Agreement
 pub mod Walks
 pub mod Soundness
 pub mod Scoping
+pub mod Titles

@@ -3,7 +3,7 @@ use Rattle.std.specs.Prelude.{◌≡◌, ℕ, suc, ◌+◌, ◌<◌, List, [], �
 use Rattle.std.specs.List.{AllByRecursion, list_any}
 use Rattle.sync_terms.specs.declared.scripts.HypName.TheVariants.{Label, At}
 use Rattle.sync_terms.specs.Trees.{Tree, Name, Nil, Formula, replaced_in}
-use Rattle.sync_terms.specs.Values.{Given, IsValid}
+use Rattle.sync_terms.specs.Values.{IsValid}
 use Rattle.sync_machine.specs.declared.fields.Field.{Field}
 use Rattle.sync_machine.specs.declared.fields.OpMode.{OpMode}
 use Rattle.sync_machine.specs.declared.fields.OpMode.TheVariants as mode
@@ -13,7 +13,7 @@ use Rattle.sync_machine.specs.States.{strategy_of, current_of, advanced, last_va
 use Rattle.sync_rules.specs.declared.claims.Claim.TheVariants as claims
 use Rattle.sync_rules.specs.declared.claims.Obligation.{Obligation}
 use Rattle.sync_rules.specs.Obligations.{has_to_keep}
-use Rattle.sync_induct.specs.Facts.{Fact}
+use Rattle.sync_kernel.specs.Facts.{Fact, givens_of}
 
 -- an obligation as a sequent: what may be used, and what has to follow from it
 pub record Duty : Type 0 where
@@ -82,12 +82,6 @@ duties_from m op (o ∷ os) = operation_duties m op o ++ duties_from m (suc op) 
 -- everything that has to be proved of a machine, in order
 abbrev pub duties_of : MachineTree → List Duty
 duties_of m = duties_from m 0 m.ops
-
-abbrev pub given_of : Fact → Given
-given_of f = record { params = f.params; form = f.form }
-
-abbrev pub givens_of : List Fact → List Given
-givens_of facts = map given_of facts
 
 -- every duty's claim follows from its facts
 abbrev pub AreProved : List Duty → Type 0

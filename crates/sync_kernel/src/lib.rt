@@ -1,0 +1,6 @@
+//! stub
+#![tactic(auto)]
+
+mod provers;
+
+pub use provers::{Hyp, Sequent, prove};
