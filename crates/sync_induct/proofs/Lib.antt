@@ -3,3 +3,5 @@ pub mod Walks
 pub mod Soundness
 pub mod Scoping
 pub mod Titles
+pub mod Negations
+pub mod Judging

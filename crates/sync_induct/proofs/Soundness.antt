@@ -17,8 +17,8 @@ use Rattle.sync_machine.specs.Statements.{changed_by}
 use Rattle.sync_machine.specs.States.{State, Value, Number, Mapped, Sort, Numbers, Maps, sort_of, value_in, StandsFor, IsAtFrom, IsAt, AreGiven, strategy_at, last_values, first_values, blank, AreMet, IsKeptSafe, values_in, IsInit, Steps, Starts, IsReached, starts, steps, MeetsInvariants, IsSafe, StartsSafe, HoldsAlways}
 use Rattle.sync_machine.specs.Scope.{Known, IsNumber, IsMap, IsFormula, HasSort, knows, IsNameSymbol, IsScopedOperation, IsScopedInvariant, ChangesNothing, IsScoped}
 use Rattle.sync_rules.specs.Obligations.{names, form_names, has_to_keep, is_kept_by}
-use Rattle.sync_kernel.specs.Facts.{Fact, givens_of}
-use Rattle.sync_induct.specs.Duties.{invariant_facts, facts_behind, step_duties, keeps_duties, closing, base_facts, operation_duties, duties_of, AreProved}
+use Rattle.sync_kernel.specs.Facts.{Fact}
+use Rattle.sync_induct.specs.Duties.{invariant_facts, facts_behind, step_duties, keeps_duties, closing, base_facts, operation_duties, duties_of, givens_of, AreProved}
 use Rattle.sync_induct.proofs.Agreement.{Agree, Agree-part, num-agree, mapped-agree, truth-agree, composed, truth-replaced}
 use Rattle.sync_induct.proofs.Walks.{FactsHold, as_givens, all-left, all-right, behind-holds, IsProved, steps-safe, KeepsIt, keeps-valid, IsOperationProved, operations-proved, met-agree, last-length, Spares, last-spared, untouched, nothing-changed, isat-agree, values-length, values-at}
 

@@ -11,8 +11,8 @@ use Rattle.sync_machine.specs.Statements.{safety, condition, after, field_of, ch
 use Rattle.sync_machine.specs.States.{State, Value, Number, Mapped, sort_of, value_in, StandsFor, IsAtFrom, strategy_at, strategy_of, current_of, advanced, last_values, IsMet, AreMet, IsKeptSafe, values_in}
 use Rattle.sync_machine.specs.Scope.{Known, IsConditionIn, AreConditionsIn}
 use Rattle.sync_rules.specs.Obligations.{form_names, touches, is_touched, has_to_keep}
-use Rattle.sync_kernel.specs.Facts.{Fact, givens_of}
-use Rattle.sync_induct.specs.Duties.{Duty, condition_facts, step_facts, safety_duties, step_duties, facts_behind, closing, keeps_duties, operation_duties, duties_from, AreProved}
+use Rattle.sync_kernel.specs.Facts.{Fact}
+use Rattle.sync_induct.specs.Duties.{Duty, condition_facts, step_facts, safety_duties, step_duties, facts_behind, closing, keeps_duties, operation_duties, duties_from, givens_of, AreProved}
 use Rattle.sync_rules.specs.declared.claims.Claim.TheVariants as claims
 use Rattle.sync_induct.proofs.Agreement.{Agree, Agree-part, truth-agree}
 

@@ -1,11 +1,12 @@
 -- Whether a machine's proofs prove its obligations: nothing, or the first line and rule that they break.
-use Rattle.std.specs.Prelude.{◌≡◌, ℕ, zero, suc, ◌+◌, List, [], ◌∷◌, ◌++◌, map, Bool, true, false, not, ◌&&◌, nat_eq, nat_lt, Option, Some, None, if◌then◌else◌}
+use Rattle.std.specs.Prelude.{◌≡◌, ℕ, zero, suc, ◌+◌, ◌-◌, ◌^◌, min, List, [], ◌∷◌, ◌++◌, map, Bool, true, false, not, ◌&&◌, nat_eq, nat_lt, Option, Some, None, if◌then◌else◌}
 use Rattle.std.specs.List.{list_any}
 use Rattle.sync_base.specs.declared.stops.Refusal.{Refusal}
 use Rattle.sync_base.specs.declared.stops.Rule.TheVariants.{I1, I2, K8, G9}
 use Rattle.sync_base.specs.Outcome.{first}
 use Rattle.sync_terms.specs.Trees.{Formula, formula_size, neg}
-use Rattle.sync_terms.specs.Stored.{Stored}
+use Rattle.sync_terms.specs.declared.nodes.FormId.{FormId}
+use Rattle.sync_terms.specs.Stored.{Stored, formula}
 use Rattle.sync_machine.specs.declared.fields.Field.{Field}
 use Rattle.sync_machine.specs.declared.fields.Strategy.{Strategy}
 use Rattle.sync_machine.specs.declared.fields.Strategy.TheVariants.{Variable, Constant, NotTokenized, Option as OptionField, Map, Set, Multiset, Count, PersistentOption, PersistentMap, PersistentSet, PersistentCount, StorageMap}
@@ -15,7 +16,8 @@ use Rattle.sync_rules.specs.Obligations.{obligations_of}
 use Rattle.sync_kernel.specs.Facts.{Fact, Plan, plan_of, script_fault}
 use Rattle.sync_induct.specs.declared.proofs.Proof.{Proof}
 use Rattle.sync_induct.specs.declared.index.Title.{Title}
-use Rattle.sync_induct.specs.Duties.{Duty, duties_of}
+use Rattle.sync_kernel.specs.declared.sequents.Hyp.{Hyp}
+use Rattle.sync_induct.specs.Duties.{Duty, duties_of, facts_of}
 use Rattle.sync_induct.specs.Titles.{titled, same_title}
 
 -- a proof: what it is of, with its own line, and its script
@@ -96,3 +98,11 @@ is_built StorageMap = false
 unfoldable pub unbuilt_fault : List Field → Option Refusal
 unbuilt_fault [] = None
 unbuilt_fault (f ∷ fs) = if is_built f.strategy then unbuilt_fault fs else Some (record { line = f.line; rule = G9 })
+
+-- a count that stands still at the end of its type
+abbrev pub capped : ℕ → ℕ
+capped n = min n (2 ^ 64 - 1)
+
+-- a duty as hypotheses and a claim of a store
+abbrev pub duty_of : Stored → List Hyp → FormId → Obligation → Duty
+duty_of s hyps claim o = record { obligation = o; facts = facts_of s hyps; claim = formula s claim }

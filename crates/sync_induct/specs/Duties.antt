@@ -13,7 +13,10 @@ use Rattle.sync_machine.specs.States.{strategy_of, current_of, advanced, last_va
 use Rattle.sync_rules.specs.declared.claims.Claim.TheVariants as claims
 use Rattle.sync_rules.specs.declared.claims.Obligation.{Obligation}
 use Rattle.sync_rules.specs.Obligations.{has_to_keep}
-use Rattle.sync_kernel.specs.Facts.{Fact, givens_of}
+use Rattle.sync_terms.specs.Values.{Given}
+use Rattle.sync_terms.specs.Stored.{Stored, IsForm}
+use Rattle.sync_kernel.specs.declared.sequents.Hyp.{Hyp}
+use Rattle.sync_kernel.specs.Facts.{Fact, fact_of, given}
 
 -- an obligation as a sequent: what may be used, and what has to follow from it
 pub record Duty : Type 0 where
@@ -82,6 +85,17 @@ duties_from m op (o ∷ os) = operation_duties m op o ++ duties_from m (suc op) 
 -- everything that has to be proved of a machine, in order
 abbrev pub duties_of : MachineTree → List Duty
 duties_of m = duties_from m 0 m.ops
+
+-- hypotheses of a store as facts
+abbrev pub facts_of : Stored → List Hyp → List Fact
+facts_of s hs = map (fact_of s) hs
+
+-- their formulas are of the store
+abbrev pub HaveForms : Stored → List Hyp → Type 0
+HaveForms s hs = AllByRecursion (λ (h : Hyp). IsForm s h.form) hs
+
+abbrev pub givens_of : List Fact → List Given
+givens_of facts = map given facts
 
 -- every duty's claim follows from its facts
 abbrev pub AreProved : List Duty → Type 0

@@ -2,6 +2,8 @@
 #![tactic(auto)]
 
 mod index;
+mod judges;
 mod proofs;
+mod sizes;
 
 pub use proofs::{Proof, Proofs};

@@ -2,5 +2,7 @@
 #![tactic(auto)]
 
 mod provers;
+mod sequents;
 
-pub use provers::{Hyp, Sequent, prove};
+pub use provers::prove;
+pub use sequents::{Hyp, Sequent};
