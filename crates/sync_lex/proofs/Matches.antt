@@ -1,6 +1,6 @@
 -- A piece that is a word is spelled by its kind, and no longer front of the bytes spells a lexeme.
-use Rattle.std.proofs.Common.{◌≡◌, ℕ, zero, suc, ◌+◌, ◌<◌, ◌≤◌, Bool, true, false, cond, eqb, max, List, [], ◌∷◌, length, take, get_or, refl, sym, ap, ◌∙◌, arith, length-take, inl, inr, ⊎_elim}
-use Rattle.std.specs.Prelude.{codes, nat_eq, nat_lt, not, ◌||◌, ◌&&◌, ◌==◌, Contains, ◌⊎◌}
+use Rattle.std.proofs.Common.{◌≡◌, ℕ, zero, suc, ◌+◌, ◌<◌, ◌≤◌, Bool, true, false, cond, max, List, [], ◌∷◌, length, take, get_or, refl, sym, ap, ◌∙◌, arith, length-take, inl, inr, ⊎_elim}
+use Rattle.std.specs.Prelude.{codes, nat_eq, nat_lt, not, ◌||◌, Contains, ◌⊎◌}
 use Rattle.std.specs.Char.{is_ascii_digit}
 use Rattle.std.specs.List.{starts_with, prefix_len, take_while, list_all}
 use Rattle.std.proofs.Math.Numerals.{one-add}
@@ -12,7 +12,7 @@ use Rattle.sync_lex.specs.declared.pieces.Piece.{Piece}
 use Rattle.sync_lex.specs.declared.pieces.Piece.TheVariants.{Gap, Word, Broken}
 use Rattle.sync_lex.specs.declared.lexemes.Kind.{Kind}
 use Rattle.sync_lex.specs.declared.lexemes.Kind.TheVariants.{Name, Number, Sign}
-use Rattle.sync_base.specs.declared.stops.Rule.TheVariants.{L2, L3, L4}
+use Rattle.sync_base.specs.declared.stops.Rule.TheVariants.{L3, L4}
 use Rattle.sync_lex.specs.Bytes.{is_blank, begins_name, continues_name, number_value}
 use Rattle.sync_lex.specs.Signs.{signs, longest, sign_len}
 use Rattle.sync_lex.specs.Pieces.{largest, name_piece, number_piece, sign_piece, piece}

@@ -1,9 +1,9 @@
 -- The longest sign is of three bytes, of two, of one, or there is none.
-use Rattle.std.proofs.Common.{◌≡◌, ℕ, Bool, true, false, cond, max, eqb, List, [], ◌∷◌, ◌++◌, length, refl, sym, ap, ◌∙◌, arith}
+use Rattle.std.proofs.Common.{◌≡◌, ℕ, Bool, true, false, cond, max, eqb, List, [], ◌∷◌, ◌++◌, length, refl, arith}
 use Rattle.std.specs.Prelude.{codes, nat_eq, ◌&&◌, ◌||◌}
-use Rattle.std.specs.List.{starts_with, list_any, list_all}
+use Rattle.std.specs.List.{starts_with, list_all}
 use Rattle.std.proofs.lemmas.Bool.{eqb-true}
-use Rattle.sync_lex.specs.Signs.{pairs, singles, signs, begins_any, longest, sign_len}
+use Rattle.sync_lex.specs.Signs.{pairs, singles, begins_any, longest, sign_len}
 
 pub both : (a b : Bool) → (a && b) ≡ true → (a ≡ true) × (b ≡ true)
 both true true e = (refl, refl)

@@ -1,5 +1,5 @@
 -- A piece is not empty and lies within the bytes.
-use Rattle.std.proofs.Common.{◌≡◌, ℕ, zero, suc, ◌+◌, ◌<◌, ◌≤◌, Bool, true, false, cond, eqb, max, List, [], ◌∷◌, length, take, refl, sym, subst, arith, length-take}
+use Rattle.std.proofs.Common.{◌≡◌, ℕ, zero, suc, ◌<◌, ◌≤◌, Bool, true, false, cond, eqb, max, List, [], ◌∷◌, length, take, refl, sym, subst, arith, length-take}
 use Rattle.std.specs.Prelude.{codes, nat_eq, nat_lt, not, ◌||◌, ◌==◌}
 use Rattle.std.specs.Char.{is_ascii_digit}
 use Rattle.std.specs.Int.{is_in_range}
@@ -12,7 +12,7 @@ use Rattle.sync_lex.specs.declared.pieces.Piece.{Piece}
 use Rattle.sync_lex.specs.declared.pieces.Piece.TheVariants.{Gap, Word, Broken}
 use Rattle.sync_lex.specs.declared.lexemes.Kind.{Kind}
 use Rattle.sync_lex.specs.declared.lexemes.Kind.TheVariants.{Name, Number}
-use Rattle.sync_base.specs.declared.stops.Rule.TheVariants.{L2, L3, L4}
+use Rattle.sync_base.specs.declared.stops.Rule.TheVariants.{L3, L4}
 use Rattle.sync_lex.specs.Bytes.{is_blank, begins_name, continues_name, number_value}
 use Rattle.sync_lex.specs.Signs.{signs, longest, sign_len}
 use Rattle.sync_lex.specs.Pieces.{name_piece, number_piece, sign_piece, piece}

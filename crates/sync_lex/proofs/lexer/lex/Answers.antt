@@ -1,8 +1,8 @@
-use Rattle.std.proofs.Common.{◌≡◌, ℕ, ◌+◌, ◌-◌, ◌<◌, ◌≤◌, [], length, drop, length-drop, get_or, arith, ◌∙◌, sym, ap}
+use Rattle.std.proofs.Common.{◌≡◌, ◌+◌, ◌≤◌, drop, length-drop, get_or, arith, ◌∙◌}
 use Rattle.std.proofs.lemmas.List.Elements.{All-from_recursion}
 use Rattle.sync_lex.specs.Spelling.{IsLexeme}
-use Rattle.sync_lex.specs.Lexemes.{lexemes_of, line_after}
-use Rattle.sync_lex.proofs.Held.{held_from, goes_on, gap_begins, word_begins, is_broken, is_done, read_here, is_next_line, is_same_line, whole}
+use Rattle.sync_lex.specs.Lexemes.{line_after}
+use Rattle.sync_lex.proofs.Held.{goes_on, gap_begins, word_begins, is_broken, is_done, read_here, is_next_line, is_same_line, whole}
 use Rattle.sync_lex.proofs.Places.{lies}
 use Rattle.sync_lex.proofs.Within.{gap_fits, word_fits}
 use Rattle.sync_lex.proofs.lexer.lex.Goals as goal
