@@ -1,7 +1,10 @@
 pub mod Agreement
-pub mod Walks
+pub mod Along
 pub mod Soundness
 pub mod Scoping
 pub mod Titles
 pub mod Negations
 pub mod Judging
+pub mod Plain
+pub mod Growing
+pub mod Passing

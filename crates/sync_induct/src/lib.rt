@@ -5,5 +5,6 @@ mod index;
 mod judges;
 mod proofs;
 mod sizes;
+mod walks;
 
 pub use proofs::{Proof, Proofs};

@@ -109,7 +109,7 @@ met-agree fs k v w cur (x ∷ ss) s a m =
 
 -- ---- what statements leave
 
-set-own : (ts : List Tree) (f : ℕ) → set ts f (get_or ts f Nil) ≡ ts
+pub set-own : (ts : List Tree) (f : ℕ) → set ts f (get_or ts f Nil) ≡ ts
 set-own [] f = refl
 set-own (t ∷ ts) zero = refl
 set-own (t ∷ ts) (suc f) = ap (λ (us : List Tree). t ∷ us) (set-own ts f)
