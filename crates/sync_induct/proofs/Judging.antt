@@ -10,8 +10,9 @@ use Rattle.sync_terms.specs.Trees.{Formula, formula_size, neg}
 use Rattle.sync_terms.specs.Values.{Given, IsValid}
 use Rattle.sync_terms.specs.Stored.{Stored}
 use Rattle.sync_rules.specs.declared.claims.Obligation.{Obligation}
+use Rattle.sync_terms.specs.declared.scripts.Script.{Script}
 use Rattle.sync_kernel.specs.declared.sequents.Hyp.{Hyp}
-use Rattle.sync_kernel.specs.Facts.{Fact, fact_of, given, Plan, plan_of, script_fault}
+use Rattle.sync_kernel.specs.Facts.{Fact, fact_of, given, script_fault}
 use Rattle.sync_induct.specs.declared.index.Title.{Title}
 use Rattle.sync_induct.specs.declared.proofs.Proof.{Proof}
 use Rattle.sync_induct.specs.Duties.{Duty, facts_of, givens_of}
@@ -32,12 +33,12 @@ pub record IsFound (s : Stored) (ps : List Proof) (t : Title) (n i : ℕ) : Type
   pub is : i ≡ n + place
   pub proof : Proof
   pub there : slice_get ps place ≡ Some proof
-  pub script : proof_of t (proof_trees s ps) ≡ Some (plan_of s proof.script)
+  pub script : proof_of t (proof_trees ps) ≡ Some proof.script
 
 some_is : (a b : ℕ) → Some a ≡ Some b → b ≡ a
 some_is a b e = cc
 
-proof_of-cons : (s : Stored) (t : Title) (p : Proof) (ps : List Proof) → proof_of t (proof_trees s (p ∷ ps)) ≡ cond (same_title (titled (title_of p)) t) (Some (plan_of s p.script)) (proof_of t (proof_trees s ps))
+proof_of-cons : (s : Stored) (t : Title) (p : Proof) (ps : List Proof) → proof_of t (proof_trees (p ∷ ps)) ≡ cond (same_title (titled (title_of p)) t) (Some p.script) (proof_of t (proof_trees ps))
 unfolding proof_of
 proof_of-cons s t p ps = refl
 
@@ -60,7 +61,7 @@ found s (p ∷ ps) t n i e =
             is = some_is n i here ∙ sym (add-zero n);
             proof = p;
             there = refl;
-            script = proof_of-cons s t p ps ∙ cond_at (same_title (titled (title_of p)) t) (Some (plan_of s p.script)) (proof_of t (proof_trees s ps)) y;
+            script = proof_of-cons s t p ps ∙ cond_at (same_title (titled (title_of p)) t) (Some p.script) (proof_of t (proof_trees ps)) y;
           }
       | inr f ↦
           let later : first_at t (suc n) (titles_of ps) ≡ Some i = sym (first_at-cons t n p ps ∙ cond_not (same_title (titled (title_of p)) t) (Some n) (first_at t (suc n) (titles_of ps)) f) ∙ e in
@@ -70,7 +71,7 @@ found s (p ∷ ps) t n i e =
             is = r.is ∙ moved n r.place;
             proof = r.proof;
             there = r.there;
-            script = proof_of-cons s t p ps ∙ (cond_not (same_title (titled (title_of p)) t) (Some (plan_of s p.script)) (proof_of t (proof_trees s ps)) f ∙ r.script);
+            script = proof_of-cons s t p ps ∙ (cond_not (same_title (titled (title_of p)) t) (Some p.script) (proof_of t (proof_trees ps)) f ∙ r.script);
           }
     ] where
       moved : (n k : ℕ) → suc n + k ≡ n + suc k
@@ -79,16 +80,16 @@ found s (p ∷ ps) t n i e =
 none_some : (n : ℕ) → Some n ≡ None → ⊥
 none_some n e = cc
 
-no_proof : (s : Stored) (t : Title) → proof_of t (proof_trees s []) ≡ None
+no_proof : (s : Stored) (t : Title) → proof_of t (proof_trees []) ≡ None
 unfolding proof_of
 no_proof s t = refl
 
-pub missing : (s : Stored) (ps : List Proof) (t : Title) (n : ℕ) → first_at t n (titles_of ps) ≡ None → proof_of t (proof_trees s ps) ≡ None
+pub missing : (s : Stored) (ps : List Proof) (t : Title) (n : ℕ) → first_at t n (titles_of ps) ≡ None → proof_of t (proof_trees ps) ≡ None
 missing s [] t n e = no_proof s t
 missing s (p ∷ ps) t n e =
     elim (cases_Bool (same_title (titled (title_of p)) t)) [
       | inl y ↦ absurd (none_some n (sym (first_at-cons t n p ps ∙ cond_at (same_title (titled (title_of p)) t) (Some n) (first_at t (suc n) (titles_of ps)) y) ∙ e))
-      | inr f ↦ proof_of-cons s t p ps ∙ (cond_not (same_title (titled (title_of p)) t) (Some (plan_of s p.script)) (proof_of t (proof_trees s ps)) f
+      | inr f ↦ proof_of-cons s t p ps ∙ (cond_not (same_title (titled (title_of p)) t) (Some p.script) (proof_of t (proof_trees ps)) f
           ∙ missing s ps t (suc n) (sym (first_at-cons t n p ps ∙ cond_not (same_title (titled (title_of p)) t) (Some n) (first_at t (suc n) (titles_of ps)) f) ∙ e))
     ]
 
@@ -97,10 +98,10 @@ missing s (p ∷ ps) t n e =
 pub judged-none : (ps : List ProofTree) (d : Duty) → proof_of (titled d.obligation) ps ≡ None → duty_fault ps d ≡ Some (record { line = d.obligation.line; rule = I1 })
 judged-none ps d e = ap (judged d) e
 
-pub judged-large : (ps : List ProofTree) (d : Duty) (plan : Plan) → proof_of (titled d.obligation) ps ≡ Some plan → 1000000 < sequent_size d.facts d.claim → duty_fault ps d ≡ Some (record { line = d.obligation.line; rule = K8 })
+pub judged-large : (ps : List ProofTree) (d : Duty) (plan : Script) → proof_of (titled d.obligation) ps ≡ Some plan → 1000000 < sequent_size d.facts d.claim → duty_fault ps d ≡ Some (record { line = d.obligation.line; rule = K8 })
 judged-large ps d plan e large = ap (judged d) e ∙ cond_at (ltb 1000000 (sequent_size d.facts d.claim)) (Some (record { line = d.obligation.line; rule = K8 })) (script_fault d.facts d.claim plan) (lt-ltb 1000000 (sequent_size d.facts d.claim) large)
 
-pub judged-script : (ps : List ProofTree) (d : Duty) (plan : Plan) → proof_of (titled d.obligation) ps ≡ Some plan → sequent_size d.facts d.claim ≤ 1000000 → duty_fault ps d ≡ script_fault d.facts d.claim plan
+pub judged-script : (ps : List ProofTree) (d : Duty) (plan : Script) → proof_of (titled d.obligation) ps ≡ Some plan → sequent_size d.facts d.claim ≤ 1000000 → duty_fault ps d ≡ script_fault d.facts d.claim plan
 judged-script ps d plan e small = ap (judged d) e ∙ cond_not (ltb 1000000 (sequent_size d.facts d.claim)) (Some (record { line = d.obligation.line; rule = K8 })) (script_fault d.facts d.claim plan) (le-ltb 1000000 (sequent_size d.facts d.claim) small)
 
 pub passes-same : {A : Type 0} (r : Result A Stop) (x y : Option Refusal) → x ≡ y → Passes r x → Passes r y
@@ -114,13 +115,13 @@ pub valid-same : {A : Type 0} (r : Result A Stop) (s : Stored) (hs : List Hyp) (
 valid-same r s hs claim h = subst (λ (gs : List Given). OnOk r (IsValid gs claim)) (givens-same s hs) h
 
 -- the script at the place that the index gives
-pub script-at : (s : Stored) (ps : List Proof) (t : Title) (i : ℕ) (p : Proof) → first_at t 0 (titles_of ps) ≡ Some i → slice_get ps i ≡ Some p → proof_of t (proof_trees s ps) ≡ Some (plan_of s p.script)
+pub script-at : (s : Stored) (ps : List Proof) (t : Title) (i : ℕ) (p : Proof) → first_at t 0 (titles_of ps) ≡ Some i → slice_get ps i ≡ Some p → proof_of t (proof_trees ps) ≡ Some p.script
 script-at s ps t i p e there =
     let f = found s ps t 0 i e in
     let same_place : f.place ≡ i = sym (f.is ∙ zero-add f.place) in
     let both : Some f.proof ≡ Some p = sym f.there ∙ (ap (λ (k : ℕ). slice_get ps k) same_place ∙ there) in
     let same_proof : f.proof ≡ p = one f.proof p both in
-    f.script ∙ ap (λ (q : Proof). Some (plan_of s q.script)) same_proof where
+    f.script ∙ ap (λ (q : Proof). Some q.script) same_proof where
       one : (a b : Proof) → Some a ≡ Some b → a ≡ b
       one a b e = cc
 

@@ -13,7 +13,8 @@ use Rattle.sync_machine.specs.declared.fields.Strategy.TheVariants.{Variable, Co
 use Rattle.sync_machine.specs.Machines.{MachineTree}
 use Rattle.sync_rules.specs.declared.claims.Obligation.{Obligation}
 use Rattle.sync_rules.specs.Obligations.{obligations_of}
-use Rattle.sync_kernel.specs.Facts.{Fact, Plan, plan_of, script_fault}
+use Rattle.sync_terms.specs.declared.scripts.Script.{Script}
+use Rattle.sync_kernel.specs.Facts.{Fact, script_fault}
 use Rattle.sync_induct.specs.declared.proofs.Proof.{Proof}
 use Rattle.sync_induct.specs.declared.index.Title.{Title}
 use Rattle.sync_kernel.specs.declared.sequents.Hyp.{Hyp}
@@ -23,7 +24,7 @@ use Rattle.sync_induct.specs.Titles.{titled, same_title}
 -- a proof: what it is of, with its own line, and its script
 pub record ProofTree : Type 0 where
   pub title : Obligation
-  pub plan : Plan
+  pub script : Script
 
 abbrev pub title_of : Proof → Obligation
 title_of p = record { op = p.op; claim = p.claim; line = p.line }
@@ -31,11 +32,11 @@ title_of p = record { op = p.op; claim = p.claim; line = p.line }
 abbrev pub titles_of : List Proof → List Obligation
 titles_of ps = map title_of ps
 
-abbrev pub proof_tree : Stored → Proof → ProofTree
-proof_tree s p = record { title = title_of p; plan = plan_of s p.script }
+abbrev pub proof_tree : Proof → ProofTree
+proof_tree p = record { title = title_of p; script = p.script }
 
-abbrev pub proof_trees : Stored → List Proof → List ProofTree
-proof_trees s ps = map (proof_tree s) ps
+abbrev pub proof_trees : List Proof → List ProofTree
+proof_trees ps = map proof_tree ps
 
 -- a list has a proof or an obligation of this title
 abbrev pub has_title : List Obligation → Title → Bool
@@ -49,9 +50,9 @@ stray_fault wanted earlier (p ∷ ps) =
     else Some (record { line = p.line; rule = I2 })
 
 -- the script of the first proof with a title
-unfoldable pub proof_of : Title → List ProofTree → Option Plan
+unfoldable pub proof_of : Title → List ProofTree → Option Script
 proof_of t [] = None
-proof_of t (p ∷ ps) = if same_title (titled p.title) t then Some p.plan else proof_of t ps
+proof_of t (p ∷ ps) = if same_title (titled p.title) t then Some p.script else proof_of t ps
 
 -- the nodes of all hypotheses
 unfoldable pub facts_size : List Fact → ℕ
@@ -63,9 +64,9 @@ abbrev pub sequent_size : List Fact → Formula → ℕ
 sequent_size facts claim = facts_size facts + formula_size (neg claim)
 
 -- an obligation without a proof, with too large a sequent, or with a script that does not prove it
-abbrev pub judged : Duty → Option Plan → Option Refusal
+abbrev pub judged : Duty → Option Script → Option Refusal
 judged d None = Some (record { line = d.obligation.line; rule = I1 })
-judged d (Some plan) = if nat_lt 1000000 (sequent_size d.facts d.claim) then Some (record { line = d.obligation.line; rule = K8 }) else script_fault d.facts d.claim plan
+judged d (Some script) = if nat_lt 1000000 (sequent_size d.facts d.claim) then Some (record { line = d.obligation.line; rule = K8 }) else script_fault d.facts d.claim script
 
 abbrev pub duty_fault : List ProofTree → Duty → Option Refusal
 duty_fault ps d = judged d (proof_of (titled d.obligation) ps)

@@ -38,7 +38,7 @@ pub fn judge(
     requires claim { IsForm terms.old q.now.claim }
     requires size { size ≡ capped (facts_size (facts_of terms.old q.now.hyps)) }
     requires placed { (t : Title) → get same_title places.now t ≡ first_at t 0 (titles_of proofs.now) }
-    ensures exact { Passes result (duty_fault (proof_trees terms.old proofs.now) (duty_of terms.old q.now.hyps q.now.claim obligation)) }
+    ensures exact { Passes result (duty_fault (proof_trees proofs.now) (duty_of terms.old q.now.hyps q.now.claim obligation)) }
     ensures valid { OnOk result (IsValid (givens_of (facts_of terms.old q.now.hyps)) (formula terms.old q.now.claim)) }
     ensures keeps { Extends terms.old terms.new }
 {

@@ -63,7 +63,7 @@ impl Walk {
         requires walk { IsWalk terms.old self.old }
         requires walkable { IsWalkable terms.old fields.now step }
         requires placed { (t : Title) → get same_title book.places.now t ≡ first_at t 0 (titles_of book.proofs.now) }
-        ensures exact { Passes result (duties_fault (proof_trees terms.old book.entry.proofs.now) (owed terms.old fields.now op number self.old step)) }
+        ensures exact { Passes result (duties_fault (proof_trees book.entry.proofs.now) (owed terms.old fields.now op number self.old step)) }
         ensures proved { OnOk result (AreProved (owed terms.old fields.now op number self.old step)) }
         ensures keeps { Extends terms.old terms.new }
         ensures hyps { self.new.sequent.hyps ≡ self.old.sequent.hyps }

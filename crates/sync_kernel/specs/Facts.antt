@@ -20,11 +20,5 @@ fact_of s h = record { name = h.name; params = map (λ (x : Sym). x.0) h.params;
 abbrev pub given : Fact → Given
 given f = record { params = f.params; form = f.form }
 
-pub data Plan : Type 0 where
-  End : ℕ → Plan
-
-unfoldable pub plan_of : Stored → Script → Plan
-plan_of s x = End x.line
-
-unfoldable pub script_fault : List Fact → Formula → Plan → Option Refusal
-script_fault facts claim plan = None
+unfoldable pub script_fault : List Fact → Formula → Script → Option Refusal
+script_fault facts claim script = None

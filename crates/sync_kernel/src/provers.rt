@@ -4,7 +4,7 @@ ghost use Rattle.std.specs.List.{AllByRecursion};
 ghost use Rattle.sync_base.specs.Outcome.{Passes};
 ghost use Rattle.sync_terms.specs.Stored.{Extends, IsForm, formula};
 ghost use Rattle.sync_terms.specs.Values.{IsValid};
-ghost use Rattle.sync_kernel.specs.Facts.{fact_of, given, plan_of, script_fault};
+ghost use Rattle.sync_kernel.specs.Facts.{fact_of, given, script_fault};
 
 use std::alloc::Global;
 use sync_base::Stop;
@@ -16,7 +16,7 @@ pub fn prove(_alloc: Global, terms: &mut Terms, q: &Sequent, s: &Script) -> Resu
     requires hyps { AllByRecursion (λ h. IsForm terms.old h.form) q.now.hyps }
     requires claim { IsForm terms.old q.now.claim }
     ensures valid { OnOk result (IsValid (map (λ h. given (fact_of terms.old h)) q.now.hyps) (formula terms.old q.now.claim)) }
-    ensures exact { Passes result (script_fault (map (fact_of terms.old) q.now.hyps) (formula terms.old q.now.claim) (plan_of terms.old s.now)) }
+    ensures exact { Passes result (script_fault (map (fact_of terms.old) q.now.hyps) (formula terms.old q.now.claim) s.now) }
     ensures keeps { Extends terms.old terms.new }
 {
     Err(Stop::Memory)
