@@ -1,5 +1,5 @@
 -- The first proof of a title, by its place and by its script; and what a duty's proof is worth.
-use Rattle.std.proofs.Common.{◌≡◌, ℕ, zero, suc, ◌+◌, ◌-◌, ◌^◌, ◌<◌, ◌≤◌, min, Bool, true, false, cond, ltb, List, [], ◌∷◌, length, map, Option, Some, None, Result, Ok, Err, refl, sym, ap, subst, ◌∙◌, inl, inr, arith, add-zero, zero-add}
+use Rattle.std.proofs.Common.{◌≡◌, ℕ, zero, suc, ◌+◌, ◌-◌, ◌^◌, ◌<◌, ◌≤◌, min, Bool, true, false, cond, ltb, ◌||◌, List, [], ◌∷◌, length, map, Option, Some, None, Result, Ok, Err, refl, sym, ap, subst, ◌∙◌, inl, inr, arith, add-zero, zero-add}
 use Rattle.std.specs.Prelude.{slice_get, OnOk, nat_lt}
 use Rattle.std.proofs.lemmas.Bool.{cases_Bool, true≢false, false≢true, lt-ltb, le-ltb}
 use Rattle.sync_base.specs.declared.stops.Refusal.{Refusal}
@@ -12,12 +12,13 @@ use Rattle.sync_terms.specs.Stored.{Stored}
 use Rattle.sync_rules.specs.declared.claims.Obligation.{Obligation}
 use Rattle.sync_terms.specs.declared.scripts.Script.{Script}
 use Rattle.sync_kernel.specs.declared.sequents.Hyp.{Hyp}
-use Rattle.sync_kernel.specs.Facts.{Fact, fact_of, given, script_fault}
+use Rattle.sync_kernel.specs.Facts.{Fact, fact_of, given}
+use Rattle.sync_kernel.specs.Scripts.{script_fault}
 use Rattle.sync_induct.specs.declared.index.Title.{Title}
 use Rattle.sync_induct.specs.declared.proofs.Proof.{Proof}
 use Rattle.sync_induct.specs.Duties.{Duty, facts_of, givens_of}
 use Rattle.sync_induct.specs.Titles.{titled, same_title, first_at}
-use Rattle.sync_induct.specs.Checks.{ProofTree, title_of, titles_of, proof_tree, proof_trees, proof_of, facts_size, sequent_size, judged, duty_fault, capped}
+use Rattle.sync_induct.specs.Checks.{ProofTree, title_of, titles_of, proof_tree, proof_trees, proof_of, facts_size, sequent_size, is_large, plan_in, judged, duty_fault, capped}
 
 cond_at : {A : Type 0} (b : Bool) (x y : A) → b ≡ true → cond b x y ≡ x
 cond_at true x y e = refl
@@ -98,11 +99,21 @@ missing s (p ∷ ps) t n e =
 pub judged-none : (ps : List ProofTree) (d : Duty) → proof_of (titled d.obligation) ps ≡ None → duty_fault ps d ≡ Some (record { line = d.obligation.line; rule = I1 })
 judged-none ps d e = ap (judged d) e
 
-pub judged-large : (ps : List ProofTree) (d : Duty) (plan : Script) → proof_of (titled d.obligation) ps ≡ Some plan → 1000000 < sequent_size d.facts d.claim → duty_fault ps d ≡ Some (record { line = d.obligation.line; rule = K8 })
-judged-large ps d plan e large = ap (judged d) e ∙ cond_at (ltb 1000000 (sequent_size d.facts d.claim)) (Some (record { line = d.obligation.line; rule = K8 })) (script_fault d.facts d.claim plan) (lt-ltb 1000000 (sequent_size d.facts d.claim) large)
+or_right : (a b : Bool) → b ≡ true → (a || b) ≡ true
+or_right true b e = refl
+or_right false b e = e
 
-pub judged-script : (ps : List ProofTree) (d : Duty) (plan : Script) → proof_of (titled d.obligation) ps ≡ Some plan → sequent_size d.facts d.claim ≤ 1000000 → duty_fault ps d ≡ script_fault d.facts d.claim plan
-judged-script ps d plan e small = ap (judged d) e ∙ cond_not (ltb 1000000 (sequent_size d.facts d.claim)) (Some (record { line = d.obligation.line; rule = K8 })) (script_fault d.facts d.claim plan) (le-ltb 1000000 (sequent_size d.facts d.claim) small)
+pub judged-large : (ps : List ProofTree) (d : Duty) (plan : Script) → proof_of (titled d.obligation) ps ≡ Some plan → 1000000 < sequent_size d.facts d.claim → duty_fault ps d ≡ Some (record { line = d.obligation.line; rule = K8 })
+judged-large ps d plan e large = ap (judged d) e
+    ∙ cond_at (is_large d) (Some (record { line = d.obligation.line; rule = K8 })) (script_fault d.facts d.claim (plan_in plan)) (or_right (ltb 1000000 (formula_size d.claim)) (ltb 1000000 (sequent_size d.facts d.claim)) (lt-ltb 1000000 (sequent_size d.facts d.claim) large))
+
+small-both : (a b : Bool) → a ≡ false → b ≡ false → (a || b) ≡ false
+small-both a b p q = rw p q
+
+pub judged-script : (ps : List ProofTree) (d : Duty) (plan : Script) → proof_of (titled d.obligation) ps ≡ Some plan → formula_size d.claim ≤ 1000000 → sequent_size d.facts d.claim ≤ 1000000 → duty_fault ps d ≡ script_fault d.facts d.claim (plan_in plan)
+judged-script ps d plan e claim small = ap (judged d) e
+    ∙ cond_not (is_large d) (Some (record { line = d.obligation.line; rule = K8 })) (script_fault d.facts d.claim (plan_in plan))
+        (small-both (ltb 1000000 (formula_size d.claim)) (ltb 1000000 (sequent_size d.facts d.claim)) (le-ltb 1000000 (formula_size d.claim) claim) (le-ltb 1000000 (sequent_size d.facts d.claim) small))
 
 pub passes-same : {A : Type 0} (r : Result A Stop) (x y : Option Refusal) → x ≡ y → Passes r x → Passes r y
 passes-same r x y e p = subst (λ (z : Option Refusal). Passes r z) e p

@@ -1,5 +1,5 @@
 -- Whether a machine's proofs prove its obligations: nothing, or the first line and rule that they break.
-use Rattle.std.specs.Prelude.{◌≡◌, ℕ, zero, suc, ◌+◌, ◌-◌, ◌^◌, min, List, [], ◌∷◌, ◌++◌, map, Bool, true, false, not, ◌&&◌, nat_eq, nat_lt, Option, Some, None, if◌then◌else◌}
+use Rattle.std.specs.Prelude.{◌≡◌, ℕ, zero, suc, ◌+◌, ◌-◌, ◌^◌, min, List, [], ◌∷◌, ◌++◌, map, Bool, true, false, not, ◌&&◌, ◌||◌, nat_eq, nat_lt, Option, Some, None, if◌then◌else◌}
 use Rattle.std.specs.List.{list_any}
 use Rattle.sync_base.specs.declared.stops.Refusal.{Refusal}
 use Rattle.sync_base.specs.declared.stops.Rule.TheVariants.{I1, I2, K8, G9}
@@ -14,7 +14,8 @@ use Rattle.sync_machine.specs.Machines.{MachineTree}
 use Rattle.sync_rules.specs.declared.claims.Obligation.{Obligation}
 use Rattle.sync_rules.specs.Obligations.{obligations_of}
 use Rattle.sync_terms.specs.declared.scripts.Script.{Script}
-use Rattle.sync_kernel.specs.Facts.{Fact, script_fault}
+use Rattle.sync_kernel.specs.Facts.{Fact}
+use Rattle.sync_kernel.specs.Scripts.{Plan, plan_of, script_fault}
 use Rattle.sync_induct.specs.declared.proofs.Proof.{Proof}
 use Rattle.sync_induct.specs.declared.index.Title.{Title}
 use Rattle.sync_kernel.specs.declared.sequents.Hyp.{Hyp}
@@ -63,10 +64,18 @@ facts_size (f ∷ fs) = formula_size f.form + facts_size fs
 abbrev pub sequent_size : List Fact → Formula → ℕ
 sequent_size facts claim = facts_size facts + formula_size (neg claim)
 
+-- the claim or the sequent has more than 1,000,000 nodes
+abbrev pub is_large : Duty → Bool
+is_large d = nat_lt 1000000 (formula_size d.claim) || nat_lt 1000000 (sequent_size d.facts d.claim)
+
+-- the plan of a script; its steps have no terms yet, so that it is the same over every store
+abbrev pub plan_in : Script → Plan
+plan_in x = plan_of (record { nodes = []; forms = [] }) x
+
 -- an obligation without a proof, with too large a sequent, or with a script that does not prove it
 abbrev pub judged : Duty → Option Script → Option Refusal
 judged d None = Some (record { line = d.obligation.line; rule = I1 })
-judged d (Some script) = if nat_lt 1000000 (sequent_size d.facts d.claim) then Some (record { line = d.obligation.line; rule = K8 }) else script_fault d.facts d.claim script
+judged d (Some script) = if is_large d then Some (record { line = d.obligation.line; rule = K8 }) else script_fault d.facts d.claim (plan_in script)
 
 abbrev pub duty_fault : List ProofTree → Duty → Option Refusal
 duty_fault ps d = judged d (proof_of (titled d.obligation) ps)

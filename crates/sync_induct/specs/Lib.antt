@@ -3,3 +3,4 @@ pub mod Titles
 pub mod Checks
 pub mod Acts
 pub mod Walks
+pub mod Laws

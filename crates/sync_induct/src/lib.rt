@@ -3,8 +3,10 @@
 
 mod index;
 mod judges;
+mod laws;
 mod proofs;
 mod sizes;
 mod walks;
 
+pub use laws::proved_machines_hold;
 pub use proofs::{Proof, Proofs};

@@ -13,6 +13,7 @@ pub fn denied_size(terms: &Terms, claim: FormId) -> u64
     requires { IsForm terms.now claim }
     ensures size { result ≡ formula_size (neg (formula terms.now claim)) }
     ensures bound { result ≤ 1000001 }
+    ensures claim { formula_size (formula terms.now claim) ≤ 1000000 }
 {
     let size = terms.size_of(claim);
     match terms.form(claim) {

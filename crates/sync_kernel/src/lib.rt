@@ -1,8 +1,13 @@
-//! stub
+//! The proof kernel: it checks that the script of a sequent proves it.
 #![tactic(auto)]
 
+mod held;
 mod provers;
+mod rows;
+mod sames;
 mod sequents;
+mod sums;
 
 pub use provers::prove;
 pub use sequents::{Hyp, Sequent};
+pub use sync_terms::{Block, HypName, Part, Script, ScriptStep, StepKind};

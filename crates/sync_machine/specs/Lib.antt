@@ -3,3 +3,5 @@ pub mod Statements
 pub mod States
 pub mod Scope
 pub mod Views
+pub mod Naming
+pub mod Scoped

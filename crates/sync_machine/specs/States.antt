@@ -1,5 +1,5 @@
 -- States of a machine, its steps, the states that it reaches, and what holds always.
-use Rattle.std.specs.Prelude.{◌≡◌, ◌≢◌, ℕ, zero, suc, ◌+◌, ◌<◌, ℤ, pos, List, [], ◌∷◌, length, map, slice_index_or, slice_set, slice_get, Option, Some, None, Contains}
+use Rattle.std.specs.Prelude.{◌≡◌, ℕ, suc, ℤ, pos, List, [], ◌∷◌, length, map, slice_index_or, slice_set, Option, Some, None, Contains}
 use Rattle.std.specs.List.{AllByRecursion, range_with_len}
 use Rattle.sync_terms.specs.Trees.{Tree, Lit, Name, Nil, Formula}
 use Rattle.sync_terms.specs.Maps as maps
@@ -10,7 +10,7 @@ use Rattle.sync_machine.specs.declared.fields.Strategy.TheVariants.{Variable, Co
 use Rattle.sync_machine.specs.declared.fields.OpMode.{OpMode}
 use Rattle.sync_machine.specs.declared.fields.OpMode.TheVariants as mode
 use Rattle.sync_machine.specs.Machines.{ActTree, StepTree, OperationTree, InvariantTree, MachineTree}
-use Rattle.sync_machine.specs.Statements.{enabling, safety, condition, after, field_of}
+use Rattle.sync_machine.specs.Statements.{safety, condition, after, field_of}
 
 -- a number, or a finite map
 pub data Value : Type 0 where

@@ -3,6 +3,12 @@
 
 mod fields;
 mod machine;
+mod naming;
+mod scope;
 
 pub use fields::{Field, OpMode, Strategy};
 pub use machine::{Act, Invariant, Machine, Operation, Pattern, Place, Step};
+pub use naming::well_formed;
+
+#[cfg(test)]
+mod tests;

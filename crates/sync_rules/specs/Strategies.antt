@@ -1,5 +1,5 @@
 -- Which statements each sharding strategy has.
-use Rattle.std.specs.Prelude.{◌≡◌, Bool, true, false, Option, Some, None, IsTrue, List}
+use Rattle.std.specs.Prelude.{◌≡◌, Bool, true, false, Option, Some, None, List}
 use Rattle.std.specs.List.{AllByRecursion}
 use Rattle.sync_machine.specs.declared.fields.Field.{Field}
 use Rattle.sync_machine.specs.declared.fields.Strategy.{Strategy}

@@ -48,4 +48,4 @@ returns-clause-exact c =
     let first : first_at t 0 (titles_of ps) ≡ Some c.in-Some.field-0.now = sym (c.requires.placed t) ∙ (rw c.new.ensures at (sym c.in-Some.ensures.value)) in
     let script = script-at s ps t c.in-Some.field-0.now c.in-Some-at.proof.now first (sym c.in-Some-at.ensures) in
     let small : sequent_size d.facts d.claim ≤ 1000000 = not-large (facts_size d.facts) c.denied_size.result (sequent_size d.facts d.claim) (rw (c.saturating_add.ensures, c.requires.size) at c.if-saturating_add-gt-LIMIT.false) (ap (λ n. facts_size d.facts + n) (sym c.denied_size.ensures.size)) in
-    passes-same c.prove.result _ _ (sym (judged-script (proof_trees ps) d c.in-Some-at.proof.now.script script small)) c.prove.ensures.exact
+    passes-same c.prove.result _ _ (sym (judged-script (proof_trees ps) d c.in-Some-at.proof.now.script script c.denied_size.ensures.claim small)) c.prove.ensures.exact

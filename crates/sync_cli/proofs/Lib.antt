@@ -1,0 +1,3 @@
+mod Gains
+mod WordLists
+mod Answering

@@ -1,0 +1,130 @@
+-- Each of the 117 entries of the table is what the strategies say.
+use Rattle.std.proofs.Common.{◌≡◌, ℕ, List, [], ◌∷◌, nat_eq, slice_index, slice_index_or, refl}
+use Rattle.sync_machine.specs.declared.fields.Strategy.{Strategy}
+use Rattle.sync_machine.specs.declared.fields.Strategy.TheVariants.{Variable, Constant, NotTokenized, Option as OptionField, Map, Set, Multiset, Count, PersistentOption, PersistentMap, PersistentSet, PersistentCount, StorageMap}
+use Rattle.sync_rules.specs.declared.kinds.OpKind.{OpKind}
+use Rattle.sync_rules.specs.declared.kinds.OpKind.TheVariants as kinds
+use Rattle.sync_rules.specs.Strategies.{has_statement}
+use Rattle.sync_rules.specs.Matrix.{row_of, column_of}
+
+abbrev pub rows : List (List ℕ)
+rows = (1 ∷ 1 ∷ 1 ∷ 1 ∷ 1 ∷ 1 ∷ 1 ∷ 1 ∷ 1 ∷ 1 ∷ 1 ∷ 1 ∷ 1 ∷ []) ∷ (1 ∷ 0 ∷ 1 ∷ 0 ∷ 0 ∷ 0 ∷ 0 ∷ 0 ∷ 0 ∷ 0 ∷ 0 ∷ 0 ∷ 0 ∷ []) ∷ (1 ∷ 0 ∷ 0 ∷ 0 ∷ 0 ∷ 0 ∷ 0 ∷ 0 ∷ 0 ∷ 0 ∷ 0 ∷ 0 ∷ 0 ∷ []) ∷ (0 ∷ 0 ∷ 0 ∷ 1 ∷ 1 ∷ 1 ∷ 1 ∷ 1 ∷ 1 ∷ 1 ∷ 1 ∷ 1 ∷ 0 ∷ []) ∷ (0 ∷ 0 ∷ 0 ∷ 1 ∷ 1 ∷ 1 ∷ 1 ∷ 1 ∷ 0 ∷ 0 ∷ 0 ∷ 0 ∷ 0 ∷ []) ∷ (0 ∷ 0 ∷ 0 ∷ 1 ∷ 1 ∷ 1 ∷ 1 ∷ 1 ∷ 1 ∷ 1 ∷ 1 ∷ 1 ∷ 0 ∷ []) ∷ (0 ∷ 0 ∷ 0 ∷ 0 ∷ 0 ∷ 0 ∷ 0 ∷ 0 ∷ 0 ∷ 0 ∷ 0 ∷ 0 ∷ 1 ∷ []) ∷ (0 ∷ 0 ∷ 0 ∷ 0 ∷ 0 ∷ 0 ∷ 0 ∷ 0 ∷ 0 ∷ 0 ∷ 0 ∷ 0 ∷ 1 ∷ []) ∷ (0 ∷ 0 ∷ 0 ∷ 0 ∷ 0 ∷ 0 ∷ 0 ∷ 0 ∷ 0 ∷ 0 ∷ 0 ∷ 0 ∷ 1 ∷ []) ∷ []
+
+pub entry : (o : OpKind) (s : Strategy) → nat_eq (slice_index (slice_index_or rows (row_of o) []) (column_of s)) 1 ≡ has_statement s o
+entry kinds.Init Variable = refl
+entry kinds.Init Constant = refl
+entry kinds.Init NotTokenized = refl
+entry kinds.Init OptionField = refl
+entry kinds.Init Map = refl
+entry kinds.Init Set = refl
+entry kinds.Init Multiset = refl
+entry kinds.Init Count = refl
+entry kinds.Init PersistentOption = refl
+entry kinds.Init PersistentMap = refl
+entry kinds.Init PersistentSet = refl
+entry kinds.Init PersistentCount = refl
+entry kinds.Init StorageMap = refl
+entry kinds.Update Variable = refl
+entry kinds.Update Constant = refl
+entry kinds.Update NotTokenized = refl
+entry kinds.Update OptionField = refl
+entry kinds.Update Map = refl
+entry kinds.Update Set = refl
+entry kinds.Update Multiset = refl
+entry kinds.Update Count = refl
+entry kinds.Update PersistentOption = refl
+entry kinds.Update PersistentMap = refl
+entry kinds.Update PersistentSet = refl
+entry kinds.Update PersistentCount = refl
+entry kinds.Update StorageMap = refl
+entry kinds.HaveVariable Variable = refl
+entry kinds.HaveVariable Constant = refl
+entry kinds.HaveVariable NotTokenized = refl
+entry kinds.HaveVariable OptionField = refl
+entry kinds.HaveVariable Map = refl
+entry kinds.HaveVariable Set = refl
+entry kinds.HaveVariable Multiset = refl
+entry kinds.HaveVariable Count = refl
+entry kinds.HaveVariable PersistentOption = refl
+entry kinds.HaveVariable PersistentMap = refl
+entry kinds.HaveVariable PersistentSet = refl
+entry kinds.HaveVariable PersistentCount = refl
+entry kinds.HaveVariable StorageMap = refl
+entry kinds.Add Variable = refl
+entry kinds.Add Constant = refl
+entry kinds.Add NotTokenized = refl
+entry kinds.Add OptionField = refl
+entry kinds.Add Map = refl
+entry kinds.Add Set = refl
+entry kinds.Add Multiset = refl
+entry kinds.Add Count = refl
+entry kinds.Add PersistentOption = refl
+entry kinds.Add PersistentMap = refl
+entry kinds.Add PersistentSet = refl
+entry kinds.Add PersistentCount = refl
+entry kinds.Add StorageMap = refl
+entry kinds.Remove Variable = refl
+entry kinds.Remove Constant = refl
+entry kinds.Remove NotTokenized = refl
+entry kinds.Remove OptionField = refl
+entry kinds.Remove Map = refl
+entry kinds.Remove Set = refl
+entry kinds.Remove Multiset = refl
+entry kinds.Remove Count = refl
+entry kinds.Remove PersistentOption = refl
+entry kinds.Remove PersistentMap = refl
+entry kinds.Remove PersistentSet = refl
+entry kinds.Remove PersistentCount = refl
+entry kinds.Remove StorageMap = refl
+entry kinds.Have Variable = refl
+entry kinds.Have Constant = refl
+entry kinds.Have NotTokenized = refl
+entry kinds.Have OptionField = refl
+entry kinds.Have Map = refl
+entry kinds.Have Set = refl
+entry kinds.Have Multiset = refl
+entry kinds.Have Count = refl
+entry kinds.Have PersistentOption = refl
+entry kinds.Have PersistentMap = refl
+entry kinds.Have PersistentSet = refl
+entry kinds.Have PersistentCount = refl
+entry kinds.Have StorageMap = refl
+entry kinds.Deposit Variable = refl
+entry kinds.Deposit Constant = refl
+entry kinds.Deposit NotTokenized = refl
+entry kinds.Deposit OptionField = refl
+entry kinds.Deposit Map = refl
+entry kinds.Deposit Set = refl
+entry kinds.Deposit Multiset = refl
+entry kinds.Deposit Count = refl
+entry kinds.Deposit PersistentOption = refl
+entry kinds.Deposit PersistentMap = refl
+entry kinds.Deposit PersistentSet = refl
+entry kinds.Deposit PersistentCount = refl
+entry kinds.Deposit StorageMap = refl
+entry kinds.Withdraw Variable = refl
+entry kinds.Withdraw Constant = refl
+entry kinds.Withdraw NotTokenized = refl
+entry kinds.Withdraw OptionField = refl
+entry kinds.Withdraw Map = refl
+entry kinds.Withdraw Set = refl
+entry kinds.Withdraw Multiset = refl
+entry kinds.Withdraw Count = refl
+entry kinds.Withdraw PersistentOption = refl
+entry kinds.Withdraw PersistentMap = refl
+entry kinds.Withdraw PersistentSet = refl
+entry kinds.Withdraw PersistentCount = refl
+entry kinds.Withdraw StorageMap = refl
+entry kinds.Guard Variable = refl
+entry kinds.Guard Constant = refl
+entry kinds.Guard NotTokenized = refl
+entry kinds.Guard OptionField = refl
+entry kinds.Guard Map = refl
+entry kinds.Guard Set = refl
+entry kinds.Guard Multiset = refl
+entry kinds.Guard Count = refl
+entry kinds.Guard PersistentOption = refl
+entry kinds.Guard PersistentMap = refl
+entry kinds.Guard PersistentSet = refl
+entry kinds.Guard PersistentCount = refl
+entry kinds.Guard StorageMap = refl

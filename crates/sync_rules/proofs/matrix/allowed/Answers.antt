@@ -1,0 +1,12 @@
+use Rattle.std.proofs.Common.{[], nat_eq, slice_index, slice_index_or, ap, ◌∙◌}
+use Rattle.sync_rules.specs.Matrix.{row_of}
+use Rattle.sync_rules.proofs.Entries.{rows, entry}
+use Rattle.sync_rules.proofs.matrix.allowed.Goals as goal
+
+pub returns : goal.returns
+returns c =
+    ap (λ n. nat_eq n 1)
+    (c.at.ensures
+    ∙ ap (λ r. slice_index (slice_index_or rows r []) c.column.result) c.row.ensures.row
+    ∙ ap (λ k. slice_index (slice_index_or rows (row_of c.args.o) []) k) c.column.ensures.column)
+    ∙ entry c.args.o c.args.s
