@@ -518,5 +518,8 @@ impl Sign {
 pub fn sign_of(bytes: &[u8]) -> Option<Sign>
     ensures { result ≡ sign_of bytes.now }
 {
-    SIGNS.iter().copied().find(|sign| sign.spelling().as_bytes() == bytes)
+    SIGNS
+        .iter()
+        .copied()
+        .find(|sign| sign.spelling().as_bytes() == bytes)
 }

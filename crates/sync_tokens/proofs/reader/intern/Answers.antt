@@ -13,8 +13,8 @@ pub returns-in-Ok-clause-names : goal.returns-in-Ok-clause-names
 returns-in-Ok-clause-names c =
     elim c.if-is_new.branch [
       | then-is_new+in_ok-from_slice+in_ok-push w ↦
-        w.names-is ∙ w.in_ok-push.ensures.ok ∙ ap (λ (bs : List ℕ). c.args.names.now ++ name_of bs ∷ []) w.in_ok-from_slice.ensures ∙ ap (λ (ns : List Name). ns ++ name_of c.args.bytes.now ∷ []) c.requires
+          w.names-is ∙ w.in_ok-push.ensures.ok ∙ ap (λ (bs : List ℕ). c.args.names.now ++ name_of bs ∷ []) w.in_ok-from_slice.ensures ∙ ap (λ (ns : List Name). ns ++ name_of c.args.bytes.now ∷ []) c.requires
           ∙ grows (λ r. r.now) c.args.bytes.now c.args.seen.now.keys c.in_ok-at.is_new c.in_ok-at.ensures.added w.if-is_new.true ∙ ap (λ (ns : List Name). names_with ns c.args.bytes.now) (sym c.requires)
       | else-is_new w ↦
-        w.names-is ∙ c.requires ∙ stays (λ r. r.now) c.args.bytes.now c.args.seen.now.keys c.in_ok-at.is_new c.in_ok-at.ensures.added w.if-is_new.false ∙ ap (λ (ns : List Name). names_with ns c.args.bytes.now) (sym c.requires)
+          w.names-is ∙ c.requires ∙ stays (λ r. r.now) c.args.bytes.now c.args.seen.now.keys c.in_ok-at.is_new c.in_ok-at.ensures.added w.if-is_new.false ∙ ap (λ (ns : List Name). names_with ns c.args.bytes.now) (sym c.requires)
     ]
