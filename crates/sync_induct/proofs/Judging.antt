@@ -113,7 +113,7 @@ small-both a b p q = rw p q
 pub judged-script : (ps : List ProofTree) (d : Duty) (plan : Script) → proof_of (titled d.obligation) ps ≡ Some plan → formula_size d.claim ≤ 1000000 → sequent_size d.facts d.claim ≤ 1000000 → duty_fault ps d ≡ script_fault d.facts d.claim (plan_in plan)
 judged-script ps d plan e claim small = ap (judged d) e
     ∙ cond_not (is_large d) (Some (record { line = d.obligation.line; rule = K8 })) (script_fault d.facts d.claim (plan_in plan))
-        (small-both (ltb 1000000 (formula_size d.claim)) (ltb 1000000 (sequent_size d.facts d.claim)) (le-ltb 1000000 (formula_size d.claim) claim) (le-ltb 1000000 (sequent_size d.facts d.claim) small))
+    (small-both (ltb 1000000 (formula_size d.claim)) (ltb 1000000 (sequent_size d.facts d.claim)) (le-ltb 1000000 (formula_size d.claim) claim) (le-ltb 1000000 (sequent_size d.facts d.claim) small))
 
 pub passes-same : {A : Type 0} (r : Result A Stop) (x y : Option Refusal) → x ≡ y → Passes r x → Passes r y
 passes-same r x y e p = subst (λ (z : Option Refusal). Passes r z) e p
