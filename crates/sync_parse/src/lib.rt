@@ -2,6 +2,8 @@
 #![tactic(auto)]
 
 mod expressions;
+mod faults;
+mod lexemes;
 mod scripts;
 mod trees;
 

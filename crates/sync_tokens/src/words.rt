@@ -1,4 +1,7 @@
 //! Words: what the grammar reads.
+ghost use Rattle.std.specs.Prelude.{◌≡◌};
+ghost use Rattle.sync_tokens.specs.Words.{is_sign};
+
 use crate::signs::Sign;
 use sqlite_items::Items;
 use sync_base::NameList;
@@ -28,4 +31,16 @@ pub struct Words {
     pub list: Items<Word>,
     pub names: NameList,
     pub last_line: u32,
+}
+
+impl Word {
+    /// Whether it is this sign or reserved word.
+    pub fn is(self, sign: Sign) -> bool
+        ensures { result ≡ is_sign self sign }
+    {
+        match self.what {
+            What::Sign(own) => own == sign,
+            What::Name(..) | What::Number(_) => false,
+        }
+    }
 }

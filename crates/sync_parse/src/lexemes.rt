@@ -1,0 +1,99 @@
+//! Reading one lexeme. `left` is 65 less the number of brackets that are open before it: at 0 it is too deep.
+ghost use Rattle.std.specs.Prelude.{◌≡◌, ◌<◌, [], ◌∷◌, IfOk, MatchOption};
+ghost use Rattle.sync_parse.specs.Faults.{Reads};
+ghost use Rattle.sync_parse.specs.Lexemes.{first_line, sign_at, name_at, number_at, strategy_at, names_at};
+
+use crate::faults::{Fault, Halt};
+use crate::trees::Named;
+use sqlite_items::Items;
+use std::alloc::Global;
+use sync_machine::Strategy;
+use sync_tokens::{Sign, What, Word};
+
+/// The first word and those behind it.
+pub(crate) fn next(words: &[Word]) -> Option<(Word, &[Word])>
+    ensures { MatchOption result (words.now ≡ []) (λ p. words.now ≡ p.0 ∷ p.1.now) }
+{
+    let (first, rest) = words.split_first()?;
+    Some((*first, rest))
+}
+
+pub(crate) fn first_line(words: &[Word]) -> u32
+    ensures { result ≡ first_line words.now }
+{
+    match next(words) {
+        Some((word, _)) => word.line,
+        None => 0,
+    }
+}
+
+pub(crate) fn wanted(line: u32) -> Halt
+    ensures { result ≡ Halt.Fault (Fault.Wanted line) }
+{
+    Halt::Fault(Fault::Wanted(line))
+}
+
+pub(crate) fn deep(line: u32) -> Halt
+    ensures { result ≡ Halt.Fault (Fault.Deep line) }
+{
+    Halt::Fault(Fault::Deep(line))
+}
+
+/// A sign or a reserved word; its line.
+#[tactic(auto, unfolding(crate::specs::Lexemes::sign_at))]
+pub(crate) fn sign(words: &[Word], left: u32, sign: Sign) -> Result<(u32, &[Word]), Halt>
+    ensures reads { Reads (λ x. (x.0, x.1.now)) result (sign_at left sign words.now) }
+    ensures shallow { IfOk result (λ x. 0 < left) }
+{
+    let (word, rest) = next(words).ok_or(Halt::Fault(Fault::Ended))?;
+    if !word.is(sign) {
+        return Err(wanted(word.line));
+    }
+    if left == 0 {
+        return Err(deep(word.line));
+    }
+    Ok((word.line, rest))
+}
+
+#[tactic(auto, unfolding(crate::specs::Lexemes::name_at))]
+pub(crate) fn name(words: &[Word], left: u32) -> Result<(Named, &[Word]), Halt>
+    ensures { Reads (λ x. (x.0, x.1.now)) result (name_at left words.now) }
+{
+    let (word, rest) = next(words).ok_or(Halt::Fault(Fault::Ended))?;
+    match word.what {
+        What::Name(_, _) if left == 0 => Err(deep(word.line)),
+        What::Name(name, _) => Ok((
+            Named {
+                name,
+                line: word.line,
+            },
+            rest,
+        )),
+        What::Number(_) | What::Sign(_) => Err(wanted(word.line)),
+    }
+}
+
+#[tactic(auto, unfolding(crate::specs::Lexemes::number_at))]
+pub(crate) fn number(words: &[Word], left: u32) -> Result<(u128, &[Word]), Halt>
+    ensures { Reads (λ x. (x.0, x.1.now)) result (number_at left words.now) }
+{
+    let (word, rest) = next(words).ok_or(Halt::Fault(Fault::Ended))?;
+    match word.what {
+        What::Number(_) if left == 0 => Err(deep(word.line)),
+        What::Number(number) => Ok((number, rest)),
+        What::Name(_, _) | What::Sign(_) => Err(wanted(word.line)),
+    }
+}
+
+/// A name that is the name of a strategy.
+#[tactic(auto, unfolding(crate::specs::Lexemes::strategy_at))]
+pub(crate) fn strategy(words: &[Word], left: u32) -> Result<(Strategy, &[Word]), Halt>
+    ensures { Reads (λ x. (x.0, x.1.now)) result (strategy_at left words.now) }
+{
+    let (word, rest) = next(words).ok_or(Halt::Fault(Fault::Ended))?;
+    match word.what {
+        What::Name(_, Some(_)) if left == 0 => Err(deep(word.line)),
+        What::Name(_, Some(strategy)) => Ok((strategy, rest)),
+        What::Name(_, None) | What::Number(_) | What::Sign(_) => Err(wanted(word.line)),
+    }
+}
