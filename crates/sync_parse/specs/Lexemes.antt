@@ -71,24 +71,36 @@ strategy_at left (w ∷ ws) = strategy_said left w.line ws w.what
 unfoldable pub row : {A : Type 0} → (Word → Bool) → Reader A → ℕ → List A → Reader (List A)
 row begins item zero held ts = Ok (held, ts)
 row begins item (suc more) held [] = Ok (held, [])
-row begins item (suc more) held (w ∷ ws) = if begins w then item (w ∷ ws) >>= λ x. row begins item more (held ++ x.0 ∷ []) x.1 else Ok (held, w ∷ ws)
+row begins item (suc more) held (w ∷ ws) = if begins w then (do
+    x ← item (w ∷ ws)
+    row begins item more (held ++ x.0 ∷ []) x.1) else Ok (held, w ∷ ws)
 
 -- items behind commas, at most so many
 unfoldable pub behind_commas : {A : Type 0} → Reader A → ℕ → List A → Reader (List A)
 behind_commas item zero held ts = Ok (held, ts)
 behind_commas item (suc more) held [] = Ok (held, [])
-behind_commas item (suc more) held (w ∷ ws) = if is_sign w sign.Comma then item ws >>= λ x. behind_commas item more (held ++ x.0 ∷ []) x.1 else Ok (held, w ∷ ws)
+behind_commas item (suc more) held (w ∷ ws) = if is_sign w sign.Comma then (do
+    x ← item ws
+    behind_commas item more (held ++ x.0 ∷ []) x.1) else Ok (held, w ∷ ws)
 
 -- items with commas between, at least one
 unfoldable pub series : {A : Type 0} → Reader A → Reader (List A)
-series item ts = item ts >>= λ x. behind_commas item (length x.1) (x.0 ∷ []) x.1
+series item ts = do
+  x ← item ts
+  behind_commas item (length x.1) (x.0 ∷ []) x.1
 
 -- items with commas between, or nothing where the closing bracket comes
 unfoldable pub listed : {A : Type 0} → Reader A → Sign → Reader (List A)
 listed item close ts = if begins_with close ts then Ok ([], ts) else series item ts
 
+-- what stands in round brackets
+unfoldable pub in_round : {A : Type 0} → ℕ → Reader A → Reader A
+in_round left item ts = do
+  o ← sign_at left sign.OpenRound ts
+  x ← item o.1
+  e ← sign_at (left - 1) sign.CloseRound x.1
+  Ok (x.0, e.1)
+
 -- names with commas between, in round brackets
 unfoldable pub names_at : ℕ → Reader (List Named)
-names_at left ts =
-    sign_at left sign.OpenRound ts >>= λ o. listed (name_at (left - 1)) sign.CloseRound o.1 >>= λ xs.
-    sign_at (left - 1) sign.CloseRound xs.1 >>= λ e. Ok (xs.0, e.1)
+names_at left ts = in_round left (listed (name_at (left - 1)) sign.CloseRound) ts

@@ -1,7 +1,7 @@
 //! Reading one lexeme. `left` is 65 less the number of brackets that are open before it: at 0 it is too deep.
 ghost use Rattle.std.specs.Prelude.{◌≡◌, ◌<◌, [], ◌∷◌, IfOk, MatchOption};
 ghost use Rattle.sync_parse.specs.Faults.{Reads};
-ghost use Rattle.sync_parse.specs.Lexemes.{first_line, sign_at, name_at, number_at, strategy_at, names_at};
+ghost use Rattle.sync_parse.specs.Lexemes.{first_line, begins_with, sign_at, name_at, number_at, strategy_at, series, names_at};
 
 use crate::faults::{Fault, Halt};
 use crate::trees::Named;
@@ -9,6 +9,9 @@ use sqlite_items::Items;
 use std::alloc::Global;
 use sync_machine::Strategy;
 use sync_tokens::{Sign, What, Word};
+
+/// A value and the words behind it.
+pub(crate) type Read<'a, T> = Result<(T, &'a [Word]), Halt>;
 
 /// The first word and those behind it.
 pub(crate) fn next(words: &[Word]) -> Option<(Word, &[Word])>
@@ -27,6 +30,16 @@ pub(crate) fn first_line(words: &[Word]) -> u32
     }
 }
 
+/// Whether the words begin with this sign.
+pub(crate) fn begins_with(words: &[Word], sign: Sign) -> bool
+    ensures { result ≡ begins_with sign words.now }
+{
+    match next(words) {
+        Some((word, _)) => word.is(sign),
+        None => false,
+    }
+}
+
 pub(crate) fn wanted(line: u32) -> Halt
     ensures { result ≡ Halt.Fault (Fault.Wanted line) }
 {
@@ -41,7 +54,7 @@ pub(crate) fn deep(line: u32) -> Halt
 
 /// A sign or a reserved word; its line.
 #[tactic(auto, unfolding(crate::specs::Lexemes::sign_at))]
-pub(crate) fn sign(words: &[Word], left: u32, sign: Sign) -> Result<(u32, &[Word]), Halt>
+pub(crate) fn sign(words: &[Word], left: u32, sign: Sign) -> Read<'_, u32>
     ensures reads { Reads (λ x. (x.0, x.1.now)) result (sign_at left sign words.now) }
     ensures shallow { IfOk result (λ x. 0 < left) }
 {
@@ -56,7 +69,7 @@ pub(crate) fn sign(words: &[Word], left: u32, sign: Sign) -> Result<(u32, &[Word
 }
 
 #[tactic(auto, unfolding(crate::specs::Lexemes::name_at))]
-pub(crate) fn name(words: &[Word], left: u32) -> Result<(Named, &[Word]), Halt>
+pub(crate) fn name(words: &[Word], left: u32) -> Read<'_, Named>
     ensures { Reads (λ x. (x.0, x.1.now)) result (name_at left words.now) }
 {
     let (word, rest) = next(words).ok_or(Halt::Fault(Fault::Ended))?;
@@ -74,7 +87,7 @@ pub(crate) fn name(words: &[Word], left: u32) -> Result<(Named, &[Word]), Halt>
 }
 
 #[tactic(auto, unfolding(crate::specs::Lexemes::number_at))]
-pub(crate) fn number(words: &[Word], left: u32) -> Result<(u128, &[Word]), Halt>
+pub(crate) fn number(words: &[Word], left: u32) -> Read<'_, u128>
     ensures { Reads (λ x. (x.0, x.1.now)) result (number_at left words.now) }
 {
     let (word, rest) = next(words).ok_or(Halt::Fault(Fault::Ended))?;
@@ -87,7 +100,7 @@ pub(crate) fn number(words: &[Word], left: u32) -> Result<(u128, &[Word]), Halt>
 
 /// A name that is the name of a strategy.
 #[tactic(auto, unfolding(crate::specs::Lexemes::strategy_at))]
-pub(crate) fn strategy(words: &[Word], left: u32) -> Result<(Strategy, &[Word]), Halt>
+pub(crate) fn strategy(words: &[Word], left: u32) -> Read<'_, Strategy>
     ensures { Reads (λ x. (x.0, x.1.now)) result (strategy_at left words.now) }
 {
     let (word, rest) = next(words).ok_or(Halt::Fault(Fault::Ended))?;
@@ -96,4 +109,48 @@ pub(crate) fn strategy(words: &[Word], left: u32) -> Result<(Strategy, &[Word]),
         What::Name(_, Some(strategy)) => Ok((strategy, rest)),
         What::Name(_, None) | What::Number(_) | What::Sign(_) => Err(wanted(word.line)),
     }
+}
+
+/// Names with commas between, at least one.
+#[tactic(auto, unfolding(crate::specs::Lexemes::series, crate::specs::Lexemes::behind_commas))]
+fn name_series(
+    alloc: Global,
+    words: &[Word],
+    left: u32,
+) -> Read<'_, Items<Named>>
+    ensures { Reads (λ x. (x.0, x.1.now)) result (series (name_at left) words.now) }
+{
+    let (first, mut rest) = name(words, left)?;
+    let mut held = Items::new(alloc);
+    held.push(first)?;
+    for _ in 0..rest.len() {
+        match next(rest) {
+            Some((word, after)) if word.is(Sign::Comma) => {
+                let (item, after) = name(after, left)?;
+                held.push(item)?;
+                rest = after;
+            }
+            _ => return Ok((held, rest)),
+        }
+    }
+    Ok((held, rest))
+}
+
+/// Names with commas between, in round brackets.
+#[tactic(auto, unfolding(crate::specs::Lexemes::names_at, crate::specs::Lexemes::in_round, crate::specs::Lexemes::listed))]
+pub(crate) fn names(
+    alloc: Global,
+    words: &[Word],
+    left: u32,
+) -> Read<'_, Items<Named>>
+    ensures { Reads (λ x. (x.0, x.1.now)) result (names_at left words.now) }
+{
+    let (_, rest) = sign(words, left, Sign::OpenRound)?;
+    let (names, rest) = if begins_with(rest, Sign::CloseRound) {
+        (Items::new(alloc), rest)
+    } else {
+        name_series(alloc, rest, left - 1)?
+    };
+    let (_, rest) = sign(rest, left - 1, Sign::CloseRound)?;
+    Ok((names, rest))
 }
