@@ -1,3 +1,4 @@
 pub mod Rules
 pub mod Outcome
 pub mod Outside
+pub mod InMemory

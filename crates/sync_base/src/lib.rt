@@ -2,15 +2,23 @@
 #![tactic(auto)]
 
 mod gates;
+mod mem_sinks;
+mod mem_sources;
 mod names;
+mod plans;
 mod sinks;
 mod sources;
 mod stops;
 mod tables;
 
 pub use gates::{Gate, OpenGate};
+pub use mem_sinks::MemSink;
+pub use mem_sources::MemSource;
 pub use names::{Name, NameList};
 pub use sinks::Sink;
 pub use sources::Source;
 pub use stops::{Failed, NoMemory, Refusal, Rule, Stop};
 pub use tables::Table;
+
+#[cfg(test)]
+mod tests;

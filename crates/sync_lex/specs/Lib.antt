@@ -1,1 +1,5 @@
+pub mod Bytes
+pub mod Signs
+pub mod Pieces
 pub mod Lexemes
+pub mod Spelling

@@ -2,3 +2,4 @@ pub mod Machines
 pub mod Statements
 pub mod States
 pub mod Scope
+pub mod Views

@@ -16,28 +16,31 @@ zero = Lit (pos 0)
 abbrev pub one : Tree
 one = Lit (pos 1)
 
+abbrev pub or_zero : Option Tree → Tree
+or_zero (Some key) = key
+or_zero None = zero
+
 -- the key of a place; 0 where the strategy has no keys
 abbrev pub key_of : PlaceTree → Tree
-key_of place = or_zero place.key where
-  or_zero : Option Tree → Tree
-  or_zero (Some key) = key
-  or_zero None = zero
+key_of place = or_zero place.key
+
+abbrev pub or_one : Option PatternTree → Tree
+or_one (Some (Bind x)) = Name x
+or_one (Some (Term t)) = t
+or_one None = one
 
 -- the value or the amount of a place: a term, or the name that it binds; 1 for an element of a set
 abbrev pub value_of : PlaceTree → Tree
-value_of place = or_one place.value where
-  or_one : Option PatternTree → Tree
-  or_one (Some (Bind x)) = Name x
-  or_one (Some (Term t)) = t
-  or_one None = one
+value_of place = or_one place.value
 
--- a place that binds a name
+abbrev pub bound_in : Option PatternTree → Option ℕ
+bound_in (Some (Bind x)) = Some x
+bound_in (Some (Term t)) = None
+bound_in None = None
+
+-- the name that a place binds, if it binds one
 abbrev pub binds : PlaceTree → Option ℕ
-binds place = bound_in place.value where
-  bound_in : Option PatternTree → Option ℕ
-  bound_in (Some (Bind x)) = Some x
-  bound_in (Some (Term t)) = None
-  bound_in None = None
+binds place = bound_in place.value
 
 -- the key is there; it is free; it is there with this value
 abbrev pub is_there : Tree → Tree → Formula

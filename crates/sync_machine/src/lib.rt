@@ -2,5 +2,7 @@
 #![tactic(auto)]
 
 mod fields;
+mod machine;
 
 pub use fields::{Field, OpMode, Strategy};
+pub use machine::{Act, Invariant, Machine, Operation, Pattern, Place, Step};

@@ -1,6 +1,5 @@
 -- What a store of terms holds: nodes that point to earlier nodes, and the trees that they stand for.
-use Rattle.std.specs.Prelude.{◌≡◌, ℕ, ◌<◌, ◌≤◌, List, [], ◌∷◌, ◌++◌, length, fold, slice_index_or}
-use Rattle.sync_terms.specs.declared.nodes.Sym.{Sym}
+use Rattle.std.specs.Prelude.{◌≡◌, ℕ, ◌<◌, List, [], ◌∷◌, ◌++◌, length, fold, slice_index_or}
 use Rattle.sync_terms.specs.declared.nodes.TermId.{TermId}
 use Rattle.sync_terms.specs.declared.nodes.FormId.{FormId}
 use Rattle.sync_terms.specs.declared.nodes.Node.{Node}
@@ -81,30 +80,46 @@ shape s n = grown (trees s.nodes) n
 unfoldable pub form_shape : Stored → FormNode → Formula
 form_shape s n = grown_form (trees s.nodes) (formulas (trees s.nodes) s.forms) n
 
+-- P holds of each child of a node
+abbrev pub EachChild : (TermId → Type 0) → Node → Type 0
+EachChild P (node.Lit n) = Unit {0}
+EachChild P (node.Name x) = Unit {0}
+EachChild P (node.Add a b) = P a × P b
+EachChild P (node.Sub a b) = P a × P b
+EachChild P (node.Scale n a) = P a
+EachChild P (node.Get m k) = P m × P k
+EachChild P (node.Has m k) = P m × P k
+EachChild P (node.Size m) = P m
+EachChild P (node.Sum m) = P m
+EachChild P node.Nil = Unit {0}
+EachChild P (node.Put m k v) = P m × P k × P v
+EachChild P (node.Del m k) = P m × P k
+EachChild P (node.Bump m k n) = P m × P k × P n
+
+-- the children of a node are ids below a number
+abbrev pub ChildrenBelow : ℕ → Node → Type 0
+ChildrenBelow n x = EachChild (λ c. c.0 < n) x
+
+-- P holds of each term of a formula's node, and Q of each formula
+abbrev pub EachPart : (TermId → Type 0) → (FormId → Type 0) → FormNode → Type 0
+EachPart P Q (form.Le a b) = P a × P b
+EachPart P Q (form.Lt a b) = P a × P b
+EachPart P Q (form.Eq a b) = P a × P b
+EachPart P Q (form.Not f) = Q f
+EachPart P Q (form.And f g) = Q f × Q g
+EachPart P Q (form.Or f g) = Q f × Q g
+EachPart P Q (form.Imp f g) = Q f × Q g
+
+-- the terms of a formula's node are ids below one number, and its formulas ids below another
+abbrev pub PartsBelow : ℕ → ℕ → FormNode → Type 0
+PartsBelow n p x = EachPart (λ a. a.0 < n) (λ f. f.0 < p) x
+
 -- the children of a node are ids of this store
 abbrev pub HasChildren : Stored → Node → Type 0
-HasChildren s (node.Lit n) = Unit {0}
-HasChildren s (node.Name x) = Unit {0}
-HasChildren s (node.Add a b) = IsTerm s a × IsTerm s b
-HasChildren s (node.Sub a b) = IsTerm s a × IsTerm s b
-HasChildren s (node.Scale n a) = IsTerm s a
-HasChildren s (node.Get m k) = IsTerm s m × IsTerm s k
-HasChildren s (node.Has m k) = IsTerm s m × IsTerm s k
-HasChildren s (node.Size m) = IsTerm s m
-HasChildren s (node.Sum m) = IsTerm s m
-HasChildren s node.Nil = Unit {0}
-HasChildren s (node.Put m k v) = IsTerm s m × IsTerm s k × IsTerm s v
-HasChildren s (node.Del m k) = IsTerm s m × IsTerm s k
-HasChildren s (node.Bump m k n) = IsTerm s m × IsTerm s k × IsTerm s n
+HasChildren s n = ChildrenBelow (length s.nodes) n
 
 abbrev pub HasParts : Stored → FormNode → Type 0
-HasParts s (form.Le a b) = IsTerm s a × IsTerm s b
-HasParts s (form.Lt a b) = IsTerm s a × IsTerm s b
-HasParts s (form.Eq a b) = IsTerm s a × IsTerm s b
-HasParts s (form.Not f) = IsForm s f
-HasParts s (form.And f g) = IsForm s f × IsForm s g
-HasParts s (form.Or f g) = IsForm s f × IsForm s g
-HasParts s (form.Imp f g) = IsForm s f × IsForm s g
+HasParts s n = PartsBelow (length s.nodes) (length s.forms) n
 
 -- the new store has each earlier id, with the same tree
 pub record Extends (old new : Stored) : Type 0 where

@@ -1,5 +1,5 @@
 -- Terms and formulas as trees, apart from any store.
-use Rattle.std.specs.Prelude.{ℕ, ◌+◌, ℤ, List}
+use Rattle.std.specs.Prelude.{ℕ, ◌+◌, ℤ}
 
 -- a term: a number or a finite map. A name is a symbol's number
 pub data Tree : Type 0 where

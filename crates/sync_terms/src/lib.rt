@@ -3,6 +3,9 @@
 
 mod nodes;
 mod scripts;
+mod store;
+mod subst;
 
 pub use nodes::{FormId, FormNode, Node, Sym, TermId};
 pub use scripts::{Block, HypName, Part, Script, ScriptStep, StepKind};
+pub use store::{TermStop, Terms};

@@ -1,0 +1,142 @@
+-- The first proof of a title, by its place and by its script; and what a duty's proof is worth.
+use Rattle.std.proofs.Common.{◌≡◌, ℕ, zero, suc, ◌+◌, ◌-◌, ◌^◌, ◌<◌, ◌≤◌, min, Bool, true, false, cond, ltb, List, [], ◌∷◌, length, map, Option, Some, None, Result, Ok, Err, refl, sym, ap, subst, ◌∙◌, inl, inr, arith, add-zero, zero-add}
+use Rattle.std.specs.Prelude.{slice_get, OnOk, nat_lt}
+use Rattle.std.proofs.lemmas.Bool.{cases_Bool, true≢false, false≢true, lt-ltb, le-ltb}
+use Rattle.sync_base.specs.declared.stops.Refusal.{Refusal}
+use Rattle.sync_base.specs.declared.stops.Rule.TheVariants.{I1, K8}
+use Rattle.sync_base.specs.declared.stops.Stop.{Stop}
+use Rattle.sync_base.specs.Outcome.{Passes}
+use Rattle.sync_terms.specs.Trees.{Formula, formula_size, neg}
+use Rattle.sync_terms.specs.Values.{Given, IsValid}
+use Rattle.sync_terms.specs.Stored.{Stored}
+use Rattle.sync_rules.specs.declared.claims.Obligation.{Obligation}
+use Rattle.sync_terms.specs.declared.scripts.Script.{Script}
+use Rattle.sync_kernel.specs.declared.sequents.Hyp.{Hyp}
+use Rattle.sync_kernel.specs.Facts.{Fact, fact_of, given, script_fault}
+use Rattle.sync_induct.specs.declared.index.Title.{Title}
+use Rattle.sync_induct.specs.declared.proofs.Proof.{Proof}
+use Rattle.sync_induct.specs.Duties.{Duty, facts_of, givens_of}
+use Rattle.sync_induct.specs.Titles.{titled, same_title, first_at}
+use Rattle.sync_induct.specs.Checks.{ProofTree, title_of, titles_of, proof_tree, proof_trees, proof_of, facts_size, sequent_size, judged, duty_fault, capped}
+
+cond_at : {A : Type 0} (b : Bool) (x y : A) → b ≡ true → cond b x y ≡ x
+cond_at true x y e = refl
+cond_at false x y e = absurd (false≢true e)
+
+cond_not : {A : Type 0} (b : Bool) (x y : A) → b ≡ false → cond b x y ≡ y
+cond_not true x y e = absurd (true≢false e)
+cond_not false x y e = refl
+
+-- the proof at the place k, behind n others, is the first of the title
+pub record IsFound (s : Stored) (ps : List Proof) (t : Title) (n i : ℕ) : Type 0 where
+  pub place : ℕ
+  pub is : i ≡ n + place
+  pub proof : Proof
+  pub there : slice_get ps place ≡ Some proof
+  pub script : proof_of t (proof_trees ps) ≡ Some proof.script
+
+some_is : (a b : ℕ) → Some a ≡ Some b → b ≡ a
+some_is a b e = cc
+
+proof_of-cons : (s : Stored) (t : Title) (p : Proof) (ps : List Proof) → proof_of t (proof_trees (p ∷ ps)) ≡ cond (same_title (titled (title_of p)) t) (Some p.script) (proof_of t (proof_trees ps))
+unfolding proof_of
+proof_of-cons s t p ps = refl
+
+first_at-cons : (t : Title) (n : ℕ) (p : Proof) (ps : List Proof) → first_at t n (titles_of (p ∷ ps)) ≡ cond (same_title (titled (title_of p)) t) (Some n) (first_at t (suc n) (titles_of ps))
+unfolding first_at
+first_at-cons t n p ps = refl
+
+no_first : (t : Title) (n i : ℕ) → first_at t n [] ≡ Some i → ⊥
+unfolding first_at
+no_first t n i e = let f : None ≡ Some i = e in cc
+
+pub found : (s : Stored) (ps : List Proof) (t : Title) (n i : ℕ) → first_at t n (titles_of ps) ≡ Some i → IsFound s ps t n i
+found s [] t n i e = absurd (no_first t n i e)
+found s (p ∷ ps) t n i e =
+    elim (cases_Bool (same_title (titled (title_of p)) t)) [
+      | inl y ↦
+          let here : Some n ≡ Some i = sym (first_at-cons t n p ps ∙ cond_at (same_title (titled (title_of p)) t) (Some n) (first_at t (suc n) (titles_of ps)) y) ∙ e in
+          record {
+            place = 0;
+            is = some_is n i here ∙ sym (add-zero n);
+            proof = p;
+            there = refl;
+            script = proof_of-cons s t p ps ∙ cond_at (same_title (titled (title_of p)) t) (Some p.script) (proof_of t (proof_trees ps)) y;
+          }
+      | inr f ↦
+          let later : first_at t (suc n) (titles_of ps) ≡ Some i = sym (first_at-cons t n p ps ∙ cond_not (same_title (titled (title_of p)) t) (Some n) (first_at t (suc n) (titles_of ps)) f) ∙ e in
+          let r = found s ps t (suc n) i later in
+          record {
+            place = suc r.place;
+            is = r.is ∙ moved n r.place;
+            proof = r.proof;
+            there = r.there;
+            script = proof_of-cons s t p ps ∙ (cond_not (same_title (titled (title_of p)) t) (Some p.script) (proof_of t (proof_trees ps)) f ∙ r.script);
+          }
+    ] where
+      moved : (n k : ℕ) → suc n + k ≡ n + suc k
+      moved n k = omega arith
+
+none_some : (n : ℕ) → Some n ≡ None → ⊥
+none_some n e = cc
+
+no_proof : (s : Stored) (t : Title) → proof_of t (proof_trees []) ≡ None
+unfolding proof_of
+no_proof s t = refl
+
+pub missing : (s : Stored) (ps : List Proof) (t : Title) (n : ℕ) → first_at t n (titles_of ps) ≡ None → proof_of t (proof_trees ps) ≡ None
+missing s [] t n e = no_proof s t
+missing s (p ∷ ps) t n e =
+    elim (cases_Bool (same_title (titled (title_of p)) t)) [
+      | inl y ↦ absurd (none_some n (sym (first_at-cons t n p ps ∙ cond_at (same_title (titled (title_of p)) t) (Some n) (first_at t (suc n) (titles_of ps)) y) ∙ e))
+      | inr f ↦ proof_of-cons s t p ps ∙ (cond_not (same_title (titled (title_of p)) t) (Some p.script) (proof_of t (proof_trees ps)) f
+          ∙ missing s ps t (suc n) (sym (first_at-cons t n p ps ∙ cond_not (same_title (titled (title_of p)) t) (Some n) (first_at t (suc n) (titles_of ps)) f) ∙ e))
+    ]
+
+-- ---- what the proof of a duty is worth
+
+pub judged-none : (ps : List ProofTree) (d : Duty) → proof_of (titled d.obligation) ps ≡ None → duty_fault ps d ≡ Some (record { line = d.obligation.line; rule = I1 })
+judged-none ps d e = ap (judged d) e
+
+pub judged-large : (ps : List ProofTree) (d : Duty) (plan : Script) → proof_of (titled d.obligation) ps ≡ Some plan → 1000000 < sequent_size d.facts d.claim → duty_fault ps d ≡ Some (record { line = d.obligation.line; rule = K8 })
+judged-large ps d plan e large = ap (judged d) e ∙ cond_at (ltb 1000000 (sequent_size d.facts d.claim)) (Some (record { line = d.obligation.line; rule = K8 })) (script_fault d.facts d.claim plan) (lt-ltb 1000000 (sequent_size d.facts d.claim) large)
+
+pub judged-script : (ps : List ProofTree) (d : Duty) (plan : Script) → proof_of (titled d.obligation) ps ≡ Some plan → sequent_size d.facts d.claim ≤ 1000000 → duty_fault ps d ≡ script_fault d.facts d.claim plan
+judged-script ps d plan e small = ap (judged d) e ∙ cond_not (ltb 1000000 (sequent_size d.facts d.claim)) (Some (record { line = d.obligation.line; rule = K8 })) (script_fault d.facts d.claim plan) (le-ltb 1000000 (sequent_size d.facts d.claim) small)
+
+pub passes-same : {A : Type 0} (r : Result A Stop) (x y : Option Refusal) → x ≡ y → Passes r x → Passes r y
+passes-same r x y e p = subst (λ (z : Option Refusal). Passes r z) e p
+
+givens-same : (s : Stored) (hs : List Hyp) → map (λ (h : Hyp). given (fact_of s h)) hs ≡ givens_of (facts_of s hs)
+givens-same s [] = refl
+givens-same s (h ∷ hs) = ap (λ (gs : List Given). given (fact_of s h) ∷ gs) (givens-same s hs)
+
+pub valid-same : {A : Type 0} (r : Result A Stop) (s : Stored) (hs : List Hyp) (claim : Formula) → OnOk r (IsValid (map (λ (h : Hyp). given (fact_of s h)) hs) claim) → OnOk r (IsValid (givens_of (facts_of s hs)) claim)
+valid-same r s hs claim h = subst (λ (gs : List Given). OnOk r (IsValid gs claim)) (givens-same s hs) h
+
+-- the script at the place that the index gives
+pub script-at : (s : Stored) (ps : List Proof) (t : Title) (i : ℕ) (p : Proof) → first_at t 0 (titles_of ps) ≡ Some i → slice_get ps i ≡ Some p → proof_of t (proof_trees ps) ≡ Some p.script
+script-at s ps t i p e there =
+    let f = found s ps t 0 i e in
+    let same_place : f.place ≡ i = sym (f.is ∙ zero-add f.place) in
+    let both : Some f.proof ≡ Some p = sym f.there ∙ (ap (λ (k : ℕ). slice_get ps k) same_place ∙ there) in
+    let same_proof : f.proof ≡ p = one f.proof p both in
+    f.script ∙ ap (λ (q : Proof). Some q.script) same_proof where
+      one : (a b : Proof) → Some a ≡ Some b → a ≡ b
+      one a b e = cc
+
+-- the place is one of the list
+pub place-there : (s : Stored) (ps : List Proof) (t : Title) (i : ℕ) → first_at t 0 (titles_of ps) ≡ Some i → slice_get ps i ≡ None → ⊥
+place-there s ps t i e none =
+    let f = found s ps t 0 i e in
+    let same_place : f.place ≡ i = sym (f.is ∙ zero-add f.place) in
+    let both : Some f.proof ≡ None = sym f.there ∙ (ap (λ (k : ℕ). slice_get ps k) same_place ∙ none) in
+    apart f.proof both where
+      apart : (a : Proof) → Some a ≡ None → ⊥
+      apart a e = cc
+
+pub too-large : (size denied total : ℕ) → 1000000 < min (min size (2 ^ 64 - 1) + denied) 18446744073709551615 → total ≡ size + denied → 1000000 < total
+too-large size denied total h e = omega arith
+
+pub not-large : (size denied total : ℕ) → min (min size (2 ^ 64 - 1) + denied) 18446744073709551615 ≤ 1000000 → total ≡ size + denied → total ≤ 1000000
+not-large size denied total h e = omega arith

@@ -1,0 +1,10 @@
+pub mod Agreement
+pub mod Along
+pub mod Soundness
+pub mod Scoping
+pub mod Titles
+pub mod Negations
+pub mod Judging
+pub mod Plain
+pub mod Growing
+pub mod Passing

@@ -1,0 +1,109 @@
+-- Whether a machine's proofs prove its obligations: nothing, or the first line and rule that they break.
+use Rattle.std.specs.Prelude.{◌≡◌, ℕ, zero, suc, ◌+◌, ◌-◌, ◌^◌, min, List, [], ◌∷◌, ◌++◌, map, Bool, true, false, not, ◌&&◌, nat_eq, nat_lt, Option, Some, None, if◌then◌else◌}
+use Rattle.std.specs.List.{list_any}
+use Rattle.sync_base.specs.declared.stops.Refusal.{Refusal}
+use Rattle.sync_base.specs.declared.stops.Rule.TheVariants.{I1, I2, K8, G9}
+use Rattle.sync_base.specs.Outcome.{first}
+use Rattle.sync_terms.specs.Trees.{Formula, formula_size, neg}
+use Rattle.sync_terms.specs.declared.nodes.FormId.{FormId}
+use Rattle.sync_terms.specs.Stored.{Stored, formula}
+use Rattle.sync_machine.specs.declared.fields.Field.{Field}
+use Rattle.sync_machine.specs.declared.fields.Strategy.{Strategy}
+use Rattle.sync_machine.specs.declared.fields.Strategy.TheVariants.{Variable, Constant, NotTokenized, Option as OptionField, Map, Set, Multiset, Count, PersistentOption, PersistentMap, PersistentSet, PersistentCount, StorageMap}
+use Rattle.sync_machine.specs.Machines.{MachineTree}
+use Rattle.sync_rules.specs.declared.claims.Obligation.{Obligation}
+use Rattle.sync_rules.specs.Obligations.{obligations_of}
+use Rattle.sync_terms.specs.declared.scripts.Script.{Script}
+use Rattle.sync_kernel.specs.Facts.{Fact, script_fault}
+use Rattle.sync_induct.specs.declared.proofs.Proof.{Proof}
+use Rattle.sync_induct.specs.declared.index.Title.{Title}
+use Rattle.sync_kernel.specs.declared.sequents.Hyp.{Hyp}
+use Rattle.sync_induct.specs.Duties.{Duty, duties_of, facts_of}
+use Rattle.sync_induct.specs.Titles.{titled, same_title}
+
+-- a proof: what it is of, with its own line, and its script
+pub record ProofTree : Type 0 where
+  pub title : Obligation
+  pub script : Script
+
+abbrev pub title_of : Proof → Obligation
+title_of p = record { op = p.op; claim = p.claim; line = p.line }
+
+abbrev pub titles_of : List Proof → List Obligation
+titles_of ps = map title_of ps
+
+abbrev pub proof_tree : Proof → ProofTree
+proof_tree p = record { title = title_of p; script = p.script }
+
+abbrev pub proof_trees : List Proof → List ProofTree
+proof_trees ps = map proof_tree ps
+
+-- a list has a proof or an obligation of this title
+abbrev pub has_title : List Obligation → Title → Bool
+has_title os t = list_any (λ o. same_title (titled o) t) os
+
+-- a proof of no obligation, or a second proof of one
+unfoldable pub stray_fault : List Obligation → List Obligation → List Obligation → Option Refusal
+stray_fault wanted earlier [] = None
+stray_fault wanted earlier (p ∷ ps) =
+    if has_title wanted (titled p) && not (has_title earlier (titled p)) then stray_fault wanted (earlier ++ p ∷ []) ps
+    else Some (record { line = p.line; rule = I2 })
+
+-- the script of the first proof with a title
+unfoldable pub proof_of : Title → List ProofTree → Option Script
+proof_of t [] = None
+proof_of t (p ∷ ps) = if same_title (titled p.title) t then Some p.script else proof_of t ps
+
+-- the nodes of all hypotheses
+unfoldable pub facts_size : List Fact → ℕ
+facts_size [] = 0
+facts_size (f ∷ fs) = formula_size f.form + facts_size fs
+
+-- the nodes of a sequent: of its hypotheses and of the denied claim
+abbrev pub sequent_size : List Fact → Formula → ℕ
+sequent_size facts claim = facts_size facts + formula_size (neg claim)
+
+-- an obligation without a proof, with too large a sequent, or with a script that does not prove it
+abbrev pub judged : Duty → Option Script → Option Refusal
+judged d None = Some (record { line = d.obligation.line; rule = I1 })
+judged d (Some script) = if nat_lt 1000000 (sequent_size d.facts d.claim) then Some (record { line = d.obligation.line; rule = K8 }) else script_fault d.facts d.claim script
+
+abbrev pub duty_fault : List ProofTree → Duty → Option Refusal
+duty_fault ps d = judged d (proof_of (titled d.obligation) ps)
+
+unfoldable pub duties_fault : List ProofTree → List Duty → Option Refusal
+duties_fault ps [] = None
+duties_fault ps (d ∷ ds) = first (duty_fault ps d) (duties_fault ps ds)
+
+-- first the proofs of no obligation, then the obligations in order
+abbrev pub proof_fault : MachineTree → List ProofTree → Option Refusal
+proof_fault m ps = first (stray_fault (obligations_of m) [] (map (λ (p : ProofTree). p.title) ps)) (duties_fault ps (duties_of m))
+
+-- the strategies whose fields are checked so far
+abbrev pub is_built : Strategy → Bool
+is_built Variable = true
+is_built Constant = true
+is_built NotTokenized = true
+is_built OptionField = false
+is_built Map = false
+is_built Set = false
+is_built Multiset = false
+is_built Count = false
+is_built PersistentOption = false
+is_built PersistentMap = false
+is_built PersistentSet = false
+is_built PersistentCount = false
+is_built StorageMap = false
+
+-- the first field of another strategy
+unfoldable pub unbuilt_fault : List Field → Option Refusal
+unbuilt_fault [] = None
+unbuilt_fault (f ∷ fs) = if is_built f.strategy then unbuilt_fault fs else Some (record { line = f.line; rule = G9 })
+
+-- a count that stands still at the end of its type
+abbrev pub capped : ℕ → ℕ
+capped n = min n (2 ^ 64 - 1)
+
+-- a duty as hypotheses and a claim of a store
+abbrev pub duty_of : Stored → List Hyp → FormId → Obligation → Duty
+duty_of s hyps claim o = record { obligation = o; facts = facts_of s hyps; claim = formula s claim }

@@ -1,0 +1,102 @@
+-- What has to be proved of each operation, as sequents: the obligations with their hypotheses and claims.
+use Rattle.std.specs.Prelude.{◌≡◌, ℕ, suc, ◌+◌, ◌<◌, List, [], ◌∷◌, ◌++◌, map, length, slice_index_or, nat_eq, nat_lt, Option, Some, None, if◌then◌else◌}
+use Rattle.std.specs.List.{AllByRecursion, list_any}
+use Rattle.sync_terms.specs.declared.scripts.HypName.TheVariants.{Label, At}
+use Rattle.sync_terms.specs.Trees.{Tree, Name, Nil, Formula, replaced_in}
+use Rattle.sync_terms.specs.Values.{IsValid}
+use Rattle.sync_machine.specs.declared.fields.Field.{Field}
+use Rattle.sync_machine.specs.declared.fields.OpMode.{OpMode}
+use Rattle.sync_machine.specs.declared.fields.OpMode.TheVariants as mode
+use Rattle.sync_machine.specs.Machines.{StepTree, OperationTree, InvariantTree, MachineTree}
+use Rattle.sync_machine.specs.Statements.{safety, condition}
+use Rattle.sync_machine.specs.States.{strategy_of, current_of, advanced, last_values, first_values}
+use Rattle.sync_rules.specs.declared.claims.Claim.TheVariants as claims
+use Rattle.sync_rules.specs.declared.claims.Obligation.{Obligation}
+use Rattle.sync_rules.specs.Obligations.{has_to_keep}
+use Rattle.sync_terms.specs.Values.{Given}
+use Rattle.sync_terms.specs.Stored.{Stored, IsForm}
+use Rattle.sync_kernel.specs.declared.sequents.Hyp.{Hyp}
+use Rattle.sync_kernel.specs.Facts.{Fact, fact_of, given}
+
+-- an obligation as a sequent: what may be used, and what has to follow from it
+pub record Duty : Type 0 where
+  pub obligation : Obligation
+  pub facts : List Fact
+  pub claim : Formula
+
+-- the invariants under their names, with their parameters
+abbrev pub invariant_facts : List InvariantTree → List Fact
+invariant_facts is = map (λ i. record { name = Label i.name; params = i.params; form = i.form }) is
+
+-- the condition of the statement with number n, if it has one
+abbrev pub condition_facts : ℕ → Option Formula → List Fact
+condition_facts n (Some form) = record { name = At n; params = []; form = form } ∷ []
+condition_facts n None = []
+
+-- what is known of the statement with number n behind it
+abbrev pub step_facts : List Field → List Tree → ℕ → StepTree → List Fact
+step_facts fs cur n s = condition_facts n (condition (strategy_of fs s.act) (current_of cur s.act) s.act)
+
+-- the duty that a safety condition makes, if there is one
+abbrev pub safety_duties : ℕ → ℕ → ℕ → List Fact → Option Formula → List Duty
+safety_duties op n line facts (Some form) = record { obligation = record { op = op; claim = claims.At n; line = line }; facts = facts; claim = form } ∷ []
+safety_duties op n line facts None = []
+
+-- The safety conditions of statements that are numbered from n: each from the facts before its statement.
+unfoldable pub step_duties : List Field → ℕ → List Tree → List Fact → ℕ → List StepTree → List Duty
+step_duties fs op cur facts n [] = []
+step_duties fs op cur facts n (s ∷ ss) =
+    safety_duties op n s.line facts (safety (strategy_of fs s.act) (current_of cur s.act) s.act)
+    ++ step_duties fs op (advanced fs cur s.act) (facts ++ step_facts fs cur n s) (suc n) ss
+
+-- all that is known behind statements that are numbered from n
+unfoldable pub facts_behind : List Field → List Tree → List Fact → ℕ → List StepTree → List Fact
+facts_behind fs cur facts n [] = facts
+facts_behind fs cur facts n (s ∷ ss) = facts_behind fs (advanced fs cur s.act) (facts ++ step_facts fs cur n s) (suc n) ss
+
+-- An invariant behind the operation: each field replaced by its last value, and each parameter p by `$p`.
+abbrev pub closing : List ℕ → List Tree → ℕ → Tree
+closing params last x = if nat_lt x (length last) then slice_index_or last x Nil else (if list_any (nat_eq x) params then Name (suc x) else Name x)
+
+-- the invariants, numbered from j, that the operation has to keep
+unfoldable pub keeps_duties : OperationTree → ℕ → List Fact → List Tree → ℕ → List InvariantTree → List Duty
+keeps_duties o op facts last j [] = []
+keeps_duties o op facts last j (i ∷ is) =
+    if has_to_keep o i then
+    record { obligation = record { op = op; claim = claims.Keeps j; line = o.line }; facts = facts; claim = replaced_in (closing i.params last) i.form } ∷ keeps_duties o op facts last (suc j) is
+    else keeps_duties o op facts last (suc j) is
+
+-- what may be used from the first statement on: the invariants, but for an init nothing
+abbrev pub base_facts : OpMode → List InvariantTree → List Fact
+base_facts mode.Init is = []
+base_facts mode.Transition is = invariant_facts is
+base_facts mode.Property is = invariant_facts is
+
+abbrev pub operation_duties : MachineTree → ℕ → OperationTree → List Duty
+operation_duties m op o =
+    step_duties m.fields op (first_values m.fields o.mode) (base_facts o.mode m.invariants) 1 o.steps
+    ++ keeps_duties o op (facts_behind m.fields (first_values m.fields o.mode) (base_facts o.mode m.invariants) 1 o.steps)
+    (last_values m.fields (first_values m.fields o.mode) o.steps) 0 m.invariants
+
+unfoldable pub duties_from : MachineTree → ℕ → List OperationTree → List Duty
+duties_from m op [] = []
+duties_from m op (o ∷ os) = operation_duties m op o ++ duties_from m (suc op) os
+
+-- everything that has to be proved of a machine, in order
+abbrev pub duties_of : MachineTree → List Duty
+duties_of m = duties_from m 0 m.ops
+
+-- hypotheses of a store as facts
+abbrev pub facts_of : Stored → List Hyp → List Fact
+facts_of s hs = map (fact_of s) hs
+
+-- their formulas are of the store
+abbrev pub HaveForms : Stored → List Hyp → Type 0
+HaveForms s hs = AllByRecursion (λ (h : Hyp). IsForm s h.form) hs
+
+abbrev pub givens_of : List Fact → List Given
+givens_of facts = map given facts
+
+-- every duty's claim follows from its facts
+abbrev pub AreProved : List Duty → Type 0
+AreProved ds = AllByRecursion (λ (d : Duty). IsValid (givens_of d.facts) d.claim) ds

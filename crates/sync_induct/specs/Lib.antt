@@ -1,0 +1,5 @@
+pub mod Duties
+pub mod Titles
+pub mod Checks
+pub mod Acts
+pub mod Walks

@@ -1,0 +1,55 @@
+//! The check of one obligation.
+ghost use Rattle.std.specs.Prelude.{◌≡◌, OnOk};
+ghost use Rattle.std.specs.HashMap.{get};
+ghost use Rattle.sync_base.specs.Outcome.{Passes};
+ghost use Rattle.sync_terms.specs.Stored.{Extends, IsForm, formula};
+ghost use Rattle.sync_terms.specs.Values.{IsValid};
+ghost use Rattle.sync_induct.specs.Checks.{titles_of, proof_trees, duty_fault, duty_of, facts_size, capped};
+ghost use Rattle.sync_induct.specs.Duties.{facts_of, givens_of, HaveForms};
+ghost use Rattle.sync_induct.specs.Titles.{same_title, first_at};
+ghost use Rattle.sync_induct.specs.declared.index.Title.{Title};
+
+use crate::index::{Places, Title};
+use crate::proofs::Proof;
+use crate::sizes::{LIMIT, denied_size};
+use std::alloc::Global;
+use sync_base::{Refusal, Rule, Stop};
+use sync_kernel::{Sequent, prove};
+use sync_rules::Obligation;
+use sync_terms::Terms;
+
+fn refused(line: u32, rule: Rule) -> Stop
+    ensures { result ≡ Stop.Refused (record { line = line; rule = rule }) }
+{
+    Stop::Refused(Refusal { line, rule })
+}
+
+/// Checks the proof of an obligation whose sequent is given, with the number of nodes of its hypotheses.
+pub fn judge(
+    alloc: Global,
+    terms: &mut Terms,
+    q: &Sequent,
+    size: u64,
+    proofs: &[Proof],
+    places: &Places,
+    obligation: Obligation,
+) -> Result<(), Stop>
+    requires hyps { HaveForms terms.old q.now.hyps }
+    requires claim { IsForm terms.old q.now.claim }
+    requires size { size ≡ capped (facts_size (facts_of terms.old q.now.hyps)) }
+    requires placed { (t : Title) → get same_title places.now t ≡ first_at t 0 (titles_of proofs.now) }
+    ensures exact { Passes result (duty_fault (proof_trees proofs.now) (duty_of terms.old q.now.hyps q.now.claim obligation)) }
+    ensures valid { OnOk result (IsValid (givens_of (facts_of terms.old q.now.hyps)) (formula terms.old q.now.claim)) }
+    ensures keeps { Extends terms.old terms.new }
+{
+    let Some(&at) = places.get(&Title::new(obligation.op, obligation.claim)) else {
+        return Err(refused(obligation.line, Rule::I1));
+    };
+    let Some(proof) = sqlite_items::at(proofs, at) else {
+        return Err(refused(obligation.line, Rule::I1));
+    };
+    if LIMIT < size.saturating_add(denied_size(terms, q.claim)) {
+        return Err(refused(obligation.line, Rule::K8));
+    }
+    prove(alloc, terms, q, &proof.script)
+}

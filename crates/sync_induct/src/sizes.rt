@@ -1,0 +1,22 @@
+//! How large a sequent is.
+ghost use Rattle.std.specs.Prelude.{◌≡◌, ◌+◌, ◌≤◌};
+ghost use Rattle.sync_terms.specs.Stored.{IsForm, formula};
+ghost use Rattle.sync_terms.specs.Trees.{formula_size, neg};
+
+use sync_terms::{FormId, FormNode, Terms};
+
+/// The most nodes of a sequent.
+pub const LIMIT: u64 = 1_000_000;
+
+/// The nodes of the negation of a claim.
+pub fn denied_size(terms: &Terms, claim: FormId) -> u64
+    requires { IsForm terms.now claim }
+    ensures size { result ≡ formula_size (neg (formula terms.now claim)) }
+    ensures bound { result ≤ 1000001 }
+{
+    let size = terms.size_of(claim);
+    match terms.form(claim) {
+        FormNode::Not(_) => size - 1,
+        _ => size + 1,
+    }
+}

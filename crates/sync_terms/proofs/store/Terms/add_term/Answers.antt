@@ -1,0 +1,32 @@
+use Rattle.std.proofs.Common.{◌≡◌, pos, sym, ◌∙◌, subst}
+use Rattle.std.proofs.lemmas.Option.{get_or_from_slice_get, slice_get_within}
+use Rattle.sync_terms.specs.declared.nodes.Node.TheVariants as node
+use Rattle.sync_terms.specs.Kept.{node_at}
+use Rattle.sync_terms.specs.Stored.{HasChildren, shape}
+use Rattle.sync_terms.specs.Trees.{tree_size}
+use Rattle.sync_terms.proofs.Equal.{node_eq, node_eq-refl, same_from_eq}
+use Rattle.sync_terms.proofs.Keeping.{IsKept-place_term, Extends-place_term, tree-place_term}
+use Rattle.sync_terms.proofs.Sharing.{once-from_distinct}
+use Rattle.sync_terms.proofs.store.Terms.add_term.Goals as goal
+
+pub invariant_of-self-2 : goal.invariant_of-self-2
+invariant_of-self-2 c =
+    let below = subst (λ s. HasChildren s c.args.node) (sym c.self.view_is) c.requires.children in
+    let size = subst (λ s. c.node_size-size.result ≡ tree_size (shape s c.args.node)) (sym c.self.view_is) c.node_size-size.ensures.size in
+    let once = once-from_distinct node_eq (node.Lit (pos 0)) node_eq-refl c.place.new.nodes.keys c.in-Ok.ensures.unique in
+    IsKept-place_term _ _ _ c.args.node c.node_size-size.result c.place.new.nodes.keys c.place.new.sizes.items c.self.invariant below c.in-Ok.ensures.placed size c.if-size-gt-LIMIT.false once
+
+pub returns-clause-id : goal.returns-clause-id
+returns-clause-id c =
+    let below = subst (λ s. HasChildren s c.args.node) (sym c.self.view_is) c.requires.children in
+    let at = c.in-Ok.ensures.at in
+    let here : node_at c.place.new.nodes.keys c.in-Ok.at ≡ c.args.node = get_or_from_slice_get c.place.new.nodes.keys c.in-Ok.at at.0 (node.Lit (pos 0)) at.1 ∙ sym (same_from_eq c.args.node at.0 at.2) in
+    let within = slice_get_within c.place.new.nodes.keys c.in-Ok.at at.0 at.1 in
+    let kept = invariant_of-self-2 c in
+    let made = tree-place_term _ _ _ c.args.node c.node_size-size.result c.place.new.nodes.keys c.place.new.sizes.items c.self.invariant below c.in-Ok.ensures.placed kept c.in-Ok.at within here in
+    (within, rw (← c.self.view_is) made)
+
+pub returns-clause-keeps : goal.returns-clause-keeps
+returns-clause-keeps c =
+    let below = subst (λ s. HasChildren s c.args.node) (sym c.self.view_is) c.requires.children in
+    rw (← c.self.view_is) (Extends-place_term _ _ _ c.args.node c.node_size-size.result c.place.new.nodes.keys c.place.new.sizes.items c.self.invariant below c.in-Ok.ensures.placed)
