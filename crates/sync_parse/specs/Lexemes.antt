@@ -1,6 +1,6 @@
 -- Reading one lexeme. A place has a level: 65 less the number of brackets that are open before it. At level 0 each
 -- lexeme is too deep, but it is so only where it is the lexeme that is wanted.
-use Rattle.std.specs.Prelude.{ℕ, zero, suc, ◌+◌, ◌-◌, ◌==◌, Bool, true, false, List, [], ◌∷◌, ◌++◌, length, Result, Ok, Err, Option, Some, None, if◌then◌else◌}
+use Rattle.std.specs.Prelude.{ℕ, zero, suc, ◌+◌, ◌-◌, ◌==◌, Bool, true, false, not, List, [], ◌∷◌, ◌++◌, length, Result, Ok, Err, Option, Some, None, if◌then◌else◌}
 use Rattle.sync_base.specs.Outcome.{◌>>=◌}
 use Rattle.sync_machine.specs.declared.fields.Strategy.{Strategy}
 use Rattle.sync_tokens.specs.declared.signs.Sign.{Sign}
@@ -67,13 +67,17 @@ unfoldable pub strategy_at : ℕ → Reader Strategy
 strategy_at left [] = Err Ended
 strategy_at left (w ∷ ws) = strategy_said left w.line ws w.what
 
--- items in a row, as long as the next word begins one, at most so many
-unfoldable pub row : {A : Type 0} → (Word → Bool) → Reader A → ℕ → List A → Reader (List A)
+-- items in a row, as long as the words begin one, at most so many
+unfoldable pub row : {A : Type 0} → (List Word → Bool) → Reader A → ℕ → List A → Reader (List A)
 row begins item zero held ts = Ok (held, ts)
-row begins item (suc more) held [] = Ok (held, [])
-row begins item (suc more) held (w ∷ ws) = if begins w then (do
-    x ← item (w ∷ ws)
-    row begins item more (held ++ x.0 ∷ []) x.1) else Ok (held, w ∷ ws)
+row begins item (suc more) held ts = if begins ts then (do
+    x ← item ts
+    row begins item more (held ++ x.0 ∷ []) x.1) else Ok (held, ts)
+
+-- whether the words go on within braces
+abbrev pub goes_on : List Word → Bool
+goes_on [] = false
+goes_on (w ∷ ws) = not (is_sign w sign.CloseBrace)
 
 -- items behind commas, at most so many
 unfoldable pub behind_commas : {A : Type 0} → Reader A → ℕ → List A → Reader (List A)

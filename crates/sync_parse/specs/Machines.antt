@@ -1,5 +1,5 @@
 -- Reading machines, proofs and whole texts.
-use Rattle.std.specs.Prelude.{ℕ, ◌-◌, ◌==◌, Bool, not, List, [], ◌∷◌, length, Result, Ok, Err, Option, Some, None, is_some, if◌then◌else◌}
+use Rattle.std.specs.Prelude.{ℕ, ◌-◌, ◌==◌, Bool, false, List, [], ◌∷◌, length, Result, Ok, Err, Option, Some, None, is_some, if◌then◌else◌}
 use Rattle.sync_base.specs.Outcome.{◌>>=◌}
 use Rattle.sync_base.specs.declared.stops.Refusal.{Refusal}
 use Rattle.sync_machine.specs.declared.fields.OpMode.{OpMode}
@@ -28,9 +28,9 @@ use Rattle.sync_parse.specs.declared.trees.RawProof.{RawProof}
 use Rattle.sync_parse.specs.declared.trees.RawClaim.{RawClaim}
 use Rattle.sync_parse.specs.declared.trees.RawClaim.TheVariants as claim
 use Rattle.sync_parse.specs.Faults.{refused}
-use Rattle.sync_parse.specs.Lexemes.{Read, Reader, within, first_line, begins_with, sign_at, name_at, number_at, strategy_at, row, names_at}
+use Rattle.sync_parse.specs.Lexemes.{Read, Reader, within, first_line, begins_with, sign_at, name_at, number_at, strategy_at, row, goes_on, names_at}
 use Rattle.sync_parse.specs.Expressions.{expr_at}
-use Rattle.sync_parse.specs.Scripts.{place_of, refuse, is_inner, script_at}
+use Rattle.sync_parse.specs.Scripts.{place_of, refuse, script_at}
 
 -- ---- places
 
@@ -139,7 +139,7 @@ act_at left ts = do
   Ok (record { what = x.0; line = first_line ts }, x.1)
 
 unfoldable pub acts : ℕ → Reader (List RawAct)
-acts left ts = row is_inner (act_at left) (length ts) [] ts
+acts left ts = row goes_on (act_at left) (length ts) [] ts
 
 -- ---- machines
 
@@ -152,11 +152,8 @@ field_at left ts = do
   e ← sign_at left sign.Semicolon s.1
   Ok (record { name = n.0; strategy = s.0; line = f.0 }, e.1)
 
-abbrev pub is_field : Word → Bool
-is_field w = is_sign w sign.Field
-
 unfoldable pub fields : ℕ → Reader (List RawField)
-fields left ts = row is_field (field_at left) (length ts) [] ts
+fields left ts = row (begins_with sign.Field) (field_at left) (length ts) [] ts
 
 unfoldable pub mode_of : Word → Option OpMode
 mode_of w =
@@ -183,8 +180,9 @@ operation_at left ts = do
   e ← sign_at (left - 1) sign.CloseBrace xs.1
   Ok (record { mode = m.0; name = n.0; params = ps.0; acts = xs.0; line = first_line ts }, e.1)
 
-abbrev pub begins_operation : Word → Bool
-begins_operation w = is_some (mode_of w)
+abbrev pub begins_operation : List Word → Bool
+begins_operation [] = false
+begins_operation (w ∷ ws) = is_some (mode_of w)
 
 unfoldable pub operations : ℕ → Reader (List RawOperation)
 operations left ts = row begins_operation (operation_at left) (length ts) [] ts
@@ -198,11 +196,8 @@ invariant_at left ts = do
   e ← closed_expr left c.1
   Ok (record { name = n.0; params = ps.0; form = e.0; line = i.0 }, e.1)
 
-abbrev pub is_invariant : Word → Bool
-is_invariant w = is_sign w sign.Invariant
-
 unfoldable pub invariants : ℕ → Reader (List RawInvariant)
-invariants left ts = row is_invariant (invariant_at left) (length ts) [] ts
+invariants left ts = row (begins_with sign.Invariant) (invariant_at left) (length ts) [] ts
 
 unfoldable pub machine_at : ℕ → Reader RawMachine
 machine_at left ts = do
@@ -234,7 +229,7 @@ proof_at left ts = do
   Ok (record { operation = n.0; claim = c.0; script = s.0 }, s.1)
 
 unfoldable pub proof_row : ℕ → Reader (List RawProof)
-proof_row left ts = row is_inner (proof_at left) (length ts) [] ts
+proof_row left ts = row goes_on (proof_at left) (length ts) [] ts
 
 -- the proofs, or none where they do not begin
 unfoldable pub proofs_at : ℕ → Reader (List RawProof)

@@ -1,5 +1,5 @@
 -- Reading proof scripts.
-use Rattle.std.specs.Prelude.{ℕ, zero, suc, ◌-◌, Bool, true, false, not, ℤ, neg_ℤ, List, [], ◌∷◌, length, min, Result, Ok, Err, Option, Some, None, if◌then◌else◌}
+use Rattle.std.specs.Prelude.{ℕ, zero, suc, ◌-◌, Bool, true, false, ℤ, neg_ℤ, List, [], ◌∷◌, length, min, Result, Ok, Err, Option, Some, None, if◌then◌else◌}
 use Rattle.sync_base.specs.Outcome.{◌>>=◌}
 use Rattle.sync_tokens.specs.declared.signs.Sign.{Sign}
 use Rattle.sync_tokens.specs.declared.signs.Sign.TheVariants as sign
@@ -23,7 +23,7 @@ use Rattle.sync_parse.specs.declared.scripts.RawBlock.{RawBlock, roll-RawBlock}
 use Rattle.sync_parse.specs.declared.scripts.RawStep.{RawStep, roll-RawStep}
 use Rattle.sync_parse.specs.declared.scripts.RawStepKind.{RawStepKind}
 use Rattle.sync_parse.specs.declared.scripts.RawStepKind.TheVariants as step
-use Rattle.sync_parse.specs.Lexemes.{Read, Reader, within, first_line, begins_with, sign_at, name_at, number_at, row, series}
+use Rattle.sync_parse.specs.Lexemes.{Read, Reader, within, first_line, begins_with, sign_at, name_at, number_at, row, goes_on, series}
 use Rattle.sync_parse.specs.Expressions.{signed, expr_at, exprs_at}
 
 -- a number of a statement; 4,294,967,295 stands for all from there on
@@ -203,12 +203,9 @@ step_at block left ts = do
   x ← step_kind block left ts
   Ok (roll-RawStep (record { what = x.0; line = first_line ts }), x.1)
 
-abbrev pub is_inner : Word → Bool
-is_inner w = not (is_sign w sign.CloseBrace)
-
 -- the steps up to a closing brace
 unfoldable pub steps : Reader RawBlock → ℕ → Reader (List RawStep)
-steps block left ts = row is_inner (step_at block left) (length ts) [] ts
+steps block left ts = row goes_on (step_at block left) (length ts) [] ts
 
 -- a block whose inner blocks `nested` reads
 abbrev pub block_with : Reader RawBlock → ℕ → Reader RawBlock

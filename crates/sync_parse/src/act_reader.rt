@@ -8,7 +8,7 @@ ghost use Rattle.sync_parse.specs.Machines.{pattern_at, keyed, place_at, closed_
 use crate::expr_reader::expr;
 use crate::expressions::Expr;
 use crate::faults::{Fault, Halt};
-use crate::lexemes::{Read, begins_with, first_line, name, next, sign, wanted};
+use crate::lexemes::{Read, begins_with, first_line, goes_on, name, next, sign, wanted};
 use crate::trees::{Named, RawAct, RawActKind, RawPattern, RawPlace};
 use sqlite_items::Items;
 use std::alloc::Global;
@@ -232,13 +232,12 @@ pub(crate) fn acts<'a>(alloc: Global, words: &'a [Word], left: u32) -> Read<'a, 
     let mut held = Items::new(alloc);
     let mut rest = words;
     for _ in 0..words.len() {
-        match next(rest) {
-            Some((word, _)) if !word.is(Sign::CloseBrace) => {
-                let (item, after) = act(alloc, rest, left)?;
-                held.push(item)?;
-                rest = after;
-            }
-            _ => return Ok((held, rest)),
+        if goes_on(rest) {
+            let (item, after) = act(alloc, rest, left)?;
+            held.push(item)?;
+            rest = after;
+        } else {
+            return Ok((held, rest));
         }
     }
     Ok((held, rest))

@@ -1,7 +1,7 @@
 //! Reading one lexeme. `left` is 65 less the number of brackets that are open before it: at 0 it is too deep.
 ghost use Rattle.std.specs.Prelude.{◌≡◌, ◌<◌, [], ◌∷◌, IfOk, MatchOption};
 ghost use Rattle.sync_parse.specs.Faults.{Reads};
-ghost use Rattle.sync_parse.specs.Lexemes.{first_line, begins_with, sign_at, name_at, number_at, strategy_at, series, names_at};
+ghost use Rattle.sync_parse.specs.Lexemes.{first_line, begins_with, goes_on, sign_at, name_at, number_at, strategy_at, series, names_at};
 
 use crate::faults::{Fault, Halt};
 use crate::trees::Named;
@@ -36,6 +36,16 @@ pub(crate) fn begins_with(words: &[Word], sign: Sign) -> bool
 {
     match next(words) {
         Some((word, _)) => word.is(sign),
+        None => false,
+    }
+}
+
+/// Whether the words go on within braces.
+pub(crate) fn goes_on(words: &[Word]) -> bool
+    ensures { result ≡ goes_on words.now }
+{
+    match next(words) {
+        Some((word, _)) => !word.is(Sign::CloseBrace),
         None => false,
     }
 }

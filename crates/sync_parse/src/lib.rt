@@ -18,3 +18,6 @@ pub use trees::{
     Named, RawAct, RawActKind, RawClaim, RawField, RawInvariant, RawMachine, RawOperation,
     RawPattern, RawPlace, RawProof, RawText,
 };
+
+#[cfg(test)]
+mod tests;

@@ -2,11 +2,11 @@
 ghost use Rattle.std.specs.Prelude.{◌≡◌, length, IfOk};
 ghost use Rattle.sync_base.specs.Outcome.{Gives};
 ghost use Rattle.sync_parse.specs.Faults.{Reads, refusal_of};
-ghost use Rattle.sync_parse.specs.Machines.{field_at, fields, mode_of, mode_at, operation_at, operations, invariant_at, invariants, machine_at, claim_at, proof_at, proof_row, proofs_at, version_at, text_of, parsed};
+ghost use Rattle.sync_parse.specs.Machines.{field_at, fields, mode_of, mode_at, begins_operation, operation_at, operations, invariant_at, invariants, machine_at, claim_at, proof_at, proof_row, proofs_at, version_at, text_of, parsed};
 
 use crate::act_reader::{acts, closed_expr};
 use crate::faults::{Fault, Halt};
-use crate::lexemes::{Read, begins_with, deep, first_line, name, names, next, number, sign, strategy, wanted};
+use crate::lexemes::{Read, begins_with, deep, first_line, goes_on, name, names, next, number, sign, strategy, wanted};
 use crate::script_reader::{place_of, script};
 use crate::trees::{RawClaim, RawField, RawInvariant, RawMachine, RawOperation, RawProof, RawText};
 use sqlite_items::Items;
@@ -37,13 +37,12 @@ fn fields<'a>(alloc: Global, words: &'a [Word], left: u32) -> Read<'a, Items<Raw
     let mut held = Items::new(alloc);
     let mut rest = words;
     for _ in 0..words.len() {
-        match next(rest) {
-            Some((word, _)) if word.is(Sign::Field) => {
-                let (item, after) = field(rest, left)?;
-                held.push(item)?;
-                rest = after;
-            }
-            _ => return Ok((held, rest)),
+        if begins_with(rest, Sign::Field) {
+            let (item, after) = field(rest, left)?;
+            held.push(item)?;
+            rest = after;
+        } else {
+            return Ok((held, rest));
         }
     }
     Ok((held, rest))
@@ -61,6 +60,15 @@ fn mode_of(word: Word) -> Option<OpMode>
         Some(OpMode::Property)
     } else {
         None
+    }
+}
+
+fn begins_operation(words: &[Word]) -> bool
+    ensures { result ≡ begins_operation words.now }
+{
+    match next(words) {
+        Some((word, _)) => mode_of(word).is_some(),
+        None => false,
     }
 }
 
@@ -99,13 +107,12 @@ fn operations<'a>(alloc: Global, words: &'a [Word], left: u32) -> Read<'a, Items
     let mut held = Items::new(alloc);
     let mut rest = words;
     for _ in 0..words.len() {
-        match next(rest) {
-            Some((word, _)) if mode_of(word).is_some() => {
-                let (item, after) = operation(alloc, rest, left)?;
-                held.push(item)?;
-                rest = after;
-            }
-            _ => return Ok((held, rest)),
+        if begins_operation(rest) {
+            let (item, after) = operation(alloc, rest, left)?;
+            held.push(item)?;
+            rest = after;
+        } else {
+            return Ok((held, rest));
         }
     }
     Ok((held, rest))
@@ -130,13 +137,12 @@ fn invariants<'a>(alloc: Global, words: &'a [Word], left: u32) -> Read<'a, Items
     let mut held = Items::new(alloc);
     let mut rest = words;
     for _ in 0..words.len() {
-        match next(rest) {
-            Some((word, _)) if word.is(Sign::Invariant) => {
-                let (item, after) = invariant(alloc, rest, left)?;
-                held.push(item)?;
-                rest = after;
-            }
-            _ => return Ok((held, rest)),
+        if begins_with(rest, Sign::Invariant) {
+            let (item, after) = invariant(alloc, rest, left)?;
+            held.push(item)?;
+            rest = after;
+        } else {
+            return Ok((held, rest));
         }
     }
     Ok((held, rest))
@@ -187,13 +193,12 @@ fn proof_row<'a>(alloc: Global, words: &'a [Word], left: u32) -> Read<'a, Items<
     let mut held = Items::new(alloc);
     let mut rest = words;
     for _ in 0..words.len() {
-        match next(rest) {
-            Some((word, _)) if !word.is(Sign::CloseBrace) => {
-                let (item, after) = proof(alloc, rest, left)?;
-                held.push(item)?;
-                rest = after;
-            }
-            _ => return Ok((held, rest)),
+        if goes_on(rest) {
+            let (item, after) = proof(alloc, rest, left)?;
+            held.push(item)?;
+            rest = after;
+        } else {
+            return Ok((held, rest));
         }
     }
     Ok((held, rest))

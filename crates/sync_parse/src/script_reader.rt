@@ -9,7 +9,7 @@ ghost use Rattle.sync_parse.specs.Scripts.{place_of, times_of, bounded_of, subje
 use crate::expr_reader::{expr, exprs, signed};
 use crate::expressions::Special;
 use crate::faults::{Fault, Halt};
-use crate::lexemes::{Read, begins_with, deep, first_line, name, next, number, sign, wanted};
+use crate::lexemes::{Read, begins_with, deep, first_line, goes_on, name, next, number, sign, wanted};
 use crate::scripts::{RawBlock, RawHyp, RawPart, RawScript, RawStep, RawStepKind, Subject};
 use crate::trees::Named;
 use sqlite_items::Items;
@@ -330,13 +330,12 @@ fn steps<'a>(alloc: Global, words: &'a [Word], left: u32) -> Read<'a, Items<RawS
     let mut held = Items::new(alloc);
     let mut rest = words;
     for _ in 0..words.len() {
-        match next(rest) {
-            Some((word, _)) if !word.is(Sign::CloseBrace) => {
-                let (item, after) = step_inside(alloc, rest, left)?;
-                held.push(item)?;
-                rest = after;
-            }
-            _ => return Ok((held, rest)),
+        if goes_on(rest) {
+            let (item, after) = step_inside(alloc, rest, left)?;
+            held.push(item)?;
+            rest = after;
+        } else {
+            return Ok((held, rest));
         }
     }
     Ok((held, rest))

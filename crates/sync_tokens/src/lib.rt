@@ -10,3 +10,6 @@ pub use reader::{LARGEST, read_words};
 pub use signs::{SIGNS, Sign, sign_of};
 pub use strategies::{strategy_name, strategy_of};
 pub use words::{What, Word, Words};
+
+#[cfg(test)]
+mod tests;
