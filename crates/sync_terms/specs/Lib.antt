@@ -4,3 +4,4 @@ pub mod Values
 pub mod Stored
 pub mod Placed
 pub mod Kept
+pub mod Plans
