@@ -1,0 +1,148 @@
+-- A term taken apart down its first operands, and its line made again from the innermost one.
+use Rattle.std.proofs.Common.{rules, ◌≡◌, ◌≢◌, ℕ, ◌<◌, ◌≤◌, ℤ, pos, ◌+ℤ◌, ◌*ℤ◌, List, [], ◌∷◌, ◌++◌, length, refl, sym, ap, subst, ◌∙◌, arith}
+use Rattle.std.specs.Prelude.{FitsSigned}
+use Rattle.std.specs.Int.{w128}
+use Rattle.std.specs.List.{AllByRecursion}
+use Rattle.std.proofs.lemmas.Int.{ints}
+use Rattle.sync_terms.specs.declared.nodes.TermId.{TermId}
+use Rattle.sync_terms.specs.Trees.{Tree, Lit, Name, Add, Sub, Scale, Get, Has, Size, Sum, Nil, Put, Del, Bump}
+use Rattle.sync_terms.specs.Stored.{Stored, tree, IsTerm}
+use Rattle.sync_linear.specs.declared.changes.Change.{Change}
+use Rattle.sync_linear.specs.declared.changes.Change.TheVariants as change
+use Rattle.sync_linear.specs.declared.terms.Rest.{Rest}
+use Rattle.sync_linear.specs.declared.terms.Rest.TheVariants as rest
+use Rattle.sync_linear.specs.Lines.{Line, times, IsChanged, LineFits}
+use Rattle.sync_linear.specs.Forms.{constant_of, coefficient_of, weighed, IsWithin, Narrow}
+use Rattle.sync_linear.specs.Stores.{HasAtoms, IsLineOf, joined, JoinFits}
+use Rattle.sync_linear.specs.Parts.{completed, IsBelow, wrapped, IsTaken}
+use Rattle.sync_linear.proofs.Whole.{zero_fits}
+use Rattle.sync_linear.proofs.Joins.{join_line, join_fits, fits_line}
+
+wrapped_push : (s : Stored) (rs : List Rest) (r : Rest) (t : Tree) → wrapped s (rs ++ r ∷ []) t ≡ wrapped s rs (completed s r t)
+wrapped_push s [] r t = refl
+wrapped_push s (x ∷ xs) r t = ap (completed s x) (wrapped_push s xs r t)
+
+all_push : (s : Stored) (n : ℕ) (rs : List Rest) (r : Rest) → AllByRecursion (IsBelow s n) rs → IsBelow s n r → AllByRecursion (IsBelow s n) (rs ++ r ∷ [])
+all_push s n [] r h i = (i, tt)
+all_push s n (x ∷ xs) r h i = (h.0, all_push s n xs r h.1 i)
+
+pub all_front : (s : Stored) (n : ℕ) (rs : List Rest) (r : Rest) → AllByRecursion (IsBelow s n) (rs ++ r ∷ []) → AllByRecursion (IsBelow s n) rs
+all_front s n [] r h = tt
+all_front s n (x ∷ xs) r h = (h.0, all_front s n xs r h.1)
+
+pub all_last : (s : Stored) (n : ℕ) (rs : List Rest) (r : Rest) → AllByRecursion (IsBelow s n) (rs ++ r ∷ []) → IsBelow s n r
+all_last s n [] r h = h.0
+all_last s n (x ∷ xs) r h = all_last s n xs r h.1
+
+narrow_first : (s : Stored) (r : Rest) (t : Tree) → Narrow (completed s r t) → Narrow t
+narrow_first s (rest.Plus b) t h = h.1
+narrow_first s (rest.Minus b) t h = h.1
+narrow_first s (rest.Times n) t h = h.1
+
+narrow_inner : (s : Stored) (rs : List Rest) (t : Tree) → Narrow (wrapped s rs t) → Narrow t
+narrow_inner s [] t h = h
+narrow_inner s (r ∷ rs) t h = narrow_inner s rs t (narrow_first s r (wrapped s rs t) h)
+
+-- on the way down: the rests so far make the term of the one that is looked at
+pub record IsDown (s : Stored) (t : TermId) (rests : List Rest) (at : TermId) : Type 0 where
+  pub whole : wrapped s rests (tree s at) ≡ tree s t
+  pub below : AllByRecursion (IsBelow s t.0) rests
+  pub stored : IsTerm s at
+  pub earlier : at.0 ≤ t.0
+
+pub top : (s : Stored) (t : TermId) → IsTerm s t → IsDown s t [] t
+top s t p = record { whole = refl; below = tt; stored = p; earlier = omega arith }
+
+below_more : (s : Stored) (n m : ℕ) (r : Rest) → n ≤ m → IsBelow s n r → IsBelow s m r
+below_more s n m (rest.Plus b) le h = (h.0, omega (arith, h.1))
+below_more s n m (rest.Minus b) le h = (h.0, omega (arith, h.1))
+below_more s n m (rest.Times k) le h = tt
+
+pub down : (s : Stored) (t at a : TermId) (rs : List Rest) (r : Rest) → IsDown s t rs at → (tree s at ≡ completed s r (tree s a)) × IsTerm s a × (a.0 < at.0) × IsBelow s at.0 r → IsDown s t (rs ++ r ∷ []) a
+down s t at a rs r d p = record {
+  whole = wrapped_push s rs r (tree s a) ∙ ap (wrapped s rs) (sym p.0) ∙ d.whole;
+  below = all_push s t.0 rs r d.below (below_more s at.0 t.0 r d.earlier p.3);
+  stored = p.1;
+  earlier = omega (arith, p.2, d.earlier);
+}
+
+pub bottom : (s : Stored) (t at : TermId) (rs : List Rest) (line : Line) → IsDown s t rs at → IsLineOf s (tree s at) line × Narrow (tree s at) → IsTaken s t rs line
+bottom s t at rs line d p = record { inner = tree s at; whole = d.whole; below = d.below; has_line = p.0; narrow = p.1 }
+
+-- on the way up: one rest more is done
+module _ (s : Stored) (t : TermId) (rs : List Rest) (r : Rest) (line : Line) (h : IsTaken s t (rs ++ r ∷ []) line) where
+  whole_next : wrapped s rs (completed s r h.inner) ≡ tree s t
+  whole_next = sym (wrapped_push s rs r h.inner) ∙ h.whole
+
+  pub rises : (new : Line) → IsLineOf s (completed s r h.inner) new → Narrow (completed s r h.inner) → IsTaken s t rs new
+  rises new l n = record { inner = completed s r h.inner; whole = whole_next; below = all_front s t.0 rs r h.below; has_line = l; narrow = n }
+
+  pub narrow_next : Narrow (tree s t) → Narrow (completed s r h.inner)
+  narrow_next n = narrow_inner s rs (completed s r h.inner) (subst Narrow (sym whole_next) n)
+
+plus_zero : (x : ℤ) → pos 0 +ℤ x ≡ x
+plus_zero x = omega (arith, ints)
+
+pub zero_line : (s : Stored) → IsLineOf s (Lit (pos 0)) (record { constant = pos 0; atoms = [] })
+zero_line s = record { constant = refl; atoms = λ id q. refl; stored = λ id ne. absurd (ne refl); has_atoms = tt }
+
+from_zero : (s : Stored) (n : ℤ) (a : Tree) (l : Line) → IsLineOf s (Add (Lit (pos 0)) (Scale n a)) l → IsLineOf s (Scale n a) l
+from_zero s n a l h = record {
+  constant = h.constant ∙ plus_zero (n *ℤ constant_of a);
+  atoms = λ id q. h.atoms id q ∙ plus_zero (n *ℤ coefficient_of (tree s id) a);
+  stored = h.stored;
+  has_atoms = h.has_atoms.1;
+}
+
+within_zero : (n : ℤ) (a : Tree) → IsWithin (Scale n a) → IsWithin (Add (Lit (pos 0)) (Scale n a))
+within_zero n a h = record {
+  constant = subst (FitsSigned w128) (sym (plus_zero (n *ℤ constant_of a))) h.constant;
+  atoms = λ x. subst (FitsSigned w128) (sym (plus_zero (n *ℤ coefficient_of x a))) (h.atoms x);
+}
+
+pub up_plus : (s : Stored) (t b : TermId) (rs : List Rest) (line right new : Line) → IsTaken s t (rs ++ rest.Plus b ∷ []) line → IsLineOf s (tree s b) right → Narrow (tree s b)
+    → IsChanged change.Plus line right new → LineFits change.Plus line right → IsTaken s t rs new
+up_plus s t b rs line right new h l n c f =
+    rises s t rs (rest.Plus b) line h new (join_line change.Plus s h.inner (tree s b) line right new h.has_line l c)
+    (join_fits change.Plus s h.inner (tree s b) line right h.has_line l f, h.narrow, n)
+
+pub up_minus : (s : Stored) (t b : TermId) (rs : List Rest) (line right new : Line) → IsTaken s t (rs ++ rest.Minus b ∷ []) line → IsLineOf s (tree s b) right → Narrow (tree s b)
+    → IsChanged change.Minus line right new → LineFits change.Minus line right → IsTaken s t rs new
+up_minus s t b rs line right new h l n c f =
+    rises s t rs (rest.Minus b) line h new (join_line change.Minus s h.inner (tree s b) line right new h.has_line l c)
+    (join_fits change.Minus s h.inner (tree s b) line right h.has_line l f, h.narrow, n)
+
+pub up_times : (s : Stored) (t : TermId) (k : ℤ) (rs : List Rest) (line zero new : Line) → IsTaken s t (rs ++ rest.Times k ∷ []) line → zero ≡ record { constant = pos 0; atoms = [] }
+    → IsChanged (change.Times k) zero line new → LineFits (change.Times k) zero line → IsTaken s t rs new
+up_times s t k rs line zero new h e c f =
+    let z : IsLineOf s (Lit (pos 0)) zero = subst (IsLineOf s (Lit (pos 0))) (sym e) (zero_line s) in
+    rises s t rs (rest.Times k) line h new (from_zero s k h.inner new (join_line (change.Times k) s (Lit (pos 0)) h.inner zero line new z h.has_line c))
+    ((join_fits (change.Times k) s (Lit (pos 0)) h.inner zero line z h.has_line f).0, h.narrow)
+
+-- where the next line does not fit, the term is not narrow
+pub wide_plus : (s : Stored) (t b : TermId) (rs : List Rest) (line right : Line) → IsTaken s t (rs ++ rest.Plus b ∷ []) line → IsLineOf s (tree s b) right
+    → (LineFits change.Plus line right → ⊥) → Narrow (tree s t) → ⊥
+wide_plus s t b rs line right h l leaves n = leaves (fits_line change.Plus s h.inner (tree s b) line right h.has_line l (narrow_next s t rs (rest.Plus b) line h n).0)
+
+pub wide_minus : (s : Stored) (t b : TermId) (rs : List Rest) (line right : Line) → IsTaken s t (rs ++ rest.Minus b ∷ []) line → IsLineOf s (tree s b) right
+    → (LineFits change.Minus line right → ⊥) → Narrow (tree s t) → ⊥
+wide_minus s t b rs line right h l leaves n = leaves (fits_line change.Minus s h.inner (tree s b) line right h.has_line l (narrow_next s t rs (rest.Minus b) line h n).0)
+
+pub wide_times : (s : Stored) (t : TermId) (k : ℤ) (rs : List Rest) (line zero : Line) → IsTaken s t (rs ++ rest.Times k ∷ []) line → zero ≡ record { constant = pos 0; atoms = [] }
+    → (LineFits (change.Times k) zero line → ⊥) → Narrow (tree s t) → ⊥
+wide_times s t k rs line zero h e leaves n =
+    let z : IsLineOf s (Lit (pos 0)) zero = subst (IsLineOf s (Lit (pos 0))) (sym e) (zero_line s) in
+    let w = (narrow_next s t rs (rest.Times k) line h n).0 in
+    leaves (fits_line (change.Times k) s (Lit (pos 0)) h.inner zero line z h.has_line (w, within_zero k h.inner w))
+
+pub inner_plus : (s : Stored) (t b : TermId) (rs : List Rest) (line : Line) → IsTaken s t (rs ++ rest.Plus b ∷ []) line → Narrow (tree s t) → Narrow (tree s b)
+inner_plus s t b rs line h n = (narrow_next s t rs (rest.Plus b) line h n).2
+
+pub inner_minus : (s : Stored) (t b : TermId) (rs : List Rest) (line : Line) → IsTaken s t (rs ++ rest.Minus b ∷ []) line → Narrow (tree s t) → Narrow (tree s b)
+inner_minus s t b rs line h n = (narrow_next s t rs (rest.Minus b) line h n).2
+
+pub finished : (s : Stored) (t : TermId) (line : Line) → IsTaken s t [] line → IsLineOf s (tree s t) line × Narrow (tree s t)
+finished s t line h = subst (λ (x : Tree). IsLineOf s x line × Narrow x) h.whole (h.has_line, h.narrow)
+
+pub popped : (s : Stored) (t : TermId) (all rs : List Rest) (r was : Rest) (line : Line) → all ≡ rs ++ was ∷ [] → was ≡ r → IsTaken s t all line → IsTaken s t (rs ++ r ∷ []) line
+popped s t all rs r was line e f h = subst (λ (x : Rest). IsTaken s t (rs ++ x ∷ []) line) f (subst (λ (x : List Rest). IsTaken s t x line) e h)

@@ -1,0 +1,5 @@
+pub mod Changes
+pub mod Lines
+pub mod Forms
+pub mod Stores
+pub mod Parts

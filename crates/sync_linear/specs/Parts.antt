@@ -1,0 +1,42 @@
+-- A term taken apart down its first operands.
+use Rattle.std.specs.Prelude.{◌≡◌, ℕ, ◌<◌, List, [], ◌∷◌, length}
+use Rattle.std.specs.List.{AllByRecursion}
+use Rattle.sync_terms.specs.declared.nodes.TermId.{TermId}
+use Rattle.sync_terms.specs.Trees.{Tree, Add, Sub, Scale}
+use Rattle.sync_terms.specs.Stored.{Stored, tree, IsTerm}
+use Rattle.sync_linear.specs.declared.terms.Rest.{Rest}
+use Rattle.sync_linear.specs.declared.terms.Rest.TheVariants.{Plus, Minus, Times}
+use Rattle.sync_linear.specs.declared.terms.Part.{Part}
+use Rattle.sync_linear.specs.declared.terms.Part.TheVariants.{Under, Alone}
+use Rattle.sync_linear.specs.Lines.{Line}
+use Rattle.sync_linear.specs.Forms.{Narrow}
+use Rattle.sync_linear.specs.Stores.{IsLineOf}
+
+-- the term that the rest makes of a first operand
+abbrev pub completed : Stored → Rest → Tree → Tree
+completed s (Plus b) a = Add a (tree s b)
+completed s (Minus b) a = Sub a (tree s b)
+completed s (Times n) a = Scale n a
+
+-- its other operand is stored, before this id
+abbrev pub IsBelow : Stored → ℕ → Rest → Type 0
+IsBelow s id (Plus b) = IsTerm s b × (b.0 < id)
+IsBelow s id (Minus b) = IsTerm s b × (b.0 < id)
+IsBelow s id (Times n) = Unit {0}
+
+abbrev pub IsPartOf : Stored → TermId → Part → Type 0
+IsPartOf s t (Under rest a) = (tree s t ≡ completed s rest (tree s a)) × IsTerm s a × (a.0 < t.0) × IsBelow s t.0 rest
+IsPartOf s t (Alone line) = IsLineOf s (tree s t) line × Narrow (tree s t)
+
+-- the term that the rests make of an innermost one, the outermost rest first
+abbrev pub wrapped : Stored → List Rest → Tree → Tree
+wrapped s [] t = t
+wrapped s (r ∷ rs) t = completed s r (wrapped s rs t)
+
+-- the rests make the stored term of an inner one, of which this is the line
+pub record IsTaken (s : Stored) (t : TermId) (rests : List Rest) (line : Line) : Type 0 where
+  pub inner : Tree
+  pub whole : wrapped s rests inner ≡ tree s t
+  pub below : AllByRecursion (IsBelow s t.0) rests
+  pub has_line : IsLineOf s inner line
+  pub narrow : Narrow inner
