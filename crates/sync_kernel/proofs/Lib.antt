@@ -1,0 +1,6 @@
+pub mod Atoms
+pub mod Sound
+pub mod LineRows
+pub mod Parts
+pub mod Closing
+pub mod Names

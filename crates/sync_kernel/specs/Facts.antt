@@ -1,0 +1,47 @@
+-- What a proof step may use: the hypotheses of a sequent and the negation of its claim, newest last.
+use Rattle.std.specs.Prelude.{ℕ, Bool, true, false, nat_eq, List, [], ◌∷◌, ◌++◌, map, Option, Some, None, if◌then◌else◌}
+use Rattle.sync_base.specs.Outcome.{first}
+use Rattle.sync_terms.specs.declared.nodes.Sym.{Sym}
+use Rattle.sync_terms.specs.declared.nodes.FormId.{FormId}
+use Rattle.sync_terms.specs.declared.scripts.HypName.{HypName}
+use Rattle.sync_terms.specs.declared.scripts.HypName.TheVariants.{Label, Denied, At, Low, High}
+use Rattle.sync_terms.specs.Trees.{Formula, neg}
+use Rattle.sync_terms.specs.Values.{Given}
+use Rattle.sync_terms.specs.Stored.{Stored, formula}
+use Rattle.sync_kernel.specs.declared.sequents.Hyp.{Hyp}
+use Rattle.sync_kernel.specs.declared.sequents.Sequent.{Sequent}
+
+pub record Fact : Type 0 where
+  pub name : HypName
+  pub params : List ℕ
+  pub form : Formula
+
+abbrev pub same_name : HypName → HypName → Bool
+same_name (Label m) (Label n) = nat_eq m n
+same_name Denied Denied = true
+same_name (At m) (At n) = nat_eq m n
+same_name (Low m) (Low n) = nat_eq m n
+same_name (High m) (High n) = nat_eq m n
+same_name _ _ = false
+
+-- the newest fact of a name
+abbrev pub newest : HypName → List Fact → Option Fact
+newest name [] = None
+newest name (f ∷ fs) = first (newest name fs) (if same_name f.name name then Some f else None)
+
+abbrev pub fact_of : Stored → Hyp → Fact
+fact_of s h = record { name = h.name; params = map (λ (p : Sym). p.0) h.params; form = formula s h.form }
+
+-- the negation of the claim, under its own name
+abbrev pub denied : Stored → FormId → Fact
+denied s claim = record { name = Denied; params = []; form = neg (formula s claim) }
+
+abbrev pub facts : Stored → Sequent → List Fact
+facts s q = map (fact_of s) q.hyps ++ denied s q.claim ∷ []
+
+abbrev pub given : Fact → Given
+given f = record { params = f.params; form = f.form }
+
+-- the hypotheses of a sequent
+abbrev pub givens : Stored → Sequent → List Given
+givens s q = map (λ (h : Hyp). given (fact_of s h)) q.hyps

@@ -1,0 +1,5 @@
+pub mod Facts
+pub mod Rows
+pub mod Steps
+pub mod Shapes
+pub mod Holding

@@ -1,0 +1,10 @@
+//! The proof kernel: it checks that the script of a sequent proves it.
+#![tactic(auto)]
+
+mod held;
+mod rows;
+mod sequents;
+mod sums;
+
+pub use sequents::{Hyp, Sequent};
+pub use sync_terms::{Block, HypName, Part, Script, ScriptStep, StepKind};
