@@ -35,21 +35,21 @@ nonempty s sum l e es is i same none =
     let st : IsTerm s t = i.stored e.0 (λ z. ne (sym here ∙ z)) in
     ne (sym here ∙ i.atoms t st ∙ no_atom_is sum none (one_at (tree s t)))
 
-is_empty : (s : Stored) (sum : Tree) (l : Line) (es : Atoms) → IsLine l → IsLineOf s sum l → l.atoms ≡ es → no_atom sum ≡ true → l.atoms ≡ []
+pub is_empty : (s : Stored) (sum : Tree) (l : Line) (es : Atoms) → IsLine l → IsLineOf s sum l → l.atoms ≡ es → no_atom sum ≡ true → l.atoms ≡ []
 is_empty s sum l [] is i e none = e
 is_empty s sum l (x ∷ xs) is i e none = absurd (nonempty s sum l x xs is i e none)
 
 differ : true ≡ false → ⊥
 differ h = cc
 
-above : (c : ℤ) → int_lt (pos 0) c ≡ true → pos 0 <ℤ c
+pub above : (c : ℤ) → int_lt (pos 0) c ≡ true → pos 0 <ℤ c
 above c h = grind (arith, ints)
 
 or_false : (b : Bool) → (b || false) ≡ b
 or_false true = refl
 or_false false = refl
 
-shown : (c : ℤ) → pos 0 <ℤ c → (int_lt (pos 0) c ≡ true) × (int_eq c (pos 0) ≡ false)
+pub shown : (c : ℤ) → pos 0 <ℤ c → (int_lt (pos 0) c ≡ true) × (int_eq c (pos 0) ≡ false)
 shown c h = (grind (arith, ints), false_from_ne_true (int_eq c (pos 0)) (λ e. let z : c ≡ pos 0 = (Decides-int_eq c (pos 0)).0 e in absurd (omega (arith, ints))))
 
 and_or : (n b d x y : Bool) → n ≡ true → b ≡ true → d ≡ false → (n && ((b && x) || (d && y))) ≡ x

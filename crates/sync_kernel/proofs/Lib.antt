@@ -4,3 +4,5 @@ pub mod LineRows
 pub mod Parts
 pub mod Closing
 pub mod Names
+pub mod Opposing
+pub mod SameSteps

@@ -56,7 +56,7 @@ is_lt a b h = grind (arith, ints)
 is_eq : (a b : ℤ) → int_eq a b ≡ true → a -ℤ b ≡ pos 0
 is_eq a b h = let e = (Decides-int_eq a b).0 h in omega (arith, ints, e)
 
-not_true : (b : Bool) → not b ≡ true → b ≡ true → ⊥
+pub not_true : (b : Bool) → not b ≡ true → b ≡ true → ⊥
 not_true true h e = absurd (cc)
 not_true false h e = absurd (cc)
 
@@ -287,3 +287,19 @@ valid_from s q h = λ v hyps. elim (cases_Bool (truth v (formula s q.claim))) [
 
 pub sum_valid : (s : Stored) (q : Sequent) (parts : List Part) → sum_fault (facts s q) parts ≡ None → IsValid (givens s q) (formula s q.claim)
 sum_valid s q parts h = valid_from s q (λ v hold. sum_refutes v (facts s q) hold parts h)
+
+-- ---- false lines
+kind_refutes : (k : Kind) (z : ℤ) → Says k z → is_false k z ≡ true → ⊥
+kind_refutes AtMostZero z s h = not_above z z s refl h
+kind_refutes Zero z s h = not_true (int_eq z (pos 0)) h ((Decides-int_eq z (pos 0)).1 s)
+kind_refutes NotZero z s h = s ((Decides-int_eq z (pos 0)).0 h)
+
+row_refutes : (v : Valuation) (o : Option Row) → SaysRow v o → is_false_row o ≡ true → ⊥
+row_refutes v None s h = absurd (cc)
+row_refutes v (Some r) s h =
+    let p = and_parts (narrow r.line) (no_atom r.line && is_false r.kind (constant_of r.line)) h in
+    let q = and_parts (no_atom r.line) (is_false r.kind (constant_of r.line)) p.1 in
+    kind_refutes r.kind (constant_of r.line) (subst (λ (z : ℤ). Says r.kind z) (constant_value v r.line q.0) s) q.1
+
+pub false_row_refutes : (v : Valuation) (f : Formula) → truth v f ≡ true → is_false_row (row_of f) ≡ true → ⊥
+false_row_refutes v f t h = row_refutes v (row_of f) (says v f t) h

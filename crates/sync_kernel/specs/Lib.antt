@@ -3,3 +3,4 @@ pub mod Rows
 pub mod Steps
 pub mod Shapes
 pub mod Holding
+pub mod Opposed

@@ -3,6 +3,7 @@
 
 mod held;
 mod rows;
+mod sames;
 mod sequents;
 mod sums;
 

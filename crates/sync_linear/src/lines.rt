@@ -95,6 +95,14 @@ impl Linear {
         })
     }
 
+    /// Whether no atom stands here.
+    pub fn is_number(&self) -> bool
+        ensures exact { IsTrue result ↔ (self.now.atoms ≡ []) }
+        ensures line { IsLine self.now }
+    {
+        self.atoms.is_empty()
+    }
+
     /// Whether no atom stands here and the constant is above 0.
     pub fn shows(&self) -> bool
         ensures exact { IsTrue result ↔ ((self.now.atoms ≡ []) × (pos 0 <ℤ self.now.constant)) }
