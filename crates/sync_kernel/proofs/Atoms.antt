@@ -70,9 +70,18 @@ taken a b k m n = let back : (m -ℤ n) +ℤ n ≡ m = omega (arith, ints) in
 -- products may be taken in another order
 swapped : (c k m : ℤ) → c *ℤ (k *ℤ m) ≡ k *ℤ (c *ℤ m)
 swapped c k m =
-    omega (arith, ints,
-      ap (λ (n : ℕ). up c * n) (product_is k m).0, ap (λ (n : ℕ). down c * n) (product_is k m).0, ap (λ (n : ℕ). up c * n) (product_is k m).1, ap (λ (n : ℕ). down c * n) (product_is k m).1,
-      ap (λ (n : ℕ). up k * n) (product_is c m).0, ap (λ (n : ℕ). down k * n) (product_is c m).0, ap (λ (n : ℕ). up k * n) (product_is c m).1, ap (λ (n : ℕ). down k * n) (product_is c m).1)
+    omega (
+      arith,
+      ints,
+      ap (λ (n : ℕ). up c * n) (product_is k m).0,
+      ap (λ (n : ℕ). down c * n) (product_is k m).0,
+      ap (λ (n : ℕ). up c * n) (product_is k m).1,
+      ap (λ (n : ℕ). down c * n) (product_is k m).1,
+      ap (λ (n : ℕ). up k * n) (product_is c m).0,
+      ap (λ (n : ℕ). down k * n) (product_is c m).0,
+      ap (λ (n : ℕ). up k * n) (product_is c m).1,
+      ap (λ (n : ℕ). down k * n) (product_is c m).1,
+    )
 
 scaled : (c a k m : ℤ) → c *ℤ (a +ℤ (k *ℤ m)) ≡ (c *ℤ a) +ℤ (k *ℤ (c *ℤ m))
 scaled c a k m = distributes c a (k *ℤ m) ∙ ap (λ (z : ℤ). (c *ℤ a) +ℤ z) (swapped c k m)
@@ -132,16 +141,18 @@ inside : (ts : List Tree) (w : Tree → ℤ) (x : Tree) → member x ts ≡ true
 unfolding limited
 inside [] w x h = absurd (cc)
 inside (a ∷ ts) w x h = elim (cases_tree a x) [
-    inl e ↦ (let here : one_at a x ≡ pos 1 = subst (λ (y : Tree). one_at a y ≡ pos 1) e (one_here a) in
-             ap (λ (z : ℤ). limited ts w x +ℤ ((if member a ts then pos 0 else w a) *ℤ z)) here
-             ∙ elim (cases_Bool (member a ts)) [
-                 inl m ↦ ap (λ (b : Bool). limited ts w x +ℤ ((if b then pos 0 else w a) *ℤ pos 1)) m ∙ zero_plus (limited ts w x) ∙ inside ts w x (subst (λ (y : Tree). member y ts ≡ true) e m)
-               | inr m ↦ ap (λ (b : Bool). limited ts w x +ℤ ((if b then pos 0 else w a) *ℤ pos 1)) m
-                   ∙ ap (λ (z : ℤ). z +ℤ (w a *ℤ pos 1)) (outside ts w x (subst (λ (y : Tree). member y ts ≡ false) e m)) ∙ plus_zero (w a *ℤ pos 1) ∙ times_one (w a) ∙ ap w e ])
+  | inl e ↦ (let here : one_at a x ≡ pos 1 = subst (λ (y : Tree). one_at a y ≡ pos 1) e (one_here a) in
+      ap (λ (z : ℤ). limited ts w x +ℤ ((if member a ts then pos 0 else w a) *ℤ z)) here
+      ∙ elim (cases_Bool (member a ts)) [
+        | inl m ↦ ap (λ (b : Bool). limited ts w x +ℤ ((if b then pos 0 else w a) *ℤ pos 1)) m ∙ zero_plus (limited ts w x) ∙ inside ts w x (subst (λ (y : Tree). member y ts ≡ true) e m)
+        | inr m ↦ ap (λ (b : Bool). limited ts w x +ℤ ((if b then pos 0 else w a) *ℤ pos 1)) m
+            ∙ ap (λ (z : ℤ). z +ℤ (w a *ℤ pos 1)) (outside ts w x (subst (λ (y : Tree). member y ts ≡ false) e m)) ∙ plus_zero (w a *ℤ pos 1) ∙ times_one (w a) ∙ ap w e
+      ])
   | inr ne ↦ (let zero = none_there a x ne in
-              let m : member x ts ≡ true = elim (or_cases (tree_eq a x) (member x ts) h) [ inl e ↦ absurd (ne (same_tree a x e)) | inr m ↦ m ] in
-              ap (λ (z : ℤ). limited ts w x +ℤ ((if member a ts then pos 0 else w a) *ℤ z)) zero
-              ∙ ap (λ (z : ℤ). limited ts w x +ℤ z) (times_zero (if member a ts then pos 0 else w a)) ∙ zero_plus (limited ts w x) ∙ inside ts w x m) ]
+      let m : member x ts ≡ true = elim (or_cases (tree_eq a x) (member x ts) h) [ inl e ↦ absurd (ne (same_tree a x e)) | inr m ↦ m ] in
+      ap (λ (z : ℤ). limited ts w x +ℤ ((if member a ts then pos 0 else w a) *ℤ z)) zero
+      ∙ ap (λ (z : ℤ). limited ts w x +ℤ z) (times_zero (if member a ts then pos 0 else w a)) ∙ zero_plus (limited ts w x) ∙ inside ts w x m)
+]
 
 none_of : (ts : List Tree) (w : Tree → ℤ) (t : Tree) → AllByRecursion (λ a. coefficient_of a t ≡ pos 0) ts → weighed (limited ts w) t ≡ pos 0
 unfolding limited
@@ -196,14 +207,15 @@ within_is t h =
     record {
       constant = fits_is (constant_of t) p.0;
       atoms = λ a. elim (cases_Bool (member a (atoms_of t))) [
-          inl m ↦ fits_is (coefficient_of a t) (at_member (λ x. fits (coefficient_of x t)) a (atoms_of t) p.1 m)
-        | inr m ↦ fits_is (coefficient_of a t) (ap fits (absent a t m)) ]
+        | inl m ↦ fits_is (coefficient_of a t) (at_member (λ x. fits (coefficient_of x t)) a (atoms_of t) p.1 m)
+        | inr m ↦ fits_is (coefficient_of a t) (ap fits (absent a t m))
+      ];
     }
 
 pub is_within : (t : Tree) → IsWithin t → within t ≡ true
 is_within t h =
     and_from (fits (constant_of t)) (list_all (λ a. fits (coefficient_of a t)) (atoms_of t)) (is_fits (constant_of t) h.constant)
-      (all_from (λ a. fits (coefficient_of a t)) (atoms_of t) (λ a. is_fits (coefficient_of a t) (h.atoms a)))
+    (all_from (λ a. fits (coefficient_of a t)) (atoms_of t) (λ a. is_fits (coefficient_of a t) (h.atoms a)))
 
 pub narrow_is : (t : Tree) → narrow t ≡ true → Narrow t
 narrow_is (Add a b) h = let p = and_parts (within (Add a b)) (narrow a && narrow b) h in let q = and_parts (narrow a) (narrow b) p.1 in (within_is (Add a b) p.0, narrow_is a q.0, narrow_is b q.1)

@@ -23,8 +23,9 @@ use Rattle.sync_kernel.proofs.Atoms.{no_atom_is, is_no_atom}
 
 pub empty_is : (s : Stored) (sum : Tree) (l : Line) → IsLineOf s sum l → l.atoms ≡ [] → no_atom sum ≡ true
 empty_is s sum l i e = is_no_atom sum (λ a. elim (none_or_stored s a sum i.has_atoms) [
-    inl z ↦ z
-  | inr h ↦ subst (λ (x : Tree). coefficient_of x sum ≡ pos 0) h.2 (sym (i.atoms h.0 h.1) ∙ ap (λ (es : Atoms). times es h.0.0) e) ])
+  | inl z ↦ z
+  | inr h ↦ subst (λ (x : Tree). coefficient_of x sum ≡ pos 0) h.2 (sym (i.atoms h.0 h.1) ∙ ap (λ (es : Atoms). times es h.0.0) e)
+])
 
 nonempty : (s : Stored) (sum : Tree) (l : Line) (e : ℕ × ℤ) (es : Atoms) → IsLine l → IsLineOf s sum l → l.atoms ≡ e ∷ es → no_atom sum ≡ true → ⊥
 nonempty s sum l e es is i same none =
@@ -79,11 +80,12 @@ pub closes_zero : (s : Stored) (sum : Tree) (used : List Used) (l : Line) (b : B
 closes_zero s sum used l b i h e =
     let z : constant_of sum ≡ pos 0 = sym i.constant ∙ h.1 in
     e ∙ sym (or_and (no_atom sum) (int_lt (pos 0) (constant_of sum)) (int_eq (constant_of sum) (pos 0)) (list_all (λ (u : Used). is_bound u.kind) used) (one_apart used) (empty_is s sum l i h.0)
-      (ap (int_lt (pos 0)) z) ((Decides-int_eq (constant_of sum) (pos 0)).1 z))
+    (ap (int_lt (pos 0)) z) ((Decides-int_eq (constant_of sum) (pos 0)).1 z))
 
 pub closes_not : (s : Stored) (sum : Tree) (used : List Used) (l : Line) → IsLine l → IsLineOf s sum l → ((l.atoms ≡ []) × (pos 0 <ℤ l.constant) → ⊥) → ((l.atoms ≡ []) × (l.constant ≡ pos 0) → ⊥) → false ≡ closes used sum
 closes_not s sum used l is i f g =
     sym (neither (no_atom sum) (int_lt (pos 0) (constant_of sum)) (int_eq (constant_of sum) (pos 0)) (list_all (λ (u : Used). is_bound u.kind) used) (one_apart used)
-      (λ none. (let empty = is_empty s sum l l.atoms is i refl none in
-        (false_from_ne_true (int_lt (pos 0) (constant_of sum)) (λ e. f (empty, subst (λ (z : ℤ). pos 0 <ℤ z) (sym i.constant) (above (constant_of sum) e))),
-         false_from_ne_true (int_eq (constant_of sum) (pos 0)) (λ e. g (empty, i.constant ∙ (Decides-int_eq (constant_of sum) (pos 0)).0 e))))))
+    (λ none. (let empty = is_empty s sum l l.atoms is i refl none in (
+      false_from_ne_true (int_lt (pos 0) (constant_of sum)) (λ e. f (empty, subst (λ (z : ℤ). pos 0 <ℤ z) (sym i.constant) (above (constant_of sum) e))),
+      false_from_ne_true (int_eq (constant_of sum) (pos 0)) (λ e. g (empty, i.constant ∙ (Decides-int_eq (constant_of sum) (pos 0)).0 e)),
+    ))))

@@ -6,3 +6,4 @@ pub mod Closing
 pub mod Names
 pub mod Opposing
 pub mod SameSteps
+pub mod Planned

@@ -38,7 +38,7 @@ NegIs s n = row_of_not (form_shape s n) ≡ row_of (neg (form_shape s n))
 
 pub negated : (s : Stored) (n : FormNode)
     → ((a : TermId) × (b : TermId) × (n ≡ form.Le a b)) ⊎ (((a : TermId) × (b : TermId) × (n ≡ form.Lt a b)) ⊎ (((a : TermId) × (b : TermId) × (n ≡ form.Eq a b))
-      ⊎ (((a : FormId) × (b : FormId) × (n ≡ form.And a b)) ⊎ (((a : FormId) × (b : FormId) × (n ≡ form.Or a b)) ⊎ ((a : FormId) × (b : FormId) × (n ≡ form.Imp a b))))))
+    ⊎ (((a : FormId) × (b : FormId) × (n ≡ form.And a b)) ⊎ (((a : FormId) × (b : FormId) × (n ≡ form.Or a b)) ⊎ ((a : FormId) × (b : FormId) × (n ≡ form.Imp a b))))))
     → NegIs s n
 unfolding form_shape
 negated s n (inl h) = subst (NegIs s) (sym h.2) refl

@@ -63,7 +63,7 @@ pub hold_more : (s : Stored) (fs : List Fact) (f : Fact) (h : Held) (old new : H
     → ((n : HypName) → new n ≡ cond (equal_names f.name n) (Some h) (old n)) → (n : HypName) → IsHeld s (new n) (newest n (fs ++ f ∷ []))
 hold_more s fs f h old new was is e n =
     subst (λ (o : Option Held). IsHeld s o (newest n (fs ++ f ∷ []))) (sym (e n ∙ ap (λ (b : Bool). if b then Some h else old n) (names_equal f.name n)))
-      (subst (λ (o : Option Fact). IsHeld s (if same_name f.name n then Some h else old n) o) (sym (newest_push n fs f)) (either s (same_name f.name n) h f (old n) (newest n fs) is (was n)))
+    (subst (λ (o : Option Fact). IsHeld s (if same_name f.name n then Some h else old n) o) (sym (newest_push n fs f)) (either s (same_name f.name n) h f (old n) (newest n fs) is (was n)))
 
 pub taken_more : (s : Stored) (hyps : List Hyp) (i : ℕ) (h : Hyp) → i < length hyps → h ≡ get_or hyps i h → map (fact_of s) (take i hyps) ++ fact_of s h ∷ [] ≡ map (fact_of s) (take (i + 1) hyps)
 taken_more s hyps i h lt e =

@@ -65,8 +65,9 @@ any_from test f (x ∷ xs) (inr m) t = or_right (test x) (list_any test xs) (any
 any_to : (test : Fact → Bool) (fs : List Fact) → list_any test fs ≡ true → (f : Fact) × Among f fs × (test f ≡ true)
 any_to test [] h = absurd (cc)
 any_to test (x ∷ xs) h = elim (or_cases (test x) (list_any test xs) h) [
-    inl e ↦ (x, inl refl, e)
-  | inr r ↦ (let p = any_to test xs r in (p.0, inr p.1, p.2)) ]
+  | inl e ↦ (x, inl refl, e)
+  | inr r ↦ (let p = any_to test xs r in (p.0, inr p.1, p.2))
+]
 
 holds_among : (v : Valuation) (f : Fact) (fs : List Fact) → AllHold v fs → Among f fs → is_plain f ≡ true → Holds v f.form
 holds_among v f [] h m p = absurd m
@@ -84,12 +85,13 @@ refuted v fs hold h =
     let p = and_parts (is_plain f) (is_opposed fs f || is_false_row (row_of f.form)) a.2 in
     let true_f = holds_among v f fs hold a.1 p.0 in
     elim (or_cases (is_opposed fs f) (is_false_row (row_of f.form)) p.1) [
-      inl o ↦ (let b = any_to (λ (g : Fact). is_plain g && formula_eq g.form (neg f.form)) fs o in
-               let q = and_parts (is_plain b.0) (formula_eq b.0.form (neg f.form)) b.2 in
-               let true_g = holds_among v b.0 fs hold b.1 q.0 in
-               let other : truth v (neg f.form) ≡ true = subst (λ (x : Formula). truth v x ≡ true) (same_formula b.0.form (neg f.form) q.1) true_g in
-               not_true (truth v f.form) (sym (truth_neg v f.form) ∙ other) true_f)
-    | inr r ↦ false_row_refutes v f.form true_f r ]
+      | inl o ↦ (let b = any_to (λ (g : Fact). is_plain g && formula_eq g.form (neg f.form)) fs o in
+          let q = and_parts (is_plain b.0) (formula_eq b.0.form (neg f.form)) b.2 in
+          let true_g = holds_among v b.0 fs hold b.1 q.0 in
+          let other : truth v (neg f.form) ≡ true = subst (λ (x : Formula). truth v x ≡ true) (same_formula b.0.form (neg f.form) q.1) true_g in
+          not_true (truth v f.form) (sym (truth_neg v f.form) ∙ other) true_f)
+      | inr r ↦ false_row_refutes v f.form true_f r
+    ]
 
 none_of : (b : Bool) → (if b then None else Some K4) ≡ None → b ≡ true
 none_of true h = refl
@@ -114,7 +116,7 @@ opposes fs f h = opposes_form fs f.form h
 undone_by : (fs : List Fact) (f g : Fact) → Among g fs → is_plain g ≡ true → f.form ≡ Not g.form → is_undone fs f.form ≡ true
 undone_by fs f g m p e =
     subst (λ (x : Formula). is_undone fs x ≡ true) (sym e)
-      (any_from (λ (x : Fact). is_plain x && formula_eq x.form g.form) g fs m (and_from (is_plain g) (formula_eq g.form g.form) p (formula_is g.form)))
+    (any_from (λ (x : Fact). is_plain x && formula_eq x.form g.form) g fs m (and_from (is_plain g) (formula_eq g.form g.form) p (formula_is g.form)))
 
 either_form : (f g : Formula) → g ≡ neg f → (f ≡ Not g) ⊎ (g ≡ Not f)
 either_form (Le a b) g e = inr e
@@ -131,14 +133,16 @@ to_undone fs h =
     let f = a.0 in
     let p = and_parts (is_plain f) (is_opposed fs f || is_false_row (row_of f.form)) a.2 in
     elim (or_cases (is_opposed fs f) (is_false_row (row_of f.form)) p.1) [
-      inl o ↦ (let b = any_to (λ (g : Fact). is_plain g && formula_eq g.form (neg f.form)) fs o in
-               let q = and_parts (is_plain b.0) (formula_eq b.0.form (neg f.form)) b.2 in
-               elim (either_form f.form b.0.form (same_formula b.0.form (neg f.form) q.1)) [
-                 inl e ↦ any_from (closes_same fs) f fs a.1 (and_from (is_plain f) (is_undone fs f.form || is_false_row (row_of f.form)) p.0
-                           (or_left (is_undone fs f.form) (is_false_row (row_of f.form)) (undone_by fs f b.0 b.1 q.0 e)))
-               | inr e ↦ any_from (closes_same fs) b.0 fs b.1 (and_from (is_plain b.0) (is_undone fs b.0.form || is_false_row (row_of b.0.form)) q.0
-                           (or_left (is_undone fs b.0.form) (is_false_row (row_of b.0.form)) (undone_by fs b.0 f a.1 p.0 e))) ])
-    | inr r ↦ any_from (closes_same fs) f fs a.1 (and_from (is_plain f) (is_undone fs f.form || is_false_row (row_of f.form)) p.0 (or_right (is_undone fs f.form) (is_false_row (row_of f.form)) r)) ]
+      | inl o ↦ (let b = any_to (λ (g : Fact). is_plain g && formula_eq g.form (neg f.form)) fs o in
+          let q = and_parts (is_plain b.0) (formula_eq b.0.form (neg f.form)) b.2 in
+          elim (either_form f.form b.0.form (same_formula b.0.form (neg f.form) q.1)) [
+            | inl e ↦ any_from (closes_same fs) f fs a.1 (and_from (is_plain f) (is_undone fs f.form || is_false_row (row_of f.form)) p.0
+                (or_left (is_undone fs f.form) (is_false_row (row_of f.form)) (undone_by fs f b.0 b.1 q.0 e)))
+            | inr e ↦ any_from (closes_same fs) b.0 fs b.1 (and_from (is_plain b.0) (is_undone fs b.0.form || is_false_row (row_of b.0.form)) q.0
+                (or_left (is_undone fs b.0.form) (is_false_row (row_of b.0.form)) (undone_by fs b.0 f a.1 p.0 e)))
+          ])
+      | inr r ↦ any_from (closes_same fs) f fs a.1 (and_from (is_plain f) (is_undone fs f.form || is_false_row (row_of f.form)) p.0 (or_right (is_undone fs f.form) (is_false_row (row_of f.form)) r))
+    ]
 
 from_undone : (fs : List Fact) → list_any (closes_same fs) fs ≡ true → list_any (full fs) fs ≡ true
 from_undone fs h =
@@ -146,9 +150,10 @@ from_undone fs h =
     let f = a.0 in
     let p = and_parts (is_plain f) (is_undone fs f.form || is_false_row (row_of f.form)) a.2 in
     any_from (full fs) f fs a.1 (and_from (is_plain f) (is_opposed fs f || is_false_row (row_of f.form)) p.0
-      (elim (or_cases (is_undone fs f.form) (is_false_row (row_of f.form)) p.1) [
-        inl u ↦ or_left (is_opposed fs f) (is_false_row (row_of f.form)) (opposes fs f u)
-      | inr r ↦ or_right (is_opposed fs f) (is_false_row (row_of f.form)) r ]))
+    (elim (or_cases (is_undone fs f.form) (is_false_row (row_of f.form)) p.1) [
+      | inl u ↦ or_left (is_opposed fs f) (is_false_row (row_of f.form)) (opposes fs f u)
+      | inr r ↦ or_right (is_opposed fs f) (is_false_row (row_of f.form)) r
+    ]))
 
 pub same_test : (fs : List Fact) → list_any (closes_same fs) fs ≡ list_any (full fs) fs
 same_test fs = same_bool (list_any (closes_same fs) fs) (list_any (full fs) fs) (from_undone fs) (to_undone fs)
@@ -173,8 +178,8 @@ known : (s : Stored) (hyps : List Hyp) (g : FormId) → IsShared s → AreForms 
 known s [] g shared all q = refl
 known s (h ∷ hs) g shared all q =
     two_or (is_bare h.params && nat_eq h.form.0 g.0) (has_form hs g.0) (is_plain (fact_of s h) && formula_eq (formula s h.form) (formula s g)) (is_fact (map (fact_of s) hs) (formula s g))
-      (two_and (is_bare h.params) (nat_eq h.form.0 g.0) (no_params (map (λ (p : Sym). p.0) h.params)) (formula_eq (formula s h.form) (formula s g)) (bare_is h.params) (ids_tell s h.form g shared all.0 q))
-      (known s hs g shared all.1 q)
+    (two_and (is_bare h.params) (nat_eq h.form.0 g.0) (no_params (map (λ (p : Sym). p.0) h.params)) (formula_eq (formula s h.form) (formula s g)) (bare_is h.params) (ids_tell s h.form g shared all.0 q))
+    (known s hs g shared all.1 q)
 
 or_nothing : (b : Bool) → (b || false) ≡ b
 or_nothing true = refl

@@ -64,7 +64,7 @@ wide s line r sum p linear.Memory answer e w t = subst (λ (x : Stop). StepGives
 wide s line r sum p linear.Width answer e w t =
     let f : fits_in sum p.times r.line ≡ false = false_from_ne_true (fits_in sum p.times r.line) (w refl) in
     subst (λ (x : Stop). StepGives s line (Err x) (with_row (Some r) sum p)) (sym e)
-      (subst (λ (x : Result Next Rule). StepGives s line (Err (stop_of line linear.Width)) x) (sym (fitted r sum p false t f)) refl)
+    (subst (λ (x : Result Next Rule). StepGives s line (Err (stop_of line linear.Width)) x) (sym (fitted r sum p false t f)) refl)
 
 pub line_stops : (s : Stored) (line : ℕ) (r : Row) (sum : Tree) (p : Part) (stop : LinearStop) (answer : Stop) → answer ≡ stop_of line stop → (stop ≡ linear.Width → Narrow r.line → ⊥)
     → is_turned r.kind p.times ≡ false → StepGives s line (Err answer) (with_row (Some r) sum p)
@@ -82,8 +82,8 @@ pub sum_goes : (s : Stored) (line : ℕ) (r : Row) (sum : Tree) (p : Part) (x : 
 sum_goes s line r sum p x total row i j n c f u t =
     let w = join_fits (change.Times p.times) s sum r.line total row i j f in
     let b : fits_in sum p.times r.line ≡ true =
-        and_from (narrow r.line) (within (Scale p.times r.line) && within (Add sum (Scale p.times r.line))) (is_narrow r.line n)
-          (and_from (within (Scale p.times r.line)) (within (Add sum (Scale p.times r.line))) (is_within (Scale p.times r.line) w.0) (is_within (Add sum (Scale p.times r.line)) w.1)) in
+    and_from (narrow r.line) (within (Scale p.times r.line) && within (Add sum (Scale p.times r.line))) (is_narrow r.line n)
+    (and_from (within (Scale p.times r.line)) (within (Add sum (Scale p.times r.line))) (is_within (Scale p.times r.line) w.0) (is_within (Add sum (Scale p.times r.line)) w.1)) in
     subst (λ (y : Result Next Rule). StepGives s line (Ok x) y) (sym (fitted r sum p true t b)) (join_line (change.Times p.times) s sum r.line total row x.total i j c, u)
 
 pub as_part : (s : Stored) (line : ℕ) (r : Result Summed Stop) (x y : Result Next Rule) → x ≡ y → StepGives s line r y → StepGives s line r x
@@ -108,7 +108,7 @@ pub begins : (s : Stored) (fs : List Fact) (parts : List Part) (used : List Used
 begins s fs parts used total e f = record {
   sum = Lit (pos 0);
   has_line = subst (IsLineOf s (Lit (pos 0))) (sym f) (zero_line s);
-  same = ap (λ (u : List Used). added fs (Lit (pos 0)) u parts) e
+  same = ap (λ (u : List Used). added fs (Lit (pos 0)) u parts) e;
 }
 
 module _ (s : Stored) (line : ℕ) (fs : List Fact) (parts rest : List Part) (used : List Used) (total : Line) (p : Part) (h : Summing s fs parts (p ∷ rest) used total) where
@@ -127,7 +127,7 @@ module _ (s : Stored) (line : ℕ) (fs : List Fact) (parts rest : List Part) (us
   goes_with x (Ok n) e g = record {
     sum = n.sum;
     has_line = g.0;
-    same = ap (λ (u : Used). added fs n.sum (used ++ u ∷ []) rest) g.1 ∙ after (Ok n) e
+    same = ap (λ (u : Used). added fs n.sum (used ++ u ∷ []) rest) g.1 ∙ after (Ok n) e;
   }
   goes_with x (Err r) e g = absurd g
 

@@ -97,7 +97,7 @@ not_form s f was inner e g = sym e ∙ ap (form_shape s) g
 abbrev pub Other : FormNode → Type 0
 Other n =
     ((a : TermId) × (b : TermId) × (n ≡ form.Le a b)) ⊎ (((a : TermId) × (b : TermId) × (n ≡ form.Lt a b)) ⊎ (((a : TermId) × (b : TermId) × (n ≡ form.Eq a b))
-      ⊎ (((a : FormId) × (b : FormId) × (n ≡ form.And a b)) ⊎ (((a : FormId) × (b : FormId) × (n ≡ form.Or a b)) ⊎ ((a : FormId) × (b : FormId) × (n ≡ form.Imp a b))))))
+    ⊎ (((a : FormId) × (b : FormId) × (n ≡ form.And a b)) ⊎ (((a : FormId) × (b : FormId) × (n ≡ form.Or a b)) ⊎ ((a : FormId) × (b : FormId) × (n ≡ form.Imp a b))))))
 
 -- what holds of each formula that is no negation
 record IsOther (f : Formula) : Type 0 where

@@ -167,28 +167,29 @@ known_more : (used : List Used) (z : ℤ) (k : Kind) (n y : ℤ) → Known used 
 known_more used z AtMostZero n y h s t = record {
   bounded = λ b. plus_bound z (n *ℤ y) (h.bounded (all_last (λ (u : Used). is_bound u.kind) used (record { times = n; kind = AtMostZero }) b).0) (times_bound n y t s);
   equal = λ e. absurd (differ (all_last (λ (u : Used). is_equation u.kind) used (record { times = n; kind = AtMostZero }) e).1);
-  apart = λ a. absurd (apart_last used AtMostZero n a)
+  apart = λ a. absurd (apart_last used AtMostZero n a);
 }
 known_more used z Zero n y h s t =
     let e = plus_nothing n z y s in
     record {
       bounded = λ b. subst (λ (x : ℤ). x ≤ℤ pos 0) (sym e) (h.bounded (all_last (λ (u : Used). is_bound u.kind) used (record { times = n; kind = Zero }) b).0);
       equal = λ q. e ∙ h.equal (all_last (λ (u : Used). is_equation u.kind) used (record { times = n; kind = Zero }) q).0;
-      apart = λ a zero. h.apart (apart_last used Zero n a) (sym e ∙ zero)
+      apart = λ a zero. h.apart (apart_last used Zero n a) (sym e ∙ zero);
     }
 known_more used z NotZero n y h s t = record {
   bounded = λ b. absurd (differ (all_last (λ (u : Used). is_bound u.kind) used (record { times = n; kind = NotZero }) b).1);
   equal = λ e. absurd (differ (all_last (λ (u : Used). is_equation u.kind) used (record { times = n; kind = NotZero }) e).1);
-  apart = λ a. plus_once n z y (apart_last used NotZero n a).0 (h.equal (apart_last used NotZero n a).1) s
+  apart = λ a. plus_once n z y (apart_last used NotZero n a).0 (h.equal (apart_last used NotZero n a).1) s;
 }
 
 not_closed : (used : List Used) (z c : ℤ) → Known used z → z ≡ c
     → ((int_lt (pos 0) c && list_all (λ (u : Used). is_bound u.kind) used) || (int_eq c (pos 0) && one_apart used)) ≡ true → ⊥
 not_closed used z c h e t = elim (or_cases (int_lt (pos 0) c && list_all (λ (u : Used). is_bound u.kind) used) (int_eq c (pos 0) && one_apart used) t) [
-    inl a ↦ (let p = and_parts (int_lt (pos 0) c) (list_all (λ (u : Used). is_bound u.kind) used) a in
-             not_above z c (h.bounded p.1) e p.0)
+  | inl a ↦ (let p = and_parts (int_lt (pos 0) c) (list_all (λ (u : Used). is_bound u.kind) used) a in
+      not_above z c (h.bounded p.1) e p.0)
   | inr b ↦ (let p = and_parts (int_eq c (pos 0)) (one_apart used) b in
-             h.apart p.1 (e ∙ (Decides-int_eq c (pos 0)).0 p.0)) ]
+      h.apart p.1 (e ∙ (Decides-int_eq c (pos 0)).0 p.0))
+]
 
 none_if : (b : Bool) (k : Rule) → (if b then None else Some k) ≡ None → b ≡ true
 none_if true k h = refl
@@ -235,8 +236,9 @@ module _ (v : Valuation) (fs : List Fact) (hold : AllHold v fs) where
 
   usable_says : (f : Fact) → (is_plain f ≡ true → Holds v f.form) → SaysRow v (usable f)
   usable_says f h = elim (cases_Bool (is_plain f)) [
-      inl e ↦ subst (SaysRow v) (sym (cond-true (is_plain f) (row_of f.form) None e)) (says v f.form (h e))
-    | inr e ↦ subst (SaysRow v) (sym (cond-false (is_plain f) (row_of f.form) None e)) tt ]
+    | inl e ↦ subst (SaysRow v) (sym (cond-true (is_plain f) (row_of f.form) None e)) (says v f.form (h e))
+    | inr e ↦ subst (SaysRow v) (sym (cond-false (is_plain f) (row_of f.form) None e)) tt
+  ]
 
   part_step : (rest : Next → Option Rule) (sum : Tree) (p : Part) (o : Option Fact) → ((f : Fact) → o ≡ Some f → is_plain f ≡ true → Holds v f.form)
       → Refutes rest sum p → go_on (with_part o sum p) rest ≡ None → ⊥
@@ -250,7 +252,7 @@ module _ (v : Valuation) (fs : List Fact) (hold : AllHold v fs) where
       not_closed used (num v sum) (constant_of sum) known (constant_value v sum p.0) p.1
   added_refutes (p ∷ ps) sum used known h =
       part_step (λ (n : Next). added fs n.sum (used ++ n.used ∷ []) ps) sum p (newest p.hyp fs) (newest_holds v p.hyp fs hold)
-        (λ r s t k. added_refutes ps (Add sum (Scale p.times r.line)) (used ++ record { times = p.times; kind = r.kind } ∷ []) (known_more used (num v sum) r.kind p.times (num v r.line) known s t) k) h
+      (λ r s t k. added_refutes ps (Add sum (Scale p.times r.line)) (used ++ record { times = p.times; kind = r.kind } ∷ []) (known_more used (num v sum) r.kind p.times (num v r.line) known s t) k) h
 
   sum_refutes : (parts : List Part) → sum_fault fs parts ≡ None → ⊥
   sum_refutes parts h = added_refutes parts (Lit (pos 0)) [] (record { bounded = λ _. zero_bound (pos 0) refl; equal = λ _. refl; apart = λ e. absurd (differ e) }) h
@@ -282,8 +284,9 @@ facts_hold v s (x ∷ xs) last h d = (plain_holds v (fact_of s x).params (fact_o
 -- where the facts cannot all hold, the sequent is valid
 pub valid_from : (s : Stored) (q : Sequent) → ((v : Valuation) → AllHold v (facts s q) → ⊥) → IsValid (givens s q) (formula s q.claim)
 valid_from s q h = λ v hyps. elim (cases_Bool (truth v (formula s q.claim))) [
-    inl e ↦ e
-  | inr e ↦ absurd (h v (facts_hold v s q.hyps (denied s q.claim) hyps (λ _. truth_neg v (formula s q.claim) ∙ ap not e))) ]
+  | inl e ↦ e
+  | inr e ↦ absurd (h v (facts_hold v s q.hyps (denied s q.claim) hyps (λ _. truth_neg v (formula s q.claim) ∙ ap not e)))
+]
 
 pub sum_valid : (s : Stored) (q : Sequent) (parts : List Part) → sum_fault (facts s q) parts ≡ None → IsValid (givens s q) (formula s q.claim)
 sum_valid s q parts h = valid_from s q (λ v hold. sum_refutes v (facts s q) hold parts h)

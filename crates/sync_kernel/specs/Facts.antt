@@ -32,9 +32,12 @@ newest name (f ∷ fs) = first (newest name fs) (if same_name f.name name then S
 abbrev pub fact_of : Stored → Hyp → Fact
 fact_of s h = record { name = h.name; params = map (λ (p : Sym). p.0) h.params; form = formula s h.form }
 
--- the negation of the claim, under its own name
+-- the negation of a claim, under its own name
+abbrev pub denial : Formula → Fact
+denial claim = record { name = Denied; params = []; form = neg claim }
+
 abbrev pub denied : Stored → FormId → Fact
-denied s claim = record { name = Denied; params = []; form = neg (formula s claim) }
+denied s claim = denial (formula s claim)
 
 abbrev pub facts : Stored → Sequent → List Fact
 facts s q = map (fact_of s) q.hyps ++ denied s q.claim ∷ []

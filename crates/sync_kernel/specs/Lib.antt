@@ -4,3 +4,4 @@ pub mod Steps
 pub mod Shapes
 pub mod Holding
 pub mod Opposed
+pub mod Scripts

@@ -2,10 +2,12 @@
 #![tactic(auto)]
 
 mod held;
+mod provers;
 mod rows;
 mod sames;
 mod sequents;
 mod sums;
 
+pub use provers::prove;
 pub use sequents::{Hyp, Sequent};
 pub use sync_terms::{Block, HypName, Part, Script, ScriptStep, StepKind};

@@ -16,16 +16,16 @@ loop-hyp-preserved c = λ s all n.
     let it : c.hyp-item.result ≡ get_or c.args.q.now.hyps c.loop-hyp.hyp-index c.hyp-item.result = c.hyp-item.is ∙ ap (λ (xs : List Hyp). get_or xs c.loop-hyp.hyp-index c.hyp-item.result) e in
     let h : Held = record { form = c.hyp-item.result.form; denied = false; plain = c.is_empty-plain.result } in
     subst (λ (fs : List Fact). IsHeld s (get equal_names c.insert.new.self n) (newest n fs)) (taken_more s c.args.q.now.hyps c.loop-hyp.hyp-index c.hyp-item.result lt it)
-      (hold_more s (map (fact_of s) (take c.loop-hyp.hyp-index c.args.q.now.hyps)) (fact_of s c.hyp-item.result) h (get equal_names c.loop-hyp.held) (get equal_names c.insert.new.self)
-        (c.loop-hyp.invariant s all)
-        (refl, plain_is c.hyp-item.result.params c.is_empty-plain.result c.is_empty-plain.ensures.0 c.is_empty-plain.ensures.1, form_of s c.args.q.now.hyps c.loop-hyp.hyp-index c.hyp-item.result all lt it)
-        c.in_ok-insert.ensures.updates.0 n)
+    (hold_more s (map (fact_of s) (take c.loop-hyp.hyp-index c.args.q.now.hyps)) (fact_of s c.hyp-item.result) h (get equal_names c.loop-hyp.held) (get equal_names c.insert.new.self)
+    (c.loop-hyp.invariant s all)
+    (refl, plain_is c.hyp-item.result.params c.is_empty-plain.result c.is_empty-plain.ensures.0 c.is_empty-plain.ensures.1, form_of s c.args.q.now.hyps c.loop-hyp.hyp-index c.hyp-item.result all lt it)
+    c.in_ok-insert.ensures.updates.0 n)
 
 pub returns : goal.returns
 returns c = λ s all claim n.
     let end : map (fact_of s) (take c.loop-hyp.hyp-index c.args.q.now.hyps) ≡ map (fact_of s) c.args.q.now.hyps =
-        ap (map (fact_of s)) (take_all c.loop-hyp.hyp-index c.args.q.now.hyps (omega (arith, ap length c.as_slice-hyp-items.ensures))) in
+    ap (map (fact_of s)) (take_all c.loop-hyp.hyp-index c.args.q.now.hyps (omega (arith, ap length c.as_slice-hyp-items.ensures))) in
     hold_more s (map (fact_of s) c.args.q.now.hyps) (denied s c.args.q.now.claim) (record { form = c.args.q.now.claim; denied = true; plain = true })
-      (get equal_names c.loop-hyp.held) (get equal_names c.insert-2.new.self)
-      (λ m. subst (λ (fs : List Fact). IsHeld s (get equal_names c.loop-hyp.held m) (newest m fs)) end (c.loop-hyp.invariant s all m))
-      (refl, refl, claim) c.in_ok-insert-2.ensures.updates.0 n
+    (get equal_names c.loop-hyp.held) (get equal_names c.insert-2.new.self)
+    (λ m. subst (λ (fs : List Fact). IsHeld s (get equal_names c.loop-hyp.held m) (newest m fs)) end (c.loop-hyp.invariant s all m))
+    (refl, refl, claim) c.in_ok-insert-2.ensures.updates.0 n

@@ -14,5 +14,5 @@ returns-in-Not-clause-row c =
 pub returns-in-Le : goal.returns-in-Le
 returns-in-Le c = record {
   row = neg_row c.args.terms.now (formula c.args.terms.now c.args.claim) c.form-node.result (option_map (row_shaped c.args.terms.now) c.shape_of_not.result) c.form-node.ensures.value (negated c.args.terms.now c.form-node.result c.in-Le.is) c.shape_of_not.ensures.row;
-  stored = c.shape_of_not.ensures.stored
+  stored = c.shape_of_not.ensures.stored;
 }

@@ -11,4 +11,4 @@ returns-then-is_zero c = λ s sum i. closes_zero s sum c.args.used.now c.args.to
 
 pub returns-else-is_zero : goal.returns-else-is_zero
 returns-else-is_zero c = λ s sum i. closes_not s sum c.args.used.now c.args.total.now c.shows.ensures.line i
-  (λ h. both_ways c.shows.result c.if-shows.false (c.shows.ensures.exact.1 h)) (λ h. both_ways c.is_zero.result c.if-is_zero.false (c.is_zero.ensures.exact.1 h))
+    (λ h. both_ways c.shows.result c.if-shows.false (c.shows.ensures.exact.1 h)) (λ h. both_ways c.is_zero.result c.if-is_zero.false (c.is_zero.ensures.exact.1 h))

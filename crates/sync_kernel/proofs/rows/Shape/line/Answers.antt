@@ -36,10 +36,10 @@ pub returns-clause-line : goal.returns-clause-line
 returns-clause-line c =
     let h = c.args.self in
     plain_line c.args.terms.now (Sub (tree c.args.terms.now h.left) (tree c.args.terms.now h.right)) h.strict c.in_ok-line.line c.if-self.false
-      (sub_line c.args.terms.now h.left h.right c.in_ok-left.left c.in_ok-right.right c.in_ok-line.line c.in_ok-left.ensures.line c.in_ok-right.ensures.line c.in_ok-line.ensures.changed)
+    (sub_line c.args.terms.now h.left h.right c.in_ok-left.left c.in_ok-right.right c.in_ok-line.line c.in_ok-left.ensures.line c.in_ok-right.ensures.line c.in_ok-line.ensures.changed)
 
 pub returns-clause-narrow : goal.returns-clause-narrow
 returns-clause-narrow c =
     let h = c.args.self in
     plain_narrow (Sub (tree c.args.terms.now h.left) (tree c.args.terms.now h.right)) h.strict c.if-self.false
-      (sub_narrow c.args.terms.now h.left h.right c.in_ok-left.left c.in_ok-right.right c.in_ok-left.ensures.line c.in_ok-right.ensures.line c.in_ok-left.ensures.narrow c.in_ok-right.ensures.narrow c.in_ok-line.ensures.fits)
+    (sub_narrow c.args.terms.now h.left h.right c.in_ok-left.left c.in_ok-right.right c.in_ok-left.ensures.line c.in_ok-right.ensures.line c.in_ok-left.ensures.narrow c.in_ok-right.ensures.narrow c.in_ok-line.ensures.fits)
