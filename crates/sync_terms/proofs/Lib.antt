@@ -3,3 +3,7 @@ pub mod Sharing
 pub mod Keeping
 pub mod Equal
 pub mod Reading
+pub mod Inserting
+pub mod Steps
+pub mod Extending
+pub mod Walking

@@ -4,3 +4,5 @@ pub mod Values
 pub mod Stored
 pub mod Placed
 pub mod Kept
+pub mod Substitution
+pub mod Replacing

@@ -80,31 +80,39 @@ shape s n = grown (trees s.nodes) n
 unfoldable pub form_shape : Stored → FormNode → Formula
 form_shape s n = grown_form (trees s.nodes) (formulas (trees s.nodes) s.forms) n
 
+-- P holds of each child of a node
+abbrev pub EachChild : (TermId → Type 0) → Node → Type 0
+EachChild P (node.Lit n) = Unit {0}
+EachChild P (node.Name x) = Unit {0}
+EachChild P (node.Add a b) = P a × P b
+EachChild P (node.Sub a b) = P a × P b
+EachChild P (node.Scale n a) = P a
+EachChild P (node.Get m k) = P m × P k
+EachChild P (node.Has m k) = P m × P k
+EachChild P (node.Size m) = P m
+EachChild P (node.Sum m) = P m
+EachChild P node.Nil = Unit {0}
+EachChild P (node.Put m k v) = P m × P k × P v
+EachChild P (node.Del m k) = P m × P k
+EachChild P (node.Bump m k n) = P m × P k × P n
+
 -- the children of a node are ids below a number
 abbrev pub ChildrenBelow : ℕ → Node → Type 0
-ChildrenBelow n (node.Lit k) = Unit {0}
-ChildrenBelow n (node.Name x) = Unit {0}
-ChildrenBelow n (node.Add a b) = (a.0 < n) × (b.0 < n)
-ChildrenBelow n (node.Sub a b) = (a.0 < n) × (b.0 < n)
-ChildrenBelow n (node.Scale k a) = a.0 < n
-ChildrenBelow n (node.Get m k) = (m.0 < n) × (k.0 < n)
-ChildrenBelow n (node.Has m k) = (m.0 < n) × (k.0 < n)
-ChildrenBelow n (node.Size m) = m.0 < n
-ChildrenBelow n (node.Sum m) = m.0 < n
-ChildrenBelow n node.Nil = Unit {0}
-ChildrenBelow n (node.Put m k v) = (m.0 < n) × (k.0 < n) × (v.0 < n)
-ChildrenBelow n (node.Del m k) = (m.0 < n) × (k.0 < n)
-ChildrenBelow n (node.Bump m k c) = (m.0 < n) × (k.0 < n) × (c.0 < n)
+ChildrenBelow n x = EachChild (λ c. c.0 < n) x
+
+-- P holds of each term of a formula's node, and Q of each formula
+abbrev pub EachPart : (TermId → Type 0) → (FormId → Type 0) → FormNode → Type 0
+EachPart P Q (form.Le a b) = P a × P b
+EachPart P Q (form.Lt a b) = P a × P b
+EachPart P Q (form.Eq a b) = P a × P b
+EachPart P Q (form.Not f) = Q f
+EachPart P Q (form.And f g) = Q f × Q g
+EachPart P Q (form.Or f g) = Q f × Q g
+EachPart P Q (form.Imp f g) = Q f × Q g
 
 -- the terms of a formula's node are ids below one number, and its formulas ids below another
 abbrev pub PartsBelow : ℕ → ℕ → FormNode → Type 0
-PartsBelow n p (form.Le a b) = (a.0 < n) × (b.0 < n)
-PartsBelow n p (form.Lt a b) = (a.0 < n) × (b.0 < n)
-PartsBelow n p (form.Eq a b) = (a.0 < n) × (b.0 < n)
-PartsBelow n p (form.Not f) = f.0 < p
-PartsBelow n p (form.And f g) = (f.0 < p) × (g.0 < p)
-PartsBelow n p (form.Or f g) = (f.0 < p) × (g.0 < p)
-PartsBelow n p (form.Imp f g) = (f.0 < p) × (g.0 < p)
+PartsBelow n p x = EachPart (λ a. a.0 < n) (λ f. f.0 < p) x
 
 -- the children of a node are ids of this store
 abbrev pub HasChildren : Stored → Node → Type 0

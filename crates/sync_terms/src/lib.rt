@@ -4,6 +4,7 @@
 mod nodes;
 mod scripts;
 mod store;
+mod subst;
 
 pub use nodes::{FormId, FormNode, Node, Sym, TermId};
 pub use scripts::{Block, HypName, Part, Script, ScriptStep, StepKind};

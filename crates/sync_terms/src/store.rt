@@ -88,6 +88,19 @@ impl Terms {
         }
     }
 
+    /// A store with the same ids, the same trees under them, and an allocator of its own.
+    pub fn copy(&self, alloc: Global) -> Result<Terms, NoMemory>
+        ensures { IfOk result (λ t. t ≡ self.now) }
+    {
+        Ok(Terms {
+            alloc,
+            nodes: copied(alloc, &self.nodes)?,
+            sizes: Vec::from_slice(alloc, self.sizes.as_slice())?,
+            forms: copied(alloc, &self.forms)?,
+            form_sizes: Vec::from_slice(alloc, self.form_sizes.as_slice())?,
+        })
+    }
+
     /// The number of nodes that are stored, those of terms and those of formulas.
     pub fn count(&self) -> u64
         ensures { result ≡ length self.now.nodes + length self.now.forms }
@@ -135,6 +148,11 @@ impl Terms {
         ensures bound { result ≤ limit }
     {
         u64::from(self.form_sizes[id.0 as usize])
+    }
+
+    /// The allocator that the store takes its memory from.
+    pub(crate) fn allocator(&self) -> Global {
+        self.alloc
     }
 
     /// The number of nodes that the tree of a node would have.
@@ -235,4 +253,14 @@ fn place<N: Eq + Hash + Drop>(
         sizes.push(size).unwrap();
     }
     Ok(index as u32)
+}
+
+/// A set with the same nodes at the same places.
+fn copied<N: Eq + Hash + Copy + Drop>(
+    alloc: Global,
+    nodes: &IndexSet<N>,
+) -> Result<IndexSet<N>, NoMemory>
+    ensures { IfOk result (λ set. set.keys ≡ nodes.now.keys) }
+{
+    Ok(nodes.iter().copied().collect(alloc)?)
 }
