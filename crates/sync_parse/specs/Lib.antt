@@ -1,0 +1,5 @@
+pub mod Faults
+pub mod Lexemes
+pub mod Expressions
+pub mod Scripts
+pub mod Machines
