@@ -26,3 +26,6 @@ IsTerm-more more id h = (more.terms id h).0
 
 pub IsForm-more : {s t : Stored} → Extends s t → (id : FormId) → IsForm s id → IsForm t id
 IsForm-more more id h = (more.forms id h).0
+
+-- what a caller of several calls needs of the earlier ids
+pub ruleset growing = (IsTerm-more, IsForm-more)

@@ -10,7 +10,7 @@ use Rattle.sync_terms.specs.declared.nodes.Node.TheVariants as node
 use Rattle.sync_terms.specs.declared.nodes.FormNode.{FormNode}
 use Rattle.sync_terms.specs.declared.nodes.FormNode.TheVariants as form
 use Rattle.sync_terms.specs.Trees.{Nil, Eq, tree_size, formula_size}
-use Rattle.sync_terms.specs.Stored.{Stored, grown, trees, tree, formula_at, grown_form, formulas, formula, shape, form_shape, ChildrenBelow, PartsBelow, HasChildren, HasParts, Extends}
+use Rattle.sync_terms.specs.Stored.{Stored, grown, trees, tree, formula_at, grown_form, formulas, formula, shape, form_shape, ChildrenBelow, PartsBelow, HasChildren, HasParts, Extends, GainsTerm, GainsForm}
 use Rattle.sync_terms.specs.Kept.{limit, node_at, form_at, AreTerms, AreForms, IsKept}
 
 abbrev no_node : Node
@@ -124,6 +124,13 @@ module _ (s : Stored) (sizes fsizes : List ℕ) (x : Node) (size : ℕ) (ms : Li
         forms = λ id h. (h, ap (λ gs. formula_at gs id) (formulas-stay (length s.nodes) (trees s.nodes) (trees (s.nodes ++ x ∷ [])) (Stay-push s.nodes x) s.forms kept.forms.earlier));
       })
 
+  pub GainsTerm-place_term : GainsTerm s x (with_nodes s ms)
+  GainsTerm-place_term = by placed
+    where
+      by : IsPlaced s.nodes sizes x size ms msizes → GainsTerm s x (with_nodes s ms)
+      by (inl e) = inl (ap (with_nodes s) e.0)
+      by (inr e) = inr (ap (with_nodes s) e.0)
+
   pub tree-place_term : IsKept (with_nodes s ms) msizes fsizes → (i : ℕ) → i < length ms → node_at ms i ≡ x → tree (with_nodes s ms) (record { 0 = i }) ≡ shape s x
   unfolding tree shape
   tree-place_term new i h at =
@@ -153,6 +160,13 @@ module _ (s : Stored) (sizes fsizes : List ℕ) (x : FormNode) (size : ℕ) (ms 
         terms = λ id h. (h, refl);
         forms = λ id h. (omega (arith, length_push s.forms x), StayForms-push (trees s.nodes) s.forms x id.0 h);
       })
+
+  pub GainsForm-place_form : GainsForm s x (with_forms s ms)
+  GainsForm-place_form = by placed
+    where
+      by : IsPlaced s.forms fsizes x size ms msizes → GainsForm s x (with_forms s ms)
+      by (inl e) = inl (ap (with_forms s) e.0)
+      by (inr e) = inr (ap (with_forms s) e.0)
 
   pub formula-place_form : IsKept (with_forms s ms) sizes msizes → (i : ℕ) → i < length ms → form_at ms i ≡ x → formula (with_forms s ms) (record { 0 = i }) ≡ form_shape s x
   unfolding formula form_shape

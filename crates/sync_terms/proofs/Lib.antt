@@ -7,3 +7,4 @@ pub mod Inserting
 pub mod Steps
 pub mod Extending
 pub mod Walking
+pub mod Meaning

@@ -6,3 +6,4 @@ pub mod Placed
 pub mod Kept
 pub mod Substitution
 pub mod Replacing
+pub mod Plans

@@ -1,5 +1,5 @@
 -- What a store of terms holds: nodes that point to earlier nodes, and the trees that they stand for.
-use Rattle.std.specs.Prelude.{◌≡◌, ℕ, ◌<◌, List, [], ◌∷◌, ◌++◌, length, fold, slice_index_or}
+use Rattle.std.specs.Prelude.{◌≡◌, ◌⊎◌, ℕ, ◌<◌, List, [], ◌∷◌, ◌++◌, length, fold, slice_index_or}
 use Rattle.sync_terms.specs.declared.nodes.TermId.{TermId}
 use Rattle.sync_terms.specs.declared.nodes.FormId.{FormId}
 use Rattle.sync_terms.specs.declared.nodes.Node.{Node}
@@ -130,3 +130,10 @@ pub record Extends (old new : Stored) : Type 0 where
 pub record IsShared (s : Stored) : Type 0 where
   pub terms : (a b : TermId) → IsTerm s a → IsTerm s b → tree s a ≡ tree s b → a ≡ b
   pub forms : (f g : FormId) → IsForm s f → IsForm s g → formula s f ≡ formula s g → f ≡ g
+
+-- the node was there, or it went last
+abbrev pub GainsTerm : Stored → Node → Stored → Type 0
+GainsTerm old x new = (new ≡ old) ⊎ (new ≡ record { nodes = old.nodes ++ x ∷ []; forms = old.forms })
+
+abbrev pub GainsForm : Stored → FormNode → Stored → Type 0
+GainsForm old x new = (new ≡ old) ⊎ (new ≡ record { nodes = old.nodes; forms = old.forms ++ x ∷ [] })

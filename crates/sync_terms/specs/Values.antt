@@ -59,6 +59,10 @@ Holds v f = truth v f ≡ true
 abbrev pub with_number : ℕ → ℤ → Valuation → Valuation
 with_number x n v = record { number = λ y. if nat_eq y x then n else v.number y; mapping = v.mapping }
 
+-- each symbol stands for what its term is
+abbrev pub with_terms : (ℕ → Tree) → Valuation → Valuation
+with_terms f v = record { number = λ x. num v (f x); mapping = λ x. mapped v (f x) }
+
 -- the formula holds for all numbers as its parameters
 abbrev pub HoldsForAll : List ℕ → Valuation → Formula → Type 0
 HoldsForAll [] v f = Holds v f

@@ -9,3 +9,6 @@ mod subst;
 pub use nodes::{FormId, FormNode, Node, Sym, TermId};
 pub use scripts::{Block, HypName, Part, Script, ScriptStep, StepKind};
 pub use store::{TermStop, Terms};
+
+#[cfg(test)]
+mod tests;

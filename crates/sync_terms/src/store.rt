@@ -1,10 +1,10 @@
 //! The store of terms and formulas, in which equal trees are one.
-ghost use Rattle.std.specs.Prelude.{◌≡◌, ◌+◌, ◌<◌, ◌≤◌, ◌↔◌, ◌⊎◌, ◌++◌, [], ◌∷◌, length, slice_get, vec_len, IfOk, OnErr, Err};
+ghost use Rattle.std.specs.Prelude.{◌≡◌, ◌+◌, ◌<◌, ◌≤◌, ◌↔◌, ◌⊎◌, ◌++◌, [], ◌∷◌, length, slice_get, vec_len, IfOk, OnOk, OnErr, Err};
 ghost use Rattle.indexmap.specs.IndexSet.{IsUnique, index_set_len};
 ghost use Rattle.sync_terms.specs.declared.store.TermStop.TheVariants.{TooLarge, Memory};
 ghost use Rattle.sync_terms.specs.Kept.{limit};
 ghost use Rattle.sync_terms.specs.Placed.{IsPlaced, IsAt};
-ghost use Rattle.sync_terms.specs.Stored.{tree, formula, shape, form_shape, IsTerm, IsForm, ChildrenBelow, PartsBelow, HasChildren, HasParts, Extends, IsShared};
+ghost use Rattle.sync_terms.specs.Stored.{tree, formula, shape, form_shape, IsTerm, IsForm, ChildrenBelow, PartsBelow, HasChildren, HasParts, Extends, GainsTerm, GainsForm, IsShared};
 ghost use Rattle.sync_terms.specs.Trees.{tree_size, formula_size};
 
 use crate::nodes::{FormId, FormNode, Node, TermId};
@@ -200,6 +200,8 @@ impl Terms {
         ensures id { IfOk result (λ id. IsTerm self.new id × (tree self.new id ≡ shape self.old node)) }
         ensures too_large { (result ≡ Err TermStop.TooLarge) ↔ (limit < tree_size (shape self.old node)) }
         ensures keeps { Extends self.old self.new }
+        ensures gains { OnOk result (GainsTerm self.old node self.new) }
+        ensures shared { OnOk result (IsShared self.new) }
         ensures err { OnErr result (self.new ≡ self.old) }
     {
         let size = self.node_size(node);
@@ -218,6 +220,8 @@ impl Terms {
         ensures id { IfOk result (λ id. IsForm self.new id × (formula self.new id ≡ form_shape self.old node)) }
         ensures too_large { (result ≡ Err TermStop.TooLarge) ↔ (limit < formula_size (form_shape self.old node)) }
         ensures keeps { Extends self.old self.new }
+        ensures gains { OnOk result (GainsForm self.old node self.new) }
+        ensures shared { OnOk result (IsShared self.new) }
         ensures err { OnErr result (self.new ≡ self.old) }
     {
         let size = self.form_node_size(node);

@@ -5,8 +5,8 @@ use Rattle.sync_terms.specs.Kept.{form_at}
 use Rattle.sync_terms.specs.Stored.{HasParts, form_shape}
 use Rattle.sync_terms.specs.Trees.{formula_size}
 use Rattle.sync_terms.proofs.Equal.{form_eq, form_eq-refl, form_same_from_eq}
-use Rattle.sync_terms.proofs.Keeping.{IsKept-place_form, Extends-place_form, formula-place_form}
-use Rattle.sync_terms.proofs.Sharing.{once-from_distinct}
+use Rattle.sync_terms.proofs.Keeping.{IsKept-place_form, Extends-place_form, GainsForm-place_form, formula-place_form}
+use Rattle.sync_terms.proofs.Sharing.{once-from_distinct, IsShared-from_kept}
 use Rattle.sync_terms.proofs.store.Terms.add_form.Goals as goal
 
 pub invariant_of-self-2 : goal.invariant_of-self-2
@@ -30,3 +30,11 @@ pub returns-clause-keeps : goal.returns-clause-keeps
 returns-clause-keeps c =
     let below = subst (λ s. HasParts s c.args.node) (sym c.self.view_is) c.requires.children in
     rw (← c.self.view_is) (Extends-place_form _ _ _ c.args.node c.form_node_size-size.result c.place.new.nodes.keys c.place.new.sizes.items c.self.invariant below c.in-Ok.ensures.placed)
+
+pub returns-clause-gains : goal.returns-clause-gains
+returns-clause-gains c =
+    let below = subst (λ s. HasParts s c.args.node) (sym c.self.view_is) c.requires.children in
+    rw (← c.self.view_is) (GainsForm-place_form _ _ _ c.args.node c.form_node_size-size.result c.place.new.nodes.keys c.place.new.sizes.items c.self.invariant below c.in-Ok.ensures.placed)
+
+pub returns-clause-shared : goal.returns-clause-shared
+returns-clause-shared c = IsShared-from_kept _ _ _ (invariant_of-self-2 c)
