@@ -7,3 +7,4 @@ pub mod Names
 pub mod Opposing
 pub mod SameSteps
 pub mod Planned
+pub mod Blind

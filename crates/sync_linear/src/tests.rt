@@ -30,7 +30,10 @@ fn a_multiple_that_is_too_large_changes_nothing(rt: HostRuntime) -> Result<(), F
     assert_eq!(rt; line.add_scaled(MOST, &one), Err(LinearStop::Width));
     assert_eq!(rt; line.add_scaled(-1, &one), Ok(()));
     assert!(rt; line.is_zero());
-    assert_eq!(rt; line.add_scaled(1, &Linear::number(rt.alloc(), MOST)), Ok(()));
+    assert_eq!(rt;
+        line.add_scaled(1, &Linear::number(rt.alloc(), MOST)),
+        Ok(())
+    );
     assert!(rt; line.shows());
     Ok(())
 }
