@@ -8,3 +8,4 @@ pub mod Opposing
 pub mod SameSteps
 pub mod Planned
 pub mod Blind
+pub mod Stays
