@@ -8,3 +8,5 @@ pub mod Judging
 pub mod Plain
 pub mod Growing
 pub mod Passing
+pub mod Lasting
+pub mod Stepping

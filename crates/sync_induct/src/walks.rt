@@ -1,12 +1,14 @@
 //! The walk over the statements of an operation.
-ghost use Rattle.std.specs.Prelude.{◌≡◌, ◌++◌, ◌∷◌, [], List, OnOk, IfErr, slice_set};
+ghost use Rattle.std.specs.Prelude.{◌≡◌, ◌++◌, ◌∷◌, [], All, OnOk, IfErr, slice_set};
 ghost use Rattle.std.specs.HashMap.{get};
 ghost use Rattle.sync_base.specs.Outcome.{Passes};
 ghost use Rattle.sync_terms.specs.Stored.{Extends, IsForm, IsTerm, formula, tree};
 ghost use Rattle.sync_induct.specs.declared.index.Title.{Title};
 ghost use Rattle.sync_induct.specs.Acts.{promise_of};
 ghost use Rattle.sync_induct.specs.Checks.{titles_of, proof_trees, duties_fault};
-ghost use Rattle.sync_induct.specs.Duties.{AreProved};
+ghost use Rattle.sync_induct.specs.Duties.{AreProved, step_duties, facts_behind};
+ghost use Rattle.sync_machine.specs.States.{last_values};
+ghost use Rattle.sync_machine.specs.Views.{steps_tree};
 ghost use Rattle.sync_induct.specs.Titles.{same_title, first_at};
 
 use crate::index::Places;
@@ -141,5 +143,34 @@ impl Walk {
             }
             _ => Ok(()),
         }
+    }
+
+    /// Goes over the statements of an operation, in order.
+    pub fn walk(
+        &mut self,
+        alloc: Global,
+        terms: &mut Terms,
+        fields: &[Field],
+        op: u32,
+        steps: &[Step],
+        book: Book<'_>,
+    ) -> Result<(), Stop>
+        requires walk { IsWalk terms.old self.old }
+        requires walkable { All (IsWalkable terms.old fields.now) steps.now }
+        requires placed { (t : Title) → get same_title book.places.now t ≡ first_at t 0 (titles_of book.proofs.now) }
+        ensures exact { Passes result (duties_fault (proof_trees book.entry.proofs.now) (step_duties fields.now op (values_of terms.old self.old) (known_of terms.old self.old) 1 (steps_tree terms.old steps.now))) }
+        ensures proved { OnOk result (AreProved (step_duties fields.now op (values_of terms.old self.old) (known_of terms.old self.old) 1 (steps_tree terms.old steps.now))) }
+        ensures come { OnOk result (HasCome terms.new self.new (facts_behind fields.now (values_of terms.old self.old) (known_of terms.old self.old) 1 (steps_tree terms.old steps.now))
+            (last_values fields.now (values_of terms.old self.old) (steps_tree terms.old steps.now))) }
+        ensures keeps { Extends terms.old terms.new }
+    {
+        for (i, step) in steps.iter().enumerate() {
+            let Ok(number) = u32::try_from(i + 1) else {
+                return Err(Stop::Memory);
+            };
+            self.check(alloc, terms, fields, op, number, *step, book)?;
+            self.pass(alloc, terms, fields, number, *step)?;
+        }
+        Ok(())
     }
 }
