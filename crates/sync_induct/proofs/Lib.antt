@@ -9,4 +9,6 @@ pub mod Plain
 pub mod Growing
 pub mod Passing
 pub mod Lasting
+pub mod Remaining
 pub mod Stepping
+pub mod Walking
