@@ -12,10 +12,11 @@ use Rattle.sync_machine.specs.declared.machine.Place.{Place}
 use Rattle.sync_machine.specs.declared.machine.Act.{Act}
 use Rattle.sync_machine.specs.declared.machine.Act.TheVariants.{Init, Require, Assert, Update, HaveVariable, Add, Remove, Have, Deposit, Withdraw, Guard}
 use Rattle.sync_machine.specs.declared.machine.Step.{Step}
+use Rattle.sync_machine.specs.declared.machine.Invariant.{Invariant}
 use Rattle.sync_machine.specs.Machines.{PatternTree, PlaceTree, ActTree, StepTree}
 use Rattle.sync_machine.specs.Machines as trees
 use Rattle.sync_machine.specs.States.{strategy_of}
-use Rattle.sync_machine.specs.Views.{key_tree, pattern_tree, place_tree, act_tree, step_tree, steps_tree, HasKeyId, HasPatternId, HasPlaceIds, HasActIds}
+use Rattle.sync_machine.specs.Views.{invariant_tree, symbols_of, key_tree, pattern_tree, place_tree, act_tree, step_tree, steps_tree, HasKeyId, HasPatternId, HasPlaceIds, HasActIds}
 use Rattle.sync_kernel.specs.declared.sequents.Hyp.{Hyp}
 use Rattle.sync_kernel.specs.Facts.{Fact, fact_of}
 use Rattle.sync_induct.specs.declared.walks.Walk.{Walk}
@@ -91,6 +92,17 @@ module _ (s t : Stored) (e : Extends s t) where
   pub forms-stay : (hs : List Hyp) → HaveForms s hs → HaveForms t hs
   forms-stay [] h = tt
   forms-stay (x ∷ hs) h = ((e.forms x.form h.0).0, forms-stay hs h.1)
+
+  pub forms-in : (is : List Invariant) → AllByRecursion (λ (i : Invariant). IsForm s i.form) is → AllByRecursion (λ (i : Invariant). IsForm t i.form) is
+  forms-in [] h = tt
+  forms-in (i ∷ is) h = ((e.forms i.form h.0).0, forms-in is h.1)
+
+  pub invariants-stay : (is : List Invariant) → AllByRecursion (λ (i : Invariant). IsForm s i.form) is → map (invariant_tree t) is ≡ map (invariant_tree s) is
+  invariants-stay [] h = refl
+  invariants-stay (i ∷ is) h =
+      let one = (e.forms i.form h.0).1 in
+      let more = invariants-stay is h.1 in
+      λ j. record { name = i.name; params = symbols_of i.params; form = one j; line = i.line } ∷ more j
 
   pub trees-stay : (xs : List TermId) → AllByRecursion (IsTerm s) xs → map (tree t) xs ≡ map (tree s) xs
   trees-stay [] h = refl

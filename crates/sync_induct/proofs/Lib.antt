@@ -12,3 +12,4 @@ pub mod Lasting
 pub mod Remaining
 pub mod Stepping
 pub mod Walking
+pub mod Starting

@@ -6,6 +6,7 @@ mod judges;
 mod laws;
 mod proofs;
 mod sizes;
+mod starts;
 mod walks;
 
 pub use laws::proved_machines_hold;

@@ -7,6 +7,7 @@ ghost use Rattle.sync_induct.specs.declared.index.Title.{Title};
 ghost use Rattle.sync_induct.specs.Acts.{promise_of};
 ghost use Rattle.sync_induct.specs.Checks.{titles_of, proof_trees, duties_fault};
 ghost use Rattle.sync_induct.specs.Duties.{AreProved, step_duties, facts_behind};
+ghost use Rattle.sync_kernel.specs.Facts.{fact_of};
 ghost use Rattle.sync_machine.specs.States.{last_values};
 ghost use Rattle.sync_machine.specs.Views.{steps_tree};
 ghost use Rattle.sync_induct.specs.Titles.{same_title, first_at};
@@ -92,6 +93,19 @@ impl Walk {
         )
     }
 
+    /// Adds a hypothesis.
+    pub fn add(&mut self, terms: &Terms, hyp: Hyp) -> Result<(), Stop>
+        requires walk { IsWalk terms.now self.old }
+        requires form { IsForm terms.now hyp.form }
+        ensures ok { OnOk result (HasCome terms.now self.new (known_of terms.now self.old ++ fact_of terms.now hyp ∷ []) (values_of terms.now self.old)) }
+        ensures memory { IfErr result (λ e. e ≡ Stop.Memory) }
+    {
+        let size = self.size.saturating_add(terms.size_of(hyp.form));
+        self.sequent.hyps.push(hyp)?;
+        self.size = size;
+        Ok(())
+    }
+
     /// Adds what is known behind the statement with this number.
     fn learn(&mut self, alloc: Global, terms: &Terms, number: u32, form: FormId) -> Result<(), Stop>
         requires walk { IsWalk terms.now self.old }
@@ -99,14 +113,14 @@ impl Walk {
         ensures ok { OnOk result (HasCome terms.now self.new (known_of terms.now self.old ++ known_at number (formula terms.now form) ∷ []) (values_of terms.now self.old)) }
         ensures memory { IfErr result (λ e. e ≡ Stop.Memory) }
     {
-        let size = self.size.saturating_add(terms.size_of(form));
-        self.sequent.hyps.push(Hyp {
-            name: HypName::At(number),
-            params: Items::new(alloc),
-            form,
-        })?;
-        self.size = size;
-        Ok(())
+        self.add(
+            terms,
+            Hyp {
+                name: HypName::At(number),
+                params: Items::new(alloc),
+                form,
+            },
+        )
     }
 
     /// Gives a field its value behind a statement.
