@@ -13,3 +13,5 @@ pub mod Remaining
 pub mod Stepping
 pub mod Walking
 pub mod Starting
+pub mod Substituting
+pub mod Keeping

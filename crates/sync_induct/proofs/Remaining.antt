@@ -5,7 +5,7 @@ use Rattle.sync_base.specs.declared.stops.Stop.{Stop}
 use Rattle.sync_base.specs.declared.stops.Stop.TheVariants.{Refused, Memory}
 use Rattle.sync_base.specs.Outcome.{first, Passes}
 use Rattle.sync_induct.specs.Checks.{ProofTree, duty_fault, duties_fault}
-use Rattle.sync_induct.specs.Duties.{Duty, AreProved}
+use Rattle.sync_induct.specs.Duties.{Duty, IsProved, AreProved}
 
 first-assoc : (x y z : Option Refusal) → first (first x y) z ≡ first x (first y z)
 first-assoc (Some r) y z = refl
@@ -46,6 +46,15 @@ stop-first A B (Refused f) x y total p is = is ∙ ap (λ (z : Option Refusal). 
 -- one of the first ones is refused
 pub remains-refused : (A B : Type 0) (e : Stop) (ps : List ProofTree) (all own left : List Duty) → Remains ps all (own ++ left) → Passes {A = A} (Err e) (duties_fault ps own) → Passes {A = B} (Err e) (duties_fault ps all)
 remains-refused A B e ps all own left h p = stop-first A B e (duties_fault ps own) (duties_fault ps left) (duties_fault ps all) p (h.fault ∙ fault-append ps own left)
+
+-- the same of one
+pub remains-past_one : (ps : List ProofTree) (all left : List Duty) (d : Duty) → Remains ps all (d ∷ left) → duty_fault ps d ≡ None → IsProved d → Remains ps all left
+unfolding duties_fault
+remains-past_one ps all left d h none proved = record { fault = h.fault ∙ ap (λ (f : Option Refusal). first f (duties_fault ps left)) none; proved = λ rest. h.proved (proved, rest) }
+
+pub remains-refused_one : (A B : Type 0) (e : Stop) (ps : List ProofTree) (all left : List Duty) (d : Duty) → Remains ps all (d ∷ left) → Passes {A = A} (Err e) (duty_fault ps d) → Passes {A = B} (Err e) (duties_fault ps all)
+unfolding duties_fault
+remains-refused_one A B e ps all left d h p = stop-first A B e (duty_fault ps d) (duties_fault ps left) (duties_fault ps all) p h.fault
 
 -- nothing is left
 pub remains-none : (ps : List ProofTree) (all : List Duty) → Remains ps all [] → duties_fault ps all ≡ None

@@ -1,6 +1,7 @@
 //! Whether a machine's invariants are inductive: every reached state meets them, and no condition ever fails.
 #![tactic(auto)]
 
+mod closing;
 mod index;
 mod judges;
 mod laws;

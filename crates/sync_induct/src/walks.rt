@@ -3,7 +3,7 @@ ghost use Rattle.std.specs.Prelude.{◌≡◌, ◌++◌, ◌∷◌, [], All, OnO
 ghost use Rattle.std.specs.HashMap.{get};
 ghost use Rattle.sync_base.specs.Outcome.{Passes};
 ghost use Rattle.sync_terms.specs.Stored.{Extends, IsForm, IsTerm, formula, tree};
-ghost use Rattle.sync_induct.specs.declared.index.Title.{Title};
+ghost use Rattle.sync_induct.specs.declared.index.Title.{Title as Named};
 ghost use Rattle.sync_induct.specs.Acts.{promise_of};
 ghost use Rattle.sync_induct.specs.Checks.{titles_of, proof_trees, duties_fault};
 ghost use Rattle.sync_induct.specs.Duties.{AreProved, step_duties, facts_behind};
@@ -12,11 +12,12 @@ ghost use Rattle.sync_machine.specs.States.{last_values};
 ghost use Rattle.sync_machine.specs.Views.{steps_tree};
 ghost use Rattle.sync_induct.specs.Titles.{same_title, first_at};
 
-use crate::index::Places;
+use crate::index::{Places, Title};
 use crate::judges::judge;
 use crate::proofs::Proof;
 use sqlite_items::Items;
 use std::alloc::Global;
+use std::collections::HashSet;
 use sync_base::Stop;
 use sync_kernel::{Hyp, Sequent};
 use sync_machine::{Act, Field, Step};
@@ -32,11 +33,12 @@ pub struct Walk {
     pub current: Vec<TermId>,
 }
 
-/// A text's proofs, and where each title's first one stands.
+/// A text's proofs, where each title's first one stands, and the titles of the obligations.
 #[derive(Clone, Copy)]
 pub struct Book<'a> {
     pub proofs: &'a [Proof],
     pub places: &'a Places,
+    pub wanted: &'a HashSet<Title>,
 }
 
 /// The safety condition of a statement on numbers.
@@ -65,7 +67,7 @@ impl Walk {
     ) -> Result<(), Stop>
         requires walk { IsWalk terms.old self.old }
         requires walkable { IsWalkable terms.old fields.now step }
-        requires placed { (t : Title) → get same_title book.places.now t ≡ first_at t 0 (titles_of book.proofs.now) }
+        requires placed { (t : Named) → get same_title book.places.now t ≡ first_at t 0 (titles_of book.proofs.now) }
         ensures exact { Passes result (duties_fault (proof_trees book.entry.proofs.now) (owed terms.old fields.now op number self.old step)) }
         ensures proved { OnOk result (AreProved (owed terms.old fields.now op number self.old step)) }
         ensures keeps { Extends terms.old terms.new }
@@ -171,7 +173,7 @@ impl Walk {
     ) -> Result<(), Stop>
         requires walk { IsWalk terms.old self.old }
         requires walkable { All (IsWalkable terms.old fields.now) steps.now }
-        requires placed { (t : Title) → get same_title book.places.now t ≡ first_at t 0 (titles_of book.proofs.now) }
+        requires placed { (t : Named) → get same_title book.places.now t ≡ first_at t 0 (titles_of book.proofs.now) }
         ensures exact { Passes result (duties_fault (proof_trees book.entry.proofs.now) (step_duties fields.now op (values_of terms.old self.old) (known_of terms.old self.old) 1 (steps_tree terms.old steps.now))) }
         ensures proved { OnOk result (AreProved (step_duties fields.now op (values_of terms.old self.old) (known_of terms.old self.old) 1 (steps_tree terms.old steps.now))) }
         ensures come { OnOk result (HasCome terms.new self.new (facts_behind fields.now (values_of terms.old self.old) (known_of terms.old self.old) 1 (steps_tree terms.old steps.now))
