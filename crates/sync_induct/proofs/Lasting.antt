@@ -16,12 +16,14 @@ use Rattle.sync_machine.specs.declared.machine.Invariant.{Invariant}
 use Rattle.sync_machine.specs.Machines.{PatternTree, PlaceTree, ActTree, StepTree}
 use Rattle.sync_machine.specs.Machines as trees
 use Rattle.sync_machine.specs.States.{strategy_of}
-use Rattle.sync_machine.specs.Views.{invariant_tree, symbols_of, key_tree, pattern_tree, place_tree, act_tree, step_tree, steps_tree, HasKeyId, HasPatternId, HasPlaceIds, HasActIds}
+use Rattle.sync_machine.specs.declared.machine.Operation.{Operation}
+use Rattle.sync_machine.specs.Views.{invariant_tree, operation_tree, symbols_of, key_tree, pattern_tree, place_tree, act_tree, step_tree, steps_tree, HasKeyId, HasPatternId, HasPlaceIds, HasActIds}
 use Rattle.sync_kernel.specs.declared.sequents.Hyp.{Hyp}
 use Rattle.sync_kernel.specs.Facts.{Fact, fact_of}
 use Rattle.sync_induct.specs.declared.walks.Walk.{Walk}
 use Rattle.sync_induct.specs.Checks.{facts_size, capped, is_built}
 use Rattle.sync_induct.specs.Duties.{facts_of, HaveForms}
+use Rattle.sync_induct.specs.Closing.{IsKeepable}
 use Rattle.sync_induct.specs.Walks.{values_of, known_of, IsWalk, IsPlain, IsWalkable}
 
 module _ (s t : Stored) (e : Extends s t) where
@@ -74,6 +76,17 @@ module _ (s t : Stored) (e : Extends s t) where
 
   pub step-stays : (x : Step) → HasActIds s x.act → step_tree t x ≡ step_tree s x
   step-stays x h = ap (λ (a : ActTree). record { act = a; line = x.line }) (act-stays x.act h)
+
+  pub steps-stay : (xs : List Step) → AllByRecursion (λ (x : Step). HasActIds s x.act) xs → steps_tree t xs ≡ steps_tree s xs
+  steps-stay [] h = refl
+  steps-stay (x ∷ xs) h = let one = step-stays x h.0 in let more = steps-stay xs h.1 in λ i. one i ∷ more i
+
+  pub operation-stays : (o : Operation) → AllByRecursion (λ (x : Step). HasActIds s x.act) o.steps → operation_tree t o ≡ operation_tree s o
+  operation-stays o h = ap (λ (ss : List StepTree). record { name = o.name; mode = o.mode; params = symbols_of o.params; steps = ss; line = o.line }) (steps-stay o.steps h)
+
+  pub keepable-stays : (is : List Invariant) → AllByRecursion (IsKeepable s) is → AllByRecursion (IsKeepable t) is
+  keepable-stays [] h = tt
+  keepable-stays (i ∷ is) h = (record { form = (e.forms i.form h.0.form).0; names = h.0.names }, keepable-stays is h.1)
 
   pub walkable-stays : (fs : List Field) (x : Step) → IsWalkable s fs x → IsWalkable t fs x
   walkable-stays fs x h = record {

@@ -15,3 +15,4 @@ pub mod Walking
 pub mod Starting
 pub mod Substituting
 pub mod Keeping
+pub mod Operating

@@ -16,7 +16,7 @@ unfolding duties_fault
 fault-append ps [] ys = refl
 fault-append ps (x ∷ xs) ys = ap (first (duty_fault ps x)) (fault-append ps xs ys) ∙ sym (first-assoc (duty_fault ps x) (duties_fault ps xs) (duties_fault ps ys))
 
-proved-append : (xs ys : List Duty) → AreProved xs → AreProved ys → AreProved (xs ++ ys)
+pub proved-append : (xs ys : List Duty) → AreProved xs → AreProved ys → AreProved (xs ++ ys)
 proved-append [] ys p q = q
 proved-append (x ∷ xs) ys p q = (p.0, proved-append xs ys p.1 q)
 

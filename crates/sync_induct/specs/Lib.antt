@@ -5,4 +5,4 @@ pub mod Acts
 pub mod Walks
 pub mod Starts
 pub mod Closing
-pub mod Laws
+pub mod Grown
