@@ -16,3 +16,7 @@ pub mod Starting
 pub mod Substituting
 pub mod Keeping
 pub mod Operating
+pub mod Wanting
+pub mod Ready
+pub mod Law
+pub mod Deciding

@@ -1,5 +1,5 @@
 //! Where an operation begins: what may be used, and each field's value before its statements.
-ghost use Rattle.std.specs.Prelude.{◌≡◌, ◌++◌, ◌∷◌, [], map, OnOk, IfOk, IfErr};
+ghost use Rattle.std.specs.Prelude.{◌≡◌, ◌++◌, ◌∷◌, [], map, OnOk, IfOk};
 ghost use Rattle.std.specs.List.{AllByRecursion};
 ghost use Rattle.sync_terms.specs.Stored.{Stored, Extends, HasChildren, IsForm, shape};
 ghost use Rattle.sync_machine.specs.States as states;
@@ -12,7 +12,7 @@ ghost use Rattle.sync_induct.specs.Walks.{HaveTrees, HasCome, IsWalk, known_of, 
 use crate::walks::Walk;
 use sqlite_items::Items;
 use std::alloc::Global;
-use sync_base::Stop;
+use sync_base::NoMemory;
 use sync_kernel::{Hyp, Sequent};
 use sync_machine::{Field, Invariant, OpMode, Strategy};
 use sync_terms::{FormId, HypName, Node, Sym, TermId, Terms};
@@ -58,18 +58,17 @@ fn first_values(
     terms: &mut Terms,
     fields: &[Field],
     mode: OpMode,
-) -> Result<Vec<TermId>, Stop>
+) -> Result<Vec<TermId>, NoMemory>
     ensures values { IfOk result (λ v. HaveTrees terms.new v.items (states.first_values fields.now mode)) }
-    ensures memory { IfErr result (λ e. e ≡ Stop.Memory) }
     ensures keeps { Extends terms.old terms.new }
 {
     let mut values = Vec::new(alloc);
     for (i, field) in fields.iter().enumerate() {
         let Ok(number) = u32::try_from(i) else {
-            return Err(Stop::Memory);
+            return Err(NoMemory);
         };
         let Ok(value) = terms.add_term(first_node(mode, number, field.strategy)) else {
-            return Err(Stop::Memory);
+            return Err(NoMemory);
         };
         values.push(value)?;
     }
@@ -84,10 +83,9 @@ impl Walk {
         fields: &[Field],
         invariants: &[Invariant],
         mode: OpMode,
-    ) -> Result<Walk, Stop>
+    ) -> Result<Walk, NoMemory>
         requires { AllByRecursion (λ (i : Given). IsForm terms.old i.form) invariants.now }
         ensures come { IfOk result (λ w. HasCome terms.new w (base_facts mode (map (invariant_tree terms.old) invariants.now)) (states.first_values fields.now mode)) }
-        ensures memory { IfErr result (λ e. e ≡ Stop.Memory) }
         ensures keeps { Extends terms.old terms.new }
     {
         let mut walk = Walk {
@@ -113,11 +111,10 @@ impl Walk {
         alloc: Global,
         terms: &Terms,
         invariants: &[Invariant],
-    ) -> Result<(), Stop>
+    ) -> Result<(), NoMemory>
         requires walk { IsWalk terms.now self.old }
         requires forms { AllByRecursion (λ (i : Given). IsForm terms.now i.form) invariants.now }
-        ensures ok { OnOk result (HasCome terms.now self.new (known_of terms.now self.old ++ invariant_facts (map (invariant_tree terms.now) invariants.now)) (values_of terms.now self.old)) }
-        ensures memory { IfErr result (λ e. e ≡ Stop.Memory) }
+        ensures { OnOk result (HasCome terms.now self.new (known_of terms.now self.old ++ invariant_facts (map (invariant_tree terms.now) invariants.now)) (values_of terms.now self.old)) }
     {
         for invariant in invariants {
             let params = Items::from_slice(alloc, invariant.params.as_slice())?;

@@ -1,5 +1,5 @@
 //! The walk over the statements of an operation.
-ghost use Rattle.std.specs.Prelude.{◌≡◌, ◌++◌, ◌∷◌, [], All, OnOk, IfErr, slice_set};
+ghost use Rattle.std.specs.Prelude.{◌≡◌, ◌++◌, ◌∷◌, [], All, OnOk, slice_set};
 ghost use Rattle.std.specs.HashMap.{get};
 ghost use Rattle.sync_base.specs.Outcome.{Passes};
 ghost use Rattle.sync_terms.specs.Stored.{Extends, IsForm, IsTerm, formula, tree};
@@ -18,7 +18,7 @@ use crate::proofs::Proof;
 use sqlite_items::Items;
 use std::alloc::Global;
 use std::collections::HashSet;
-use sync_base::Stop;
+use sync_base::{NoMemory, Stop};
 use sync_kernel::{Hyp, Sequent};
 use sync_machine::{Act, Field, Step};
 use sync_rules::{Claim, Obligation};
@@ -96,11 +96,10 @@ impl Walk {
     }
 
     /// Adds a hypothesis.
-    pub fn add(&mut self, terms: &Terms, hyp: Hyp) -> Result<(), Stop>
+    pub fn add(&mut self, terms: &Terms, hyp: Hyp) -> Result<(), NoMemory>
         requires walk { IsWalk terms.now self.old }
         requires form { IsForm terms.now hyp.form }
-        ensures ok { OnOk result (HasCome terms.now self.new (known_of terms.now self.old ++ fact_of terms.now hyp ∷ []) (values_of terms.now self.old)) }
-        ensures memory { IfErr result (λ e. e ≡ Stop.Memory) }
+        ensures { OnOk result (HasCome terms.now self.new (known_of terms.now self.old ++ fact_of terms.now hyp ∷ []) (values_of terms.now self.old)) }
     {
         let size = self.size.saturating_add(terms.size_of(hyp.form));
         self.sequent.hyps.push(hyp)?;
@@ -109,11 +108,16 @@ impl Walk {
     }
 
     /// Adds what is known behind the statement with this number.
-    fn learn(&mut self, alloc: Global, terms: &Terms, number: u32, form: FormId) -> Result<(), Stop>
+    fn learn(
+        &mut self,
+        alloc: Global,
+        terms: &Terms,
+        number: u32,
+        form: FormId,
+    ) -> Result<(), NoMemory>
         requires walk { IsWalk terms.now self.old }
         requires form { IsForm terms.now form }
-        ensures ok { OnOk result (HasCome terms.now self.new (known_of terms.now self.old ++ known_at number (formula terms.now form) ∷ []) (values_of terms.now self.old)) }
-        ensures memory { IfErr result (λ e. e ≡ Stop.Memory) }
+        ensures { OnOk result (HasCome terms.now self.new (known_of terms.now self.old ++ known_at number (formula terms.now form) ∷ []) (values_of terms.now self.old)) }
     {
         self.add(
             terms,
@@ -145,11 +149,10 @@ impl Walk {
         fields: &[Field],
         number: u32,
         step: Step,
-    ) -> Result<(), Stop>
+    ) -> Result<(), NoMemory>
         requires walk { IsWalk terms.now self.old }
         requires walkable { IsWalkable terms.now fields.now step }
-        ensures ok { OnOk result (HasCome terms.now self.new (facts_after terms.now fields.now number self.old step) (values_after terms.now fields.now self.old step)) }
-        ensures memory { IfErr result (λ e. e ≡ Stop.Memory) }
+        ensures { OnOk result (HasCome terms.now self.new (facts_after terms.now fields.now number self.old step) (values_after terms.now fields.now self.old step)) }
     {
         match step.act {
             Act::Require(form) | Act::Assert(form) => self.learn(alloc, terms, number, form),

@@ -28,7 +28,6 @@ returns-in_ok-assume-in-Transition c =
     let ts = first_values c.args.fields.now c.args.mode in
     record {
       come = assumed c.args.terms.now t w c.assume.new.self c.args.mode c.args.invariants.now ts c.in_ok-first_values.ensures.keeps c.requires c.in-Transition.is
-          (begins t w ts c.new.ensures refl c.in_ok-first_values.ensures.values) c.in_ok-assume-in-Transition.ensures.ok;
-      memory = tt;
+          (begins t w ts c.new.ensures refl c.in_ok-first_values.ensures.values) c.in_ok-assume-in-Transition.ensures;
       keeps = c.in_ok-first_values.ensures.keeps;
     }

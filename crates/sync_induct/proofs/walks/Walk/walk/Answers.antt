@@ -27,10 +27,10 @@ loop-i-preserved c =
     let e = c.in_ok-check.ensures in
     record {
       keeps = Extends-trans c.loop-i.invariant.keeps e.keeps;
-      stands = c.in_ok-pass.ensures.ok.walk;
+      stands = c.in_ok-pass.ensures.walk;
       continues = step-passed s c.loop-i.terms c.loop-i.invariant.keeps c.args.fields.now c.args.op (proof_trees c.args.book.proofs.now) (place_at s s xs 0 c.args.self.now) xs i d c.loop-i.self c.in-Ok.number
           c.loop-i-test.true c.in-Ok.ensures.1 (All-get_or (IsWalkable s c.args.fields.now) xs i d c.loop-i-test.true c.requires.walkable).ids c.loop-i.invariant.continues
-          c.check.new.terms e.keeps c.check.new.self c.pass.new.self c.loop-i.invariant.stands e.hyps e.current c.in_ok-pass.ensures.ok e.exact e.proved;
+          c.check.new.terms e.keeps c.check.new.self c.pass.new.self c.loop-i.invariant.stands e.hyps e.current c.in_ok-pass.ensures e.exact e.proved;
     }
 
 pub returns-in_err-check-clause-exact : goal.returns-in_err-check-clause-exact
