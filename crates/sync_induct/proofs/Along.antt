@@ -12,7 +12,7 @@ use Rattle.sync_machine.specs.States.{State, Value, Number, Mapped, sort_of, val
 use Rattle.sync_machine.specs.Scope.{Known, IsConditionIn, AreConditionsIn}
 use Rattle.sync_rules.specs.Obligations.{form_names, touches, is_touched, has_to_keep}
 use Rattle.sync_kernel.specs.Facts.{Fact}
-use Rattle.sync_induct.specs.Duties.{Duty, condition_facts, step_facts, safety_duties, step_duties, facts_behind, closing, keeps_duties, operation_duties, duties_from, givens_of, AreProved}
+use Rattle.sync_induct.specs.Duties.{Duty, condition_facts, step_facts, safety_duties, step_duties, facts_behind, closing, keeps_duties, operation_duties, duties_from, givens_of, IsProved, AreProved}
 use Rattle.sync_rules.specs.declared.claims.Claim.TheVariants as claims
 use Rattle.sync_induct.proofs.Agreement.{Agree, Agree-part, truth-agree}
 
@@ -52,9 +52,6 @@ behind-holds fs v cur facts n (s ∷ ss) h m =
     behind-holds fs v (advanced fs cur s.act) (facts ++ step_facts fs cur n s) (suc n) ss
     (facts-append v facts (step_facts fs cur n s) h (condition-holds v n (condition (strategy_of fs s.act) (current_of cur s.act) s.act) m.0)) m.1
 
-abbrev pub IsProved : Duty → Type 0
-IsProved d = IsValid (givens_of d.facts) d.claim
-
 duty-met : (v : Valuation) (op n line : ℕ) (facts : List Fact) (c : Option Formula) → AreProved (safety_duties op n line facts c) → FactsHold v facts → IsMet v c
 duty-met v op n line facts None p h = tt
 duty-met v op n line facts (Some f) p h = p.0 v (as_givens v facts h)
@@ -87,13 +84,15 @@ keeps-valid o op facts last j (i ∷ is) p =
 
 -- the duties of each operation, whatever its number, are proved
 abbrev pub IsOperationProved : MachineTree → OperationTree → Type 0
-IsOperationProved m o = (k : ℕ) × AreProved (operation_duties m k o)
+IsOperationProved m o = (k : ℕ) × AreProved (operation_duties m.fields m.invariants k o)
 
-pub operations-proved : (m : MachineTree) (op : ℕ) (os : List OperationTree) → AreProved (duties_from m op os) → AllByRecursion (IsOperationProved m) os
+pub operations-proved : (m : MachineTree) (op : ℕ) (os : List OperationTree) → AreProved (duties_from m.fields m.invariants op os) → AllByRecursion (IsOperationProved m) os
 unfolding duties_from
 operations-proved m op [] p = tt
 operations-proved m op (o ∷ os) p =
-    ((op, all-left IsProved (operation_duties m op o) (duties_from m (suc op) os) p), operations-proved m (suc op) os (all-right IsProved (operation_duties m op o) (duties_from m (suc op) os) p))
+    let own = operation_duties m.fields m.invariants op o in
+    let others = duties_from m.fields m.invariants (suc op) os in
+    ((op, all-left IsProved own others p), operations-proved m (suc op) os (all-right IsProved own others p))
 
 -- ---- conditions under a valuation that agrees
 

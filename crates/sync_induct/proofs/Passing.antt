@@ -3,7 +3,7 @@ use Rattle.std.proofs.Common.{◌≡◌, ◌⊎◌, ℕ, List, [], ◌∷◌, �
 use Rattle.std.specs.Prelude.{slice_set, OnOk}
 use Rattle.std.specs.Option.{option_map}
 use Rattle.std.proofs.lemmas.List.{append-nil}
-use Rattle.sync_base.specs.declared.stops.Stop.{Stop}
+use Rattle.sync_base.specs.declared.stops.NoMemory.{NoMemory}
 use Rattle.sync_terms.specs.Trees.{Tree, Formula}
 use Rattle.sync_terms.specs.declared.nodes.TermId.{TermId}
 use Rattle.sync_terms.specs.declared.nodes.FormId.{FormId}
@@ -46,11 +46,11 @@ known-form : (a : Act) (form : FormId) → (a ≡ Require form) ⊎ (a ≡ Asser
 known-form a form (inl e) = ap known_from e
 known-form a form (inr e) = ap known_from e
 
-on-ok : {A : Type 0} (r : Result A Stop) (P Q : Type 0) → (P → Q) → OnOk r P → OnOk r Q
+on-ok : {A E : Type 0} (r : Result A E) (P Q : Type 0) → (P → Q) → OnOk r P → OnOk r Q
 on-ok (Ok x) P Q f h = f h
 on-ok (Err e) P Q f h = tt
 
-pub passed-form : (s : Stored) (fs : List Field) (n : ℕ) (w v : Walk) (x : Step) (form : FormId) (r : Result (Unit {0}) Stop) → IsWalkable s fs x → (x.act ≡ Require form) ⊎ (x.act ≡ Assert form)
+pub passed-form : (s : Stored) (fs : List Field) (n : ℕ) (w v : Walk) (x : Step) (form : FormId) (r : Result (Unit {0}) NoMemory) → IsWalkable s fs x → (x.act ≡ Require form) ⊎ (x.act ≡ Assert form)
     → OnOk r (HasCome s v (known_of s w ++ known_at n (formula s form) ∷ []) (values_of s w)) → OnOk r (HasCome s v (facts_after s fs n w x) (values_after s fs w x))
 passed-form s fs n w v x form r h e =
     on-ok r (HasCome s v (known_of s w ++ known_at n (formula s form) ∷ []) (values_of s w)) (HasCome s v (facts_after s fs n w x) (values_after s fs w x))

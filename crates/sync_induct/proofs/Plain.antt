@@ -23,9 +23,8 @@ use Rattle.sync_rules.specs.declared.claims.Claim.TheVariants as claims
 use Rattle.sync_induct.specs.declared.walks.Walk.{Walk}
 use Rattle.sync_induct.specs.Acts.{promise_of, known_from}
 use Rattle.sync_induct.specs.Checks.{ProofTree, duty_fault, duties_fault, is_built}
-use Rattle.sync_induct.specs.Duties.{Duty, safety_duties, AreProved}
+use Rattle.sync_induct.specs.Duties.{Duty, safety_duties, IsProved, AreProved}
 use Rattle.sync_induct.specs.Walks.{values_of, known_of, IsPlain, IsWalkable, owed}
-use Rattle.sync_induct.proofs.Along.{IsProved}
 
 no-amount : (s : Strategy) (t : Tree) → is_built s ≡ true → amount_is_natural s t ≡ None
 unfolding amount_is_natural

@@ -18,9 +18,9 @@ use Rattle.sync_machine.specs.States.{State, Value, Number, Mapped, Sort, Number
 use Rattle.sync_machine.specs.Scope.{Known, IsNumber, IsMap, IsFormula, HasSort, knows, IsNameSymbol, IsScopedOperation, IsScopedInvariant, ChangesNothing, IsScoped}
 use Rattle.sync_rules.specs.Obligations.{names, form_names, has_to_keep, is_kept_by}
 use Rattle.sync_kernel.specs.Facts.{Fact}
-use Rattle.sync_induct.specs.Duties.{invariant_facts, facts_behind, step_duties, keeps_duties, closing, base_facts, operation_duties, duties_of, givens_of, AreProved}
+use Rattle.sync_induct.specs.Duties.{invariant_facts, facts_behind, step_duties, keeps_duties, closing, base_facts, operation_duties, duties_of, givens_of, IsProved, AreProved}
 use Rattle.sync_induct.proofs.Agreement.{Agree, Agree-part, num-agree, mapped-agree, truth-agree, composed, truth-replaced}
-use Rattle.sync_induct.proofs.Along.{FactsHold, as_givens, all-left, all-right, behind-holds, IsProved, steps-safe, KeepsIt, keeps-valid, IsOperationProved, operations-proved, met-agree, last-length, Spares, last-spared, untouched, nothing-changed, isat-agree, values-length, values-at}
+use Rattle.sync_induct.proofs.Along.{FactsHold, as_givens, all-left, all-right, behind-holds, steps-safe, KeepsIt, keeps-valid, IsOperationProved, operations-proved, met-agree, last-length, Spares, last-spared, untouched, nothing-changed, isat-agree, values-length, values-at}
 
 cond-true : {A : Type 0} (b : Bool) (x y : A) → b ≡ true → cond b x y ≡ x
 cond-true true x y e = refl

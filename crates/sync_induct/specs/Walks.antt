@@ -24,6 +24,11 @@ values_of s w = map (tree s) w.current.items
 abbrev pub known_of : Stored → Walk → List Fact
 known_of s w = facts_of s w.sequent.hyps
 
+-- ids of a store with these trees
+pub record HaveTrees (s : Stored) (ids : List TermId) (trees : List Tree) : Type 0 where
+  pub terms : AllByRecursion (IsTerm s) ids
+  pub are : map (tree s) ids ≡ trees
+
 -- the condition of the statement with number n, as a fact
 abbrev pub known_at : ℕ → Formula → Fact
 known_at n form = record { name = At n; params = []; form = form }

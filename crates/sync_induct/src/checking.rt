@@ -1,0 +1,103 @@
+//! The check of a machine by the proofs of its obligations.
+ghost use Rattle.std.specs.Prelude.{◌≡◌, OnOk, IfOk};
+ghost use Rattle.std.specs.List.{AllByRecursion};
+ghost use Rattle.sync_base.specs.Outcome.{first, Passes};
+ghost use Rattle.sync_machine.specs.Machines.{OperationTree};
+ghost use Rattle.sync_machine.specs.Scope.{IsNamed, ChangesNothing};
+ghost use Rattle.sync_machine.specs.States.{HoldsAlways};
+ghost use Rattle.sync_machine.specs.Views.{HasOwnIds, machine_tree};
+ghost use Rattle.sync_rules.specs.Strategies.{AreAllowed};
+ghost use Rattle.sync_induct.specs.Checks.{proof_trees, proof_fault, unbuilt_fault};
+ghost use Rattle.sync_induct.specs.Checks as checks;
+ghost use Rattle.sync_induct.specs.Grown.{HasGrown};
+
+use crate::holding::Inductive;
+use crate::index::{places, wanted};
+use crate::operations::check_operations;
+use crate::proofs::Proofs;
+use crate::walks::Book;
+use std::alloc::Global;
+use sync_base::{Refusal, Rule, Stop};
+use sync_machine::{Field, Machine, Strategy};
+use sync_rules::obligations;
+
+/// Whether fields of this strategy are checked so far.
+fn is_built(strategy: Strategy) -> bool
+    ensures { result ≡ checks.is_built strategy }
+{
+    matches!(
+        strategy,
+        Strategy::Variable | Strategy::Constant | Strategy::NotTokenized
+    )
+}
+
+/// The first field that is not checked so far.
+fn unbuilt(fields: &[Field]) -> Option<Refusal>
+    ensures { result ≡ unbuilt_fault fields.now }
+{
+    for field in fields {
+        if !is_built(field.strategy) {
+            return Some(Refusal {
+                line: field.line,
+                rule: Rule::G9,
+            });
+        }
+    }
+    None
+}
+
+/// Checks that proofs prove all that has to be proved of a machine, which then holds always.
+///
+/// Asks that the machine's ids are of its own store, that its names are known, its statements allowed by their
+/// strategies, and that its properties change nothing. Refuses with the first broken rule of this order:
+///
+/// - G9: a field's strategy is not built yet; the field's line.
+/// - I2: a proof of no obligation, or a second proof of one; the proof's line. In the order of the proofs.
+/// - I1: an obligation has no proof; K8: its sequent has more than 1,000,000 nodes; the obligation's line. Else the first
+///   rule K that its script breaks. In the order of the obligations.
+///
+/// The machine is dropped on a refusal. Its store may have grown; all else in it is as it was.
+pub fn inductive(alloc: Global, m: Machine, p: Proofs) -> Result<Inductive, Stop>
+    requires ids { HasOwnIds m }
+    requires named { IsNamed (machine_tree m) }
+    requires allowed { AllByRecursion (λ (o : OperationTree). AreAllowed m.fields o.steps) (machine_tree m).ops }
+    requires still { AllByRecursion ChangesNothing (machine_tree m).ops }
+    ensures exact { Passes result (first (unbuilt_fault m.fields) (proof_fault (machine_tree m) (proof_trees p.list))) }
+    ensures holds { OnOk result (HoldsAlways (machine_tree m)) }
+    ensures same { IfOk result (λ i. machine_tree i ≡ machine_tree m) }
+    ensures grown { IfOk result (HasGrown m) }
+{
+    if let Some(refusal) = unbuilt(m.fields.as_slice()) {
+        return Err(Stop::Refused(refusal));
+    }
+    let listed = obligations(alloc, &m)?;
+    let titles = wanted(alloc, listed.as_slice())?;
+    let placed = places(alloc, &titles, p.list.as_slice())?;
+    let book = Book {
+        proofs: p.list.as_slice(),
+        places: &placed,
+        wanted: &titles,
+    };
+    let Machine {
+        name,
+        fields,
+        ops,
+        invariants,
+        mut terms,
+    } = m;
+    check_operations(
+        alloc,
+        &mut terms,
+        fields.as_slice(),
+        invariants.as_slice(),
+        ops.as_slice(),
+        book,
+    )?;
+    Ok(Inductive::new(Machine {
+        name,
+        fields,
+        ops,
+        invariants,
+        terms,
+    }))
+}
