@@ -1,6 +1,6 @@
 -- The answer on a whole machine, and the machine over its store that has grown.
-use Rattle.std.proofs.Common.{◌≡◌, ℕ, Bool, List, [], ◌∷◌, map, All, Option, Some, None, Result, Ok, Err, refl, sym, ap, subst, ◌∙◌}
-use Rattle.std.specs.Prelude.{slice_get}
+use Rattle.std.proofs.Common.{◌≡◌, ℕ, Bool, true, false, List, [], ◌∷◌, map, All, Option, Some, None, Result, Ok, Err, refl, sym, ap, subst, ◌∙◌}
+use Rattle.std.specs.Prelude.{slice_get, if◌then◌else◌}
 use Rattle.std.specs.Option.{option_map}
 use Rattle.std.specs.List.{AllByRecursion}
 use Rattle.std.proofs.lemmas.Option.{slice_get-map}
@@ -18,11 +18,16 @@ use Rattle.sync_machine.specs.Machines.{OperationTree, MachineTree}
 use Rattle.sync_machine.specs.Views.{operation_tree, invariant_tree, machine_tree, HasActIds, HasOwnIds}
 use Rattle.sync_machine.specs.Scope.{IsNamed}
 use Rattle.sync_rules.specs.Strategies.{AreAllowed}
+use Rattle.sync_terms.specs.Plans.{Plan, plan_of}
+use Rattle.sync_kernel.specs.Scripts.{script_fault}
+use Rattle.sync_kernel.proofs.Blind.{script_blind}
+use Rattle.sync_base.specs.declared.stops.Rule.TheVariants.{K8}
 use Rattle.sync_rules.specs.declared.claims.Obligation.{Obligation}
 use Rattle.sync_rules.specs.Obligations.{obligations_of}
 use Rattle.sync_induct.specs.declared.index.Title.{Title}
+use Rattle.sync_induct.specs.Titles.{titled, same_title}
 use Rattle.sync_induct.specs.declared.proofs.Proof.{Proof}
-use Rattle.sync_induct.specs.Checks.{ProofTree, title_of, titles_of, proof_trees, has_title, stray_fault, duties_fault, proof_fault, unbuilt_fault}
+use Rattle.sync_induct.specs.Checks.{ProofTree, title_of, titles_of, proof_trees, proofs_in, no_store, proof_of, is_large, judged, has_title, stray_fault, duties_fault, proof_fault, unbuilt_fault}
 use Rattle.sync_induct.specs.Closing.{IsKeepable, AreWanted}
 use Rattle.sync_induct.specs.Duties.{duties_from, duties_of}
 use Rattle.sync_induct.specs.Walks.{IsWalkable}
@@ -44,16 +49,39 @@ machine-stays m t ids e =
 
 -- ---- the answer
 
-titles-are : (ps : List Proof) → map (λ (p : ProofTree). p.title) (proof_trees ps) ≡ titles_of ps
-titles-are [] = refl
-titles-are (p ∷ ps) = ap (λ (os : List Obligation). title_of p ∷ os) (titles-are ps)
+titles-are : (s : Stored) (ps : List Proof) → map (λ (p : ProofTree). p.title) (proofs_in s ps) ≡ titles_of ps
+titles-are s [] = refl
+titles-are s (p ∷ ps) = ap (λ (os : List Obligation). title_of p ∷ os) (titles-are s ps)
+
+-- what a duty's proof is worth does not depend on the store that the scripts' ids are of
+chosen : (b : Bool) (d : Duty) (x y : Plan) (more less : Option Plan) → script_fault d.facts d.claim x ≡ script_fault d.facts d.claim y → judged d more ≡ judged d less
+    → judged d (if b then Some x else more) ≡ judged d (if b then Some y else less)
+chosen true d x y more less one rest = ap (λ (o : Option Refusal). if is_large d then Some (record { line = d.obligation.line; rule = K8 }) else o) one
+chosen false d x y more less one rest = rest
+
+judged-alike : (s t : Stored) (d : Duty) (at : Title) (ps : List Proof) → judged d (proof_of at (proofs_in s ps)) ≡ judged d (proof_of at (proofs_in t ps))
+unfolding proof_of
+judged-alike s t d at [] = refl
+judged-alike s t d at (p ∷ ps) =
+    chosen (same_title (titled (title_of p)) at) d (plan_of s p.script.block) (plan_of t p.script.block) (proof_of at (proofs_in s ps)) (proof_of at (proofs_in t ps))
+    (script_blind s t d.facts d.claim p.script.block) (judged-alike s t d at ps)
+
+duties-alike : (s t : Stored) (ps : List Proof) (ds : List Duty) → duties_fault (proofs_in s ps) ds ≡ duties_fault (proofs_in t ps) ds
+unfolding duties_fault
+duties-alike s t ps [] = refl
+duties-alike s t ps (d ∷ ds) =
+    let one = judged-alike s t d (titled d.obligation) ps in
+    let more = duties-alike s t ps ds in
+    λ i. first (one i) (more i)
 
 -- all three parts of the answer, one after another
 abbrev pub answer : Option Refusal → MachineTree → List Proof → Option Refusal
 answer unbuilt m ps = first unbuilt (first (stray_fault (obligations_of m) [] (titles_of ps)) (duties_fault (proof_trees ps) (duties_of m)))
 
-answer-is : (unbuilt : Option Refusal) (m : MachineTree) (ps : List Proof) → answer unbuilt m ps ≡ first unbuilt (proof_fault m (proof_trees ps))
-answer-is unbuilt m ps = ap (λ (os : List Obligation). first unbuilt (first (stray_fault (obligations_of m) [] os) (duties_fault (proof_trees ps) (duties_of m)))) (sym (titles-are ps))
+answer-is : (unbuilt : Option Refusal) (s : Stored) (m : MachineTree) (ps : List Proof) → answer unbuilt m ps ≡ first unbuilt (proof_fault m (proofs_in s ps))
+answer-is unbuilt s m ps =
+    ap (λ (os : List Obligation). first unbuilt (first (stray_fault (obligations_of m) [] os) (duties_fault (proof_trees ps) (duties_of m)))) (sym (titles-are s ps))
+    ∙ ap (λ (o : Option Refusal). first unbuilt (first (stray_fault (obligations_of m) [] (map (λ (p : ProofTree). p.title) (proofs_in s ps))) o)) (duties-alike no_store s ps (duties_of m))
 
 stops-second : (A B : Type 0) (e : Stop) (x y z : Option Refusal) → x ≡ None → Passes {A = A} (Err e) y → Passes {A = B} (Err e) (first x (first y z))
 stops-second A B Memory x y z none p = tt
@@ -63,19 +91,19 @@ stops-third : (A B : Type 0) (e : Stop) (x y z : Option Refusal) → x ≡ None 
 stops-third A B Memory x y z none also p = tt
 stops-third A B (Refused r) x y z none also p = ap (λ (a : Option Refusal). first a (first y z)) none ∙ (ap (λ (b : Option Refusal). first b z) also ∙ p)
 
-module _ (unbuilt : Option Refusal) (m : MachineTree) (ps : List Proof) (built : unbuilt ≡ None) where
+module _ (unbuilt : Option Refusal) (s : Stored) (m : MachineTree) (ps : List Proof) (built : unbuilt ≡ None) where
   -- a proof is of no obligation, or a second one
-  pub stray-answer : (A B : Type 0) (e : Stop) → Passes {A = A} (Err e) (stray_fault (obligations_of m) [] (titles_of ps)) → Passes {A = B} (Err e) (first unbuilt (proof_fault m (proof_trees ps)))
-  stray-answer A B e h = subst (λ (x : Option Refusal). Passes {A = B} (Err e) x) (answer-is unbuilt m ps)
+  pub stray-answer : (A B : Type 0) (e : Stop) → Passes {A = A} (Err e) (stray_fault (obligations_of m) [] (titles_of ps)) → Passes {A = B} (Err e) (first unbuilt (proof_fault m (proofs_in s ps)))
+  stray-answer A B e h = subst (λ (x : Option Refusal). Passes {A = B} (Err e) x) (answer-is unbuilt s m ps)
       (stops-second A B e unbuilt (stray_fault (obligations_of m) [] (titles_of ps)) (duties_fault (proof_trees ps) (duties_of m)) built h)
 
   module _ (none : stray_fault (obligations_of m) [] (titles_of ps) ≡ None) where
-    pub duty-answer : (A B : Type 0) (e : Stop) → Passes {A = A} (Err e) (duties_fault (proof_trees ps) (duties_of m)) → Passes {A = B} (Err e) (first unbuilt (proof_fault m (proof_trees ps)))
-    duty-answer A B e h = subst (λ (x : Option Refusal). Passes {A = B} (Err e) x) (answer-is unbuilt m ps)
+    pub duty-answer : (A B : Type 0) (e : Stop) → Passes {A = A} (Err e) (duties_fault (proof_trees ps) (duties_of m)) → Passes {A = B} (Err e) (first unbuilt (proof_fault m (proofs_in s ps)))
+    duty-answer A B e h = subst (λ (x : Option Refusal). Passes {A = B} (Err e) x) (answer-is unbuilt s m ps)
         (stops-third A B e unbuilt (stray_fault (obligations_of m) [] (titles_of ps)) (duties_fault (proof_trees ps) (duties_of m)) built none h)
 
-    pub no-answer : duties_fault (proof_trees ps) (duties_of m) ≡ None → first unbuilt (proof_fault m (proof_trees ps)) ≡ None
-    no-answer h = sym (answer-is unbuilt m ps) ∙ (ap (λ (x : Option Refusal). first x (first (stray_fault (obligations_of m) [] (titles_of ps)) (duties_fault (proof_trees ps) (duties_of m)))) built
+    pub no-answer : duties_fault (proof_trees ps) (duties_of m) ≡ None → first unbuilt (proof_fault m (proofs_in s ps)) ≡ None
+    no-answer h = sym (answer-is unbuilt s m ps) ∙ (ap (λ (x : Option Refusal). first x (first (stray_fault (obligations_of m) [] (titles_of ps)) (duties_fault (proof_trees ps) (duties_of m)))) built
         ∙ (ap (λ (x : Option Refusal). first x (duties_fault (proof_trees ps) (duties_of m))) none ∙ h))
 
 -- the titles of the obligations, operation by operation

@@ -13,19 +13,19 @@ use Rattle.sync_machine.specs.declared.fields.Strategy.TheVariants.{Variable, Co
 use Rattle.sync_machine.specs.Machines.{MachineTree}
 use Rattle.sync_rules.specs.declared.claims.Obligation.{Obligation}
 use Rattle.sync_rules.specs.Obligations.{obligations_of}
-use Rattle.sync_terms.specs.declared.scripts.Script.{Script}
 use Rattle.sync_kernel.specs.Facts.{Fact}
-use Rattle.sync_kernel.specs.Scripts.{Plan, plan_of, script_fault}
+use Rattle.sync_terms.specs.Plans.{Plan, plan_of}
+use Rattle.sync_kernel.specs.Scripts.{script_fault}
 use Rattle.sync_induct.specs.declared.proofs.Proof.{Proof}
 use Rattle.sync_induct.specs.declared.index.Title.{Title}
 use Rattle.sync_kernel.specs.declared.sequents.Hyp.{Hyp}
 use Rattle.sync_induct.specs.Duties.{Duty, duties_of, facts_of}
 use Rattle.sync_induct.specs.Titles.{titled, same_title}
 
--- a proof: what it is of, with its own line, and its script
+-- a proof: what it is of, with its own line, and its script as a plan
 pub record ProofTree : Type 0 where
   pub title : Obligation
-  pub script : Script
+  pub plan : Plan
 
 abbrev pub title_of : Proof → Obligation
 title_of p = record { op = p.op; claim = p.claim; line = p.line }
@@ -33,11 +33,19 @@ title_of p = record { op = p.op; claim = p.claim; line = p.line }
 abbrev pub titles_of : List Proof → List Obligation
 titles_of ps = map title_of ps
 
-abbrev pub proof_tree : Proof → ProofTree
-proof_tree p = record { title = title_of p; script = p.script }
+-- the ids of a script are of the store
+abbrev pub proof_in : Stored → Proof → ProofTree
+proof_in s p = record { title = title_of p; plan = plan_of s p.script.block }
+
+abbrev pub proofs_in : Stored → List Proof → List ProofTree
+proofs_in s ps = map (proof_in s) ps
+
+-- the steps that are built so far take no terms, so that over no store a script is worth as much
+abbrev pub no_store : Stored
+no_store = record { nodes = []; forms = [] }
 
 abbrev pub proof_trees : List Proof → List ProofTree
-proof_trees ps = map proof_tree ps
+proof_trees ps = proofs_in no_store ps
 
 -- a list has a proof or an obligation of this title
 abbrev pub has_title : List Obligation → Title → Bool
@@ -51,9 +59,9 @@ stray_fault wanted earlier (p ∷ ps) =
     else Some (record { line = p.line; rule = I2 })
 
 -- the script of the first proof with a title
-unfoldable pub proof_of : Title → List ProofTree → Option Script
+unfoldable pub proof_of : Title → List ProofTree → Option Plan
 proof_of t [] = None
-proof_of t (p ∷ ps) = if same_title (titled p.title) t then Some p.script else proof_of t ps
+proof_of t (p ∷ ps) = if same_title (titled p.title) t then Some p.plan else proof_of t ps
 
 -- the nodes of all hypotheses
 unfoldable pub facts_size : List Fact → ℕ
@@ -68,14 +76,10 @@ sequent_size facts claim = facts_size facts + formula_size (neg claim)
 abbrev pub is_large : Duty → Bool
 is_large d = nat_lt 1000000 (formula_size d.claim) || nat_lt 1000000 (sequent_size d.facts d.claim)
 
--- the plan of a script; its steps have no terms yet, so that it is the same over every store
-abbrev pub plan_in : Script → Plan
-plan_in x = plan_of (record { nodes = []; forms = [] }) x
-
 -- an obligation without a proof, with too large a sequent, or with a script that does not prove it
-abbrev pub judged : Duty → Option Script → Option Refusal
+abbrev pub judged : Duty → Option Plan → Option Refusal
 judged d None = Some (record { line = d.obligation.line; rule = I1 })
-judged d (Some script) = if is_large d then Some (record { line = d.obligation.line; rule = K8 }) else script_fault d.facts d.claim (plan_in script)
+judged d (Some plan) = if is_large d then Some (record { line = d.obligation.line; rule = K8 }) else script_fault d.facts d.claim plan
 
 abbrev pub duty_fault : List ProofTree → Duty → Option Refusal
 duty_fault ps d = judged d (proof_of (titled d.obligation) ps)

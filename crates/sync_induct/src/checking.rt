@@ -7,7 +7,7 @@ ghost use Rattle.sync_machine.specs.Scope.{IsNamed, ChangesNothing};
 ghost use Rattle.sync_machine.specs.States.{HoldsAlways};
 ghost use Rattle.sync_machine.specs.Views.{HasOwnIds, machine_tree};
 ghost use Rattle.sync_rules.specs.Strategies.{AreAllowed};
-ghost use Rattle.sync_induct.specs.Checks.{proof_trees, proof_fault, unbuilt_fault};
+ghost use Rattle.sync_induct.specs.Checks.{proofs_in, proof_fault, unbuilt_fault};
 ghost use Rattle.sync_induct.specs.Checks as checks;
 ghost use Rattle.sync_induct.specs.Grown.{HasGrown};
 
@@ -62,7 +62,7 @@ pub fn inductive(alloc: Global, m: Machine, p: Proofs) -> Result<Inductive, Stop
     requires named { IsNamed (machine_tree m) }
     requires allowed { AllByRecursion (λ (o : OperationTree). AreAllowed m.fields o.steps) (machine_tree m).ops }
     requires still { AllByRecursion ChangesNothing (machine_tree m).ops }
-    ensures exact { Passes result (first (unbuilt_fault m.fields) (proof_fault (machine_tree m) (proof_trees p.list))) }
+    ensures exact { Passes result (first (unbuilt_fault m.fields) (proof_fault (machine_tree m) (proofs_in m.terms p.list))) }
     ensures holds { OnOk result (HoldsAlways (machine_tree m)) }
     ensures same { IfOk result (λ i. machine_tree i ≡ machine_tree m) }
     ensures grown { IfOk result (HasGrown m) }
