@@ -1,0 +1,366 @@
+//! Reading proof scripts. `left` is 65 less the number of brackets that are open.
+ghost use Rattle.std.specs.Prelude.{◌≡◌, ◌-◌, ◌<◌};
+ghost use Rattle.sync_tokens.specs.declared.signs.Sign.TheVariants as sign;
+ghost use Rattle.sync_parse.specs.declared.scripts.RawStepKind.TheVariants as step;
+ghost use Rattle.sync_exprs.specs.Faults.{Reads};
+ghost use Rattle.sync_exprs.specs.Lexemes.{series};
+ghost use Rattle.sync_parse.specs.Scripts.{place_of, times_of, bounded_of, subject_at, hyp_at, as_name, scaled, part_at, same_step, sum_step, inst_step, parts_step, lookup_step, cong_step, plain_step, split_step, cut_step, step_at, steps, nested, block_at, script_at};
+
+use crate::scripts::{RawBlock, RawHyp, RawPart, RawScript, RawStep, RawStepKind, Subject};
+use sqlite_items::Items;
+use std::alloc::Global;
+use sync_exprs::{
+    Fault, Halt, Named, Read, Special, begins_with, deep, expr, exprs, first_line, goes_on, name,
+    next, number, sign, signed, wanted,
+};
+use sync_tokens::{Sign, What, Word};
+
+/// The number of a statement as it is kept.
+pub(crate) fn place_of(number: u128) -> u32
+    ensures { result ≡ place_of number }
+{
+    number.min(u128::from(u32::MAX)) as u32
+}
+
+#[tactic(auto, unfolding(crate::specs::Scripts::bounded_of))]
+fn bounded_of(sign: Sign) -> Option<Special>
+    ensures { result ≡ bounded_of sign }
+{
+    if sign == Sign::Old {
+        Some(Special::Old)
+    } else if sign == Sign::New {
+        Some(Special::New)
+    } else if sign == Sign::Wrap {
+        Some(Special::Wrap)
+    } else {
+        None
+    }
+}
+
+/// A name, or `old`, `new` or `wrap`.
+#[tactic(auto, unfolding(crate::specs::Scripts::subject_at))]
+fn subject<'a>(words: &'a [Word], left: u32) -> Read<'a, Subject>
+    ensures { Reads (λ x. (x.0, x.1.now)) result (subject_at left words.now) }
+{
+    let (word, rest) = next(words).ok_or(Halt::Fault(Fault::Ended))?;
+    let line = word.line;
+    let subject = match word.what {
+        What::Name(name, _) => Subject::Name(Named { name, line }),
+        What::Sign(sign) => match bounded_of(sign) {
+            Some(word) => Subject::Special(word, line),
+            None => return Err(wanted(line)),
+        },
+        What::Number(_) => return Err(wanted(line)),
+    };
+    if left == 0 {
+        return Err(deep(line));
+    }
+    Ok((subject, rest))
+}
+
+#[tactic(auto, unfolding(crate::specs::Scripts::hyp_at))]
+fn hyp<'a>(words: &'a [Word], left: u32) -> Read<'a, RawHyp>
+    ensures { Reads (λ x. (x.0, x.1.now)) result (hyp_at left words.now) }
+{
+    if begins_with(words, Sign::Denied) {
+        let (_, rest) = sign(words, left, Sign::Denied)?;
+        return Ok((RawHyp::Denied, rest));
+    }
+    if begins_with(words, Sign::At) {
+        let (_, rest) = sign(words, left, Sign::At)?;
+        let (at, rest) = number(rest, left)?;
+        return Ok((RawHyp::At(place_of(at)), rest));
+    }
+    if begins_with(words, Sign::Low) {
+        let (_, rest) = sign(words, left, Sign::Low)?;
+        let (subject, rest) = subject(rest, left)?;
+        return Ok((RawHyp::Low(subject), rest));
+    }
+    if begins_with(words, Sign::High) {
+        let (_, rest) = sign(words, left, Sign::High)?;
+        let (subject, rest) = subject(rest, left)?;
+        return Ok((RawHyp::High(subject), rest));
+    }
+    let (label, rest) = name(words, left)?;
+    Ok((RawHyp::Label(label), rest))
+}
+
+/// `as` and the name that a step gives.
+#[tactic(auto, unfolding(crate::specs::Scripts::as_name))]
+fn as_name<'a>(words: &'a [Word], left: u32) -> Read<'a, Named>
+    ensures { Reads (λ x. (x.0, x.1.now)) result (as_name left words.now) }
+{
+    let (_, rest) = sign(words, left, Sign::As)?;
+    name(rest, left)
+}
+
+fn times_of(minus: bool, number: u128) -> i128
+    ensures { result ≡ times_of minus number }
+{
+    if minus {
+        -signed(number)
+    } else {
+        signed(number)
+    }
+}
+
+#[tactic(auto, unfolding(crate::specs::Scripts::scaled))]
+fn scaled<'a>(words: &'a [Word], left: u32, minus: bool) -> Read<'a, RawPart>
+    ensures { Reads (λ x. (x.0, x.1.now)) result (scaled minus left words.now) }
+{
+    let (number, rest) = number(words, left)?;
+    let (hyp, rest) = hyp(rest, left)?;
+    let times = times_of(minus, number);
+    Ok((RawPart { times, hyp }, rest))
+}
+
+/// A number, which may have `-` before it, times a hypothesis.
+#[tactic(auto, unfolding(crate::specs::Scripts::part_at))]
+fn part<'a>(words: &'a [Word], left: u32) -> Read<'a, RawPart>
+    ensures { Reads (λ x. (x.0, x.1.now)) result (part_at left words.now) }
+{
+    if begins_with(words, Sign::Minus) {
+        let (_, rest) = sign(words, left, Sign::Minus)?;
+        return scaled(rest, left, true);
+    }
+    scaled(words, left, false)
+}
+
+/// Parts with commas between, at least one.
+#[tactic(auto, unfolding(sync_exprs::specs::Lexemes::series, sync_exprs::specs::Lexemes::behind_commas))]
+fn part_series<'a>(alloc: Global, words: &'a [Word], left: u32) -> Read<'a, Items<RawPart>>
+    ensures { Reads (λ x. (x.0, x.1.now)) result (series (part_at left) words.now) }
+{
+    let (first, mut rest) = part(words, left)?;
+    let mut held = Items::new(alloc);
+    held.push(first)?;
+    for _ in 0..rest.len() {
+        match next(rest) {
+            Some((word, after)) if word.is(Sign::Comma) => {
+                let (item, after) = part(after, left)?;
+                held.push(item)?;
+                rest = after;
+            }
+            _ => return Ok((held, rest)),
+        }
+    }
+    Ok((held, rest))
+}
+
+#[tactic(auto, unfolding(crate::specs::Scripts::same_step))]
+fn same_step<'a>(words: &'a [Word], left: u32) -> Read<'a, RawStepKind>
+    ensures { Reads (λ x. (x.0, x.1.now)) result (same_step left words.now) }
+{
+    let (_, rest) = sign(words, left, Sign::Same)?;
+    let (_, rest) = sign(rest, left, Sign::Semicolon)?;
+    Ok((RawStepKind::Same, rest))
+}
+
+#[tactic(auto, unfolding(crate::specs::Scripts::sum_step))]
+fn sum_step<'a>(alloc: Global, words: &'a [Word], left: u32) -> Read<'a, RawStepKind>
+    ensures { Reads (λ x. (x.0, x.1.now)) result (sum_step left words.now) }
+{
+    let (_, rest) = sign(words, left, Sign::Sum)?;
+    let (parts, rest) = part_series(alloc, rest, left)?;
+    let (_, rest) = sign(rest, left, Sign::Semicolon)?;
+    Ok((RawStepKind::Sum(parts), rest))
+}
+
+#[tactic(auto, unfolding(crate::specs::Scripts::inst_step))]
+fn inst_step<'a>(alloc: Global, words: &'a [Word], left: u32) -> Read<'a, RawStepKind>
+    ensures { Reads (λ x. (x.0, x.1.now)) result (inst_step left words.now) }
+{
+    let (_, rest) = sign(words, left, Sign::Inst)?;
+    let (hyp, rest) = hyp(rest, left)?;
+    let (terms, rest) = exprs(alloc, rest, left)?;
+    let (given, rest) = as_name(rest, left)?;
+    let (_, rest) = sign(rest, left, Sign::Semicolon)?;
+    Ok((RawStepKind::Inst(hyp, terms, given), rest))
+}
+
+#[tactic(auto, unfolding(crate::specs::Scripts::parts_step))]
+fn parts_step<'a>(words: &'a [Word], left: u32) -> Read<'a, RawStepKind>
+    ensures { Reads (λ x. (x.0, x.1.now)) result (parts_step left words.now) }
+{
+    let (_, rest) = sign(words, left, Sign::Parts)?;
+    let (hyp, rest) = hyp(rest, left)?;
+    let (first, rest) = as_name(rest, left)?;
+    let (_, rest) = sign(rest, left, Sign::Comma)?;
+    let (second, rest) = name(rest, left)?;
+    let (_, rest) = sign(rest, left, Sign::Semicolon)?;
+    Ok((RawStepKind::Parts(hyp, first, second), rest))
+}
+
+#[tactic(auto, unfolding(crate::specs::Scripts::lookup_step))]
+fn read_step<'a>(alloc: Global, words: &'a [Word], left: u32) -> Read<'a, RawStepKind>
+    ensures { Reads (λ x. (x.0, x.1.now)) result (lookup_step sign.Read step.Read left words.now) }
+{
+    let (_, rest) = sign(words, left, Sign::Read)?;
+    let (map, rest) = expr(alloc, rest, left)?;
+    let (_, rest) = sign(rest, left, Sign::Comma)?;
+    let (key, rest) = expr(alloc, rest, left)?;
+    let (given, rest) = as_name(rest, left)?;
+    let (_, rest) = sign(rest, left, Sign::Semicolon)?;
+    Ok((RawStepKind::Read(map, key, given), rest))
+}
+
+#[tactic(auto, unfolding(crate::specs::Scripts::lookup_step))]
+fn size_step<'a>(alloc: Global, words: &'a [Word], left: u32) -> Read<'a, RawStepKind>
+    ensures { Reads (λ x. (x.0, x.1.now)) result (lookup_step sign.Size step.Size left words.now) }
+{
+    let (_, rest) = sign(words, left, Sign::Size)?;
+    let (map, rest) = expr(alloc, rest, left)?;
+    let (_, rest) = sign(rest, left, Sign::Comma)?;
+    let (key, rest) = expr(alloc, rest, left)?;
+    let (given, rest) = as_name(rest, left)?;
+    let (_, rest) = sign(rest, left, Sign::Semicolon)?;
+    Ok((RawStepKind::Size(map, key, given), rest))
+}
+
+#[tactic(auto, unfolding(crate::specs::Scripts::lookup_step))]
+fn total_step<'a>(alloc: Global, words: &'a [Word], left: u32) -> Read<'a, RawStepKind>
+    ensures { Reads (λ x. (x.0, x.1.now)) result (lookup_step sign.Total step.Total left words.now) }
+{
+    let (_, rest) = sign(words, left, Sign::Total)?;
+    let (map, rest) = expr(alloc, rest, left)?;
+    let (_, rest) = sign(rest, left, Sign::Comma)?;
+    let (key, rest) = expr(alloc, rest, left)?;
+    let (given, rest) = as_name(rest, left)?;
+    let (_, rest) = sign(rest, left, Sign::Semicolon)?;
+    Ok((RawStepKind::Total(map, key, given), rest))
+}
+
+#[tactic(auto, unfolding(crate::specs::Scripts::cong_step))]
+fn cong_step<'a>(alloc: Global, words: &'a [Word], left: u32) -> Read<'a, RawStepKind>
+    ensures { Reads (λ x. (x.0, x.1.now)) result (cong_step left words.now) }
+{
+    let (_, rest) = sign(words, left, Sign::Cong)?;
+    let (map, rest) = expr(alloc, rest, left)?;
+    let (_, rest) = sign(rest, left, Sign::Comma)?;
+    let (first, rest) = expr(alloc, rest, left)?;
+    let (_, rest) = sign(rest, left, Sign::Comma)?;
+    let (second, rest) = expr(alloc, rest, left)?;
+    let (given, rest) = as_name(rest, left)?;
+    let (_, rest) = sign(rest, left, Sign::Semicolon)?;
+    Ok((RawStepKind::Cong(map, first, second, given), rest))
+}
+
+/// A step without a block.
+#[tactic(auto, unfolding(crate::specs::Scripts::plain_step))]
+fn plain_step<'a>(alloc: Global, words: &'a [Word], left: u32) -> Read<'a, RawStepKind>
+    ensures { Reads (λ x. (x.0, x.1.now)) result (plain_step left words.now) }
+{
+    let (word, _) = next(words).ok_or(Halt::Fault(Fault::Ended))?;
+    if word.is(Sign::Same) {
+        same_step(words, left)
+    } else if word.is(Sign::Sum) {
+        sum_step(alloc, words, left)
+    } else if word.is(Sign::Inst) {
+        inst_step(alloc, words, left)
+    } else if word.is(Sign::Parts) {
+        parts_step(words, left)
+    } else if word.is(Sign::Read) {
+        read_step(alloc, words, left)
+    } else if word.is(Sign::Size) {
+        size_step(alloc, words, left)
+    } else if word.is(Sign::Total) {
+        total_step(alloc, words, left)
+    } else if word.is(Sign::Cong) {
+        cong_step(alloc, words, left)
+    } else {
+        Err(wanted(word.line))
+    }
+}
+
+#[cycle(script)]
+#[tactic(auto, unfolding(crate::specs::Scripts::split_step, crate::specs::Scripts::block_at))]
+fn split_step<'a>(alloc: Global, words: &'a [Word], left: u32) -> Read<'a, RawStepKind>
+    ensures { Reads (λ x. (x.0, x.1.now)) result (split_step (block_at left) left words.now) }
+{
+    let (_, rest) = sign(words, left, Sign::Split)?;
+    let (hyp, rest) = hyp(rest, left)?;
+    let (given, rest) = as_name(rest, left)?;
+    let (first, rest) = block(alloc, rest, left)?;
+    let (second, rest) = block(alloc, rest, left)?;
+    Ok((RawStepKind::Split(hyp, given, first, second), rest))
+}
+
+#[cycle(script)]
+#[tactic(auto, unfolding(crate::specs::Scripts::cut_step, crate::specs::Scripts::block_at))]
+fn cut_step<'a>(alloc: Global, words: &'a [Word], left: u32) -> Read<'a, RawStepKind>
+    ensures { Reads (λ x. (x.0, x.1.now)) result (cut_step (block_at left) left words.now) }
+{
+    let (_, rest) = sign(words, left, Sign::Cut)?;
+    let (form, rest) = expr(alloc, rest, left)?;
+    let (given, rest) = as_name(rest, left)?;
+    let (inner, rest) = block(alloc, rest, left)?;
+    Ok((RawStepKind::Cut(form, given, inner), rest))
+}
+
+#[cycle(script)]
+#[tactic(auto, unfolding(crate::specs::Scripts::step_at))]
+fn step<'a>(alloc: Global, words: &'a [Word], left: u32) -> Read<'a, RawStep>
+    ensures { Reads (λ x. (x.0, x.1.now)) result (step_at (block_at left) left words.now) }
+{
+    let line = first_line(words);
+    let (what, rest) = if begins_with(words, Sign::Split) {
+        split_step(alloc, words, left)?
+    } else if begins_with(words, Sign::Cut) {
+        cut_step(alloc, words, left)?
+    } else {
+        plain_step(alloc, words, left)?
+    };
+    Ok((RawStep { what, line }, rest))
+}
+
+/// A step inside of a block that opens at a level.
+#[cycle(script)]
+#[tactic(auto, using(crate::proofs::Inside::nested_is))]
+fn step_inside<'a>(alloc: Global, words: &'a [Word], left: u32) -> Read<'a, RawStep>
+    requires { 0 < left }
+    ensures { Reads (λ x. (x.0, x.1.now)) result (step_at (nested left) (left - 1) words.now) }
+{
+    step(alloc, words, left - 1)
+}
+
+/// The steps of a block that opens at a level, up to its closing brace.
+#[cycle(script)]
+#[tactic(auto, unfolding(crate::specs::Scripts::steps, sync_exprs::specs::Lexemes::row))]
+fn steps<'a>(alloc: Global, words: &'a [Word], left: u32) -> Read<'a, Items<RawStep>>
+    requires { 0 < left }
+    ensures { Reads (λ x. (x.0, x.1.now)) result (steps (nested left) (left - 1) words.now) }
+{
+    let mut held = Items::new(alloc);
+    let mut rest = words;
+    for _ in 0..words.len() {
+        if goes_on(rest) {
+            let (item, after) = step_inside(alloc, rest, left)?;
+            held.push(item)?;
+            rest = after;
+        } else {
+            return Ok((held, rest));
+        }
+    }
+    Ok((held, rest))
+}
+
+#[cycle(script)]
+#[tactic(auto, unfolding(crate::specs::Scripts::block_at))]
+fn block<'a>(alloc: Global, words: &'a [Word], left: u32) -> Read<'a, RawBlock>
+    ensures { Reads (λ x. (x.0, x.1.now)) result (block_at left words.now) }
+{
+    let (_, rest) = sign(words, left, Sign::OpenBrace)?;
+    let (steps, rest) = steps(alloc, rest, left)?;
+    let (end_line, rest) = sign(rest, left - 1, Sign::CloseBrace)?;
+    Ok((RawBlock { steps, end_line }, rest))
+}
+
+/// `by` and a block.
+#[tactic(auto, unfolding(crate::specs::Scripts::script_at))]
+pub(crate) fn script<'a>(alloc: Global, words: &'a [Word], left: u32) -> Read<'a, RawScript>
+    ensures { Reads (λ x. (x.0, x.1.now)) result (script_at left words.now) }
+{
+    let (line, rest) = sign(words, left, Sign::By)?;
+    let (block, rest) = block(alloc, rest, left)?;
+    Ok((RawScript { block, line }, rest))
+}

@@ -1,0 +1,68 @@
+//! Proof scripts.
+use sqlite_items::Items;
+use sync_exprs::{Expr, Named, Special};
+
+/// `by` and a block, with the line of `by`.
+#[derive(Debug, Drop)]
+pub struct RawScript {
+    pub block: RawBlock,
+    pub line: u32,
+}
+
+/// The steps between two braces, with the line of the closing one.
+#[derive(Debug, Drop)]
+#[cycle(scripts)]
+pub struct RawBlock {
+    pub steps: Items<RawStep>,
+    pub end_line: u32,
+}
+
+/// A step, with the line of its first word.
+#[derive(Debug, Drop)]
+#[cycle(scripts)]
+pub struct RawStep {
+    pub what: RawStepKind,
+    pub line: u32,
+}
+
+/// What a step does. The last name of a step, and the second last of `Parts`, are given by it.
+#[derive(Debug, Drop)]
+#[cycle(scripts)]
+pub enum RawStepKind {
+    Same,
+    Sum(Items<RawPart>),
+    Inst(RawHyp, Items<Expr>, Named),
+    Parts(RawHyp, Named, Named),
+    Split(RawHyp, Named, RawBlock, RawBlock),
+    Cut(Expr, Named, RawBlock),
+    Read(Expr, Expr, Named),
+    Size(Expr, Expr, Named),
+    Total(Expr, Expr, Named),
+    Cong(Expr, Expr, Expr, Named),
+}
+
+/// One part of a `sum`: a number times a hypothesis.
+#[derive(Clone, Copy, PartialEq, Eq, Debug)]
+pub struct RawPart {
+    pub times: i128,
+    pub hyp: RawHyp,
+}
+
+/// How a script names a hypothesis.
+#[derive(Clone, Copy, PartialEq, Eq, Debug)]
+pub enum RawHyp {
+    Denied,
+    Label(Named),
+    /// The condition of the statement with this number, from 1; 4,294,967,295 stands for all numbers from there on.
+    At(u32),
+    Low(Subject),
+    High(Subject),
+}
+
+/// What `low` and `high` speak of.
+#[derive(Clone, Copy, PartialEq, Eq, Debug)]
+pub enum Subject {
+    Name(Named),
+    /// `old`, `new` or `wrap`, with its line.
+    Special(Special, u32),
+}

@@ -1,0 +1,7 @@
+pub mod Scopes
+pub mod Exprs
+pub mod Acts
+pub mod Owned
+pub mod Resolving
+pub mod Scripts
+pub mod Texts
