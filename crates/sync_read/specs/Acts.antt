@@ -10,7 +10,7 @@ use Rattle.sync_machine.specs.declared.fields.Strategy.TheVariants.{Variable, Co
 use Rattle.sync_machine.specs.Machines.{PatternTree, PlaceTree, ActTree, StepTree}
 use Rattle.sync_machine.specs.Machines as machines
 use Rattle.sync_exprs.specs.declared.expressions.Expr.{Expr}
-use Rattle.sync_exprs.specs.declared.names.Named.{Named}
+use Rattle.sync_exprs.specs.declared.naming.Named.{Named}
 use Rattle.sync_parse.specs.declared.trees.RawField.{RawField}
 use Rattle.sync_parse.specs.declared.trees.RawPattern.{RawPattern}
 use Rattle.sync_parse.specs.declared.trees.RawPattern.TheVariants as pattern

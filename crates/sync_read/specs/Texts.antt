@@ -1,5 +1,5 @@
 -- What a raw text means, as plain lists, or the first rule N that it breaks.
-use Rattle.std.specs.Prelude.{ℕ, Bool, false, List, [], length, map, min, replicate, Result, Ok, Err}
+use Rattle.std.specs.Prelude.{ℕ, List, [], length, map, min, replicate, Result, Ok, Err}
 use Rattle.sync_base.specs.declared.stops.Refusal.{Refusal}
 use Rattle.sync_base.specs.declared.names.NameList.{NameList}
 use Rattle.sync_base.specs.Outcome.{◌>>=◌}
@@ -20,7 +20,7 @@ pub record TextTree : Type 0 where
   pub names : NameList
 
 abbrev pub unowned : Owners
-unowned = record { operations = replicate 64 false; invariants = replicate 64 false }
+unowned = record { operations = 0; invariants = 0 }
 
 -- so many names, of which none stands for anything; a text has fewer than 1,048,576
 abbrev pub first_scope : ℕ → Scope

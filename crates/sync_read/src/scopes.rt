@@ -1,7 +1,7 @@
 //! What the names of a text stand for at a place.
 ghost use Rattle.std.specs.Prelude.{◌≡◌};
 ghost use Rattle.sync_base.specs.Outcome.{Gives};
-ghost use Rattle.sync_read.specs.Scopes.{symbol_of, param_symbol, flag};
+ghost use Rattle.sync_read.specs.Scopes.{symbol_of, param_symbol_of, flag, with_flag};
 
 use sqlite_items::{Items, at};
 use sync_base::{Refusal, Rule, Stop};
@@ -25,14 +25,12 @@ pub enum Meaning {
     Invariant(u32),
 }
 
-/// So many operations, and so many invariants, may a machine have.
-pub(crate) const OWNERS: u32 = 64;
-
-/// Of which operations a name is a parameter or bound name, and of which invariants it is a parameter.
-#[derive(Clone, Copy, Debug)]
+/// Of which operations a name is a parameter or bound name, and of which invariants it is a parameter: a bit for each
+/// of 64.
+#[derive(Clone, Copy, PartialEq, Eq, Debug)]
 pub struct Owners {
-    pub operations: [bool; 64],
-    pub invariants: [bool; 64],
+    pub operations: u64,
+    pub invariants: u64,
 }
 
 /// Whose parameters and bound names are known at a place.
@@ -56,10 +54,17 @@ pub struct Scope {
 }
 
 /// A broken rule at a line.
+pub(crate) fn broken(rule: Rule, line: u32) -> Refusal
+    ensures { result ≡ record { line = line; rule = rule } }
+{
+    Refusal { line, rule }
+}
+
+/// A broken rule at a line, as the reason to stop.
 pub(crate) fn refused(rule: Rule, line: u32) -> Stop
     ensures { result ≡ Stop.Refused (record { line = line; rule = rule }) }
 {
-    Stop::Refused(Refusal { line, rule })
+    Stop::Refused(broken(rule, line))
 }
 
 /// The symbol of a name as a parameter or bound name; a text has fewer than 1,048,576 names.
@@ -70,32 +75,42 @@ pub(crate) fn symbol_of(name: u32) -> Sym
 }
 
 /// The symbol of `$` before a name.
-pub(crate) fn param_symbol(name: u32) -> Sym
-    ensures { result.0 ≡ param_symbol name }
+fn param_symbol_of(name: u32) -> Sym
+    ensures { result.0 ≡ param_symbol_of name }
 {
     Sym(65 + 4 * name.min(1_048_575))
 }
 
-/// Whether a flag is up.
-fn flag(flags: &[bool], number: u32) -> bool
-    ensures { result ≡ flag flags.now number }
+/// Whether one of 64 flags is up.
+#[tactic(auto, using(std::proofs::lemmas::Nat::Bits::shr_and_one))]
+fn flag(flags: u64, number: u32) -> bool
+    ensures { result ≡ flag flags number }
 {
-    match at(flags, number as usize) {
-        Some(up) => *up,
-        None => false,
+    number < 64 && (flags >> number) & 1 == 1
+}
+
+/// The same flags with one of them up.
+#[tactic(auto, using(crate::proofs::Flags::one_flag))]
+fn with_flag(flags: u64, number: u32) -> u64
+    ensures { result ≡ with_flag flags number }
+{
+    if number < 64 {
+        flags | (1 << number)
+    } else {
+        flags
     }
 }
 
 impl Owners {
     ghost use Rattle.sync_read.specs.Scopes.{has_owner, with_owner};
 
-    fn has(&self, owner: Owner) -> bool
-        ensures { result ≡ has_owner self.now owner }
+    fn has(self, owner: Owner) -> bool
+        ensures { result ≡ has_owner self owner }
     {
         match owner {
             Owner::Nobody => false,
-            Owner::Operation(number) => flag(&self.operations, number),
-            Owner::Invariant(number) => flag(&self.invariants, number),
+            Owner::Operation(number) => flag(self.operations, number),
+            Owner::Invariant(number) => flag(self.invariants, number),
         }
     }
 
@@ -105,23 +120,15 @@ impl Owners {
         let mut more = self;
         match owner {
             Owner::Nobody => {}
-            Owner::Operation(number) => {
-                if number < OWNERS {
-                    more.operations[number as usize] = true;
-                }
-            }
-            Owner::Invariant(number) => {
-                if number < OWNERS {
-                    more.invariants[number as usize] = true;
-                }
-            }
+            Owner::Operation(number) => more.operations = with_flag(self.operations, number),
+            Owner::Invariant(number) => more.invariants = with_flag(self.invariants, number),
         }
         more
     }
 }
 
 impl Scope {
-    ghost use Rattle.sync_read.specs.Scopes.{meaning_of, is_owned, is_taken, name_sort, param_sort, name_symbol, declare, own};
+    ghost use Rattle.sync_read.specs.Scopes.{meaning_of, is_owned, is_local, is_taken, name_sort, name_symbol, knows_params, param_symbol, declare, own};
 
     /// What a name was declared as.
     pub(crate) fn meaning(&self, name: u32) -> Meaning
@@ -130,65 +137,6 @@ impl Scope {
         match at(self.meanings.as_slice(), name as usize) {
             Some(meaning) => *meaning,
             None => Meaning::Nothing,
-        }
-    }
-
-    /// Whether somebody has this name as a parameter or bound name.
-    fn is_owned(&self, owner: Owner, name: u32) -> bool
-        ensures { result ≡ is_owned self.now owner name }
-    {
-        match at(self.owners.as_slice(), name as usize) {
-            Some(owners) => owners.has(owner),
-            None => false,
-        }
-    }
-
-    /// Whether a name is a parameter or bound name here.
-    pub(crate) fn is_local(&self, name: u32) -> bool
-        ensures { result ≡ is_owned self.now self.now.owner name }
-    {
-        self.is_owned(self.owner, name)
-    }
-
-    /// The sort of a name in a term.
-    pub(crate) fn name_sort(&self, named: Named) -> Result<Sort, Stop>
-        ensures { Gives (λ s. s) result (name_sort self.now named) }
-    {
-        if self.is_local(named.name) {
-            return Ok(Sort::Number);
-        }
-        match self.meaning(named.name) {
-            Meaning::Field(_, sort) => Ok(sort),
-            _ => Err(refused(Rule::N1, named.line)),
-        }
-    }
-
-    /// The sort of `$` before a name.
-    pub(crate) fn param_sort(&self, line: u32, named: Named) -> Result<Sort, Stop>
-        ensures { Gives (λ s. s) result (param_sort self.now line named) }
-    {
-        match self.claim {
-            Owner::Nobody => Err(refused(Rule::N1, line)),
-            Owner::Operation(_) | Owner::Invariant(_) => {
-                if self.is_owned(self.claim, named.name) {
-                    Ok(Sort::Number)
-                } else {
-                    Err(refused(Rule::N1, named.line))
-                }
-            }
-        }
-    }
-
-    /// The symbol of a name in a term.
-    pub(crate) fn name_symbol(&self, name: u32) -> Sym
-        ensures { result.0 ≡ name_symbol self.now name }
-    {
-        if self.is_local(name) {
-            return symbol_of(name);
-        }
-        match self.meaning(name) {
-            Meaning::Field(number, _) => Sym(number),
-            _ => Sym(0),
         }
     }
 
@@ -210,15 +158,30 @@ impl Scope {
         }
     }
 
+    /// Whether somebody has this name as a parameter or bound name.
+    fn is_owned(&self, owner: Owner, name: u32) -> bool
+        ensures { result ≡ is_owned self.now owner name }
+    {
+        match at(self.owners.as_slice(), name as usize) {
+            Some(owners) => owners.has(owner),
+            None => false,
+        }
+    }
+
+    /// Whether a name is a parameter or bound name here.
+    fn is_local(&self, name: u32) -> bool
+        ensures { result ≡ is_local self.now name }
+    {
+        self.is_owned(self.owner, name)
+    }
+
     /// Whether a name is a parameter or bound name here, or a field.
     fn is_taken(&self, name: u32) -> bool
         ensures { result ≡ is_taken self.now name }
     {
         match self.meaning(name) {
             Meaning::Field(_, _) => true,
-            Meaning::Nothing | Meaning::Operation(_) | Meaning::Invariant(_) => {
-                self.is_local(name)
-            }
+            Meaning::Nothing | Meaning::Operation(_) | Meaning::Invariant(_) => self.is_local(name),
         }
     }
 
@@ -236,5 +199,56 @@ impl Scope {
         let more = owners.with(self.owner);
         self.owners.set(named.name as usize, more);
         Ok(())
+    }
+
+    /// The sort of a name in a term, where it is known.
+    pub(crate) fn name_sort(&self, name: u32) -> Option<Sort>
+        ensures { result ≡ name_sort self.now name }
+    {
+        if self.is_local(name) {
+            return Some(Sort::Number);
+        }
+        match self.meaning(name) {
+            Meaning::Field(_, sort) => Some(sort),
+            Meaning::Nothing | Meaning::Operation(_) | Meaning::Invariant(_) => None,
+        }
+    }
+
+    /// The symbol of a name in a term.
+    pub(crate) fn name_symbol(&self, named: Named) -> Result<Sym, Stop>
+        ensures { Gives (λ x. x.0) result (name_symbol self.now named) }
+    {
+        if self.is_local(named.name) {
+            return Ok(symbol_of(named.name));
+        }
+        match self.meaning(named.name) {
+            Meaning::Field(number, _) => Ok(Sym(number)),
+            Meaning::Nothing | Meaning::Operation(_) | Meaning::Invariant(_) => {
+                Err(refused(Rule::N1, named.line))
+            }
+        }
+    }
+
+    /// Whether `$` is known here.
+    pub(crate) fn knows_params(&self) -> bool
+        ensures { result ≡ knows_params self.now.claim }
+    {
+        match self.claim {
+            Owner::Nobody => false,
+            Owner::Operation(_) | Owner::Invariant(_) => true,
+        }
+    }
+
+    /// The symbol of `$`, which stands at a line, before a name.
+    pub(crate) fn param_symbol(&self, line: u32, named: Named) -> Result<Sym, Stop>
+        ensures { Gives (λ x. x.0) result (param_symbol self.now line named) }
+    {
+        if !self.knows_params() {
+            return Err(refused(Rule::N1, line));
+        }
+        if !self.is_owned(self.claim, named.name) {
+            return Err(refused(Rule::N1, named.line));
+        }
+        Ok(param_symbol_of(named.name))
     }
 }

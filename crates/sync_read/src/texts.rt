@@ -1,7 +1,8 @@
 //! Whole texts.
 ghost use Rattle.std.specs.Prelude.{◌≡◌, IfOk};
 ghost use Rattle.sync_base.specs.Outcome.{Gives};
-ghost use Rattle.sync_machine.specs.Views.{HasOwnIds};
+ghost use Rattle.sync_machine.specs.Views.{machine_tree, HasOwnIds};
+ghost use Rattle.sync_machine.specs.Naming.{AreTextNames};
 ghost use Rattle.sync_read.specs.declared.texts.Text.{Text};
 ghost use Rattle.sync_read.specs.Texts.{first_scope, resolved, text_tree};
 
@@ -29,8 +30,8 @@ fn first_scope(alloc: Global, count: usize) -> Result<Scope, NoMemory>
 {
     let count = count.min(1_048_576);
     let unowned = Owners {
-        operations: [false; 64],
-        invariants: [false; 64],
+        operations: 0,
+        invariants: 0,
     };
     let meanings = vec![in alloc; Meaning::Nothing; count]?;
     let owners = vec![in alloc; unowned; count]?;
@@ -47,6 +48,7 @@ fn first_scope(alloc: Global, count: usize) -> Result<Scope, NoMemory>
 pub fn resolve(alloc: Global, raw: RawText) -> Result<Text, Stop>
     ensures exact { Gives text_tree result (resolved raw) }
     ensures ids { IfOk result (λ (t : Text). HasOwnIds t.machine) }
+    ensures names { IfOk result (λ (t : Text). AreTextNames (machine_tree t.machine)) }
 {
     let mut scope = first_scope(alloc, raw.names.list.len())?;
     let Machine {
