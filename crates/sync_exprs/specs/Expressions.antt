@@ -9,7 +9,7 @@ use Rattle.sync_tokens.specs.declared.words.Word.{Word}
 use Rattle.sync_tokens.specs.Signs.{is_same}
 use Rattle.sync_tokens.specs.Words.{is_sign, largest}
 use Rattle.sync_exprs.specs.declared.faults.Fault.TheVariants.{Ended, Wanted, Deep}
-use Rattle.sync_exprs.specs.declared.names.Named.{Named}
+use Rattle.sync_exprs.specs.declared.naming.Named.{Named}
 use Rattle.sync_exprs.specs.declared.expressions.Expr.{Expr, roll-Expr}
 use Rattle.sync_exprs.specs.declared.expressions.ExprKind.{ExprKind}
 use Rattle.sync_exprs.specs.declared.expressions.ExprKind.TheVariants as kind

@@ -11,7 +11,7 @@ use Rattle.sync_tokens.specs.declared.words.Word.{Word}
 use Rattle.sync_tokens.specs.Words.{is_sign}
 use Rattle.sync_exprs.specs.declared.faults.Fault.{Fault}
 use Rattle.sync_exprs.specs.declared.faults.Fault.TheVariants.{Ended, Wanted, Deep}
-use Rattle.sync_exprs.specs.declared.names.Named.{Named}
+use Rattle.sync_exprs.specs.declared.naming.Named.{Named}
 
 -- a value and the words behind it, or the first fault
 abbrev pub Read : Type 0 → Type 0

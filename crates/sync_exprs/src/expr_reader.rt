@@ -7,7 +7,7 @@ ghost use Rattle.sync_exprs.specs.Expressions.{signed, placed, special_of, funct
 use crate::expressions::{Expr, ExprKind, Function, Operator, Special};
 use crate::faults::{Fault, Halt};
 use crate::lexemes::{Read, begins_with, deep, first_line, name, next, number, sign, wanted};
-use crate::names::Named;
+use crate::naming::Named;
 use sqlite_items::{Boxed, Items};
 use std::alloc::{AllocError, Global};
 use sync_tokens::{LARGEST, Sign, What, Word};

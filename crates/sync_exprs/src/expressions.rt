@@ -1,5 +1,5 @@
 //! Expressions: terms and formulas, whose sorts are not looked at.
-use crate::names::Named;
+use crate::naming::Named;
 use sqlite_items::{Boxed, Items};
 
 /// An expression, with the line of its first lexeme. Brackets round it belong to it, and make no node of their own.

@@ -4,7 +4,7 @@ ghost use Rattle.sync_exprs.specs.Faults.{Reads};
 ghost use Rattle.sync_exprs.specs.Lexemes.{first_line, begins_with, goes_on, sign_at, name_at, number_at, strategy_at, series, names_at};
 
 use crate::faults::{Fault, Halt};
-use crate::names::Named;
+use crate::naming::Named;
 use sqlite_items::Items;
 use std::alloc::Global;
 use sync_machine::Strategy;

@@ -5,7 +5,7 @@ mod expr_reader;
 mod expressions;
 mod faults;
 mod lexemes;
-mod names;
+mod naming;
 
 pub use expr_reader::{expr, exprs, signed};
 pub use expressions::{Expr, ExprKind, Function, Operator, Special};
@@ -13,4 +13,4 @@ pub use faults::{Fault, Halt};
 pub use lexemes::{
     Read, begins_with, deep, first_line, goes_on, name, names, next, number, sign, strategy, wanted,
 };
-pub use names::Named;
+pub use naming::Named;

@@ -11,7 +11,7 @@ use Rattle.sync_tokens.specs.Words.{is_sign, worded}
 use Rattle.sync_exprs.specs.declared.faults.Fault.{Fault}
 use Rattle.sync_exprs.specs.declared.faults.Fault.TheVariants.{Ended, Wanted, Version, Unbuilt}
 use Rattle.sync_exprs.specs.declared.expressions.Expr.{Expr}
-use Rattle.sync_exprs.specs.declared.names.Named.{Named}
+use Rattle.sync_exprs.specs.declared.naming.Named.{Named}
 use Rattle.sync_parse.specs.declared.trees.RawText.{RawText}
 use Rattle.sync_parse.specs.declared.trees.RawMachine.{RawMachine}
 use Rattle.sync_parse.specs.declared.trees.RawField.{RawField}

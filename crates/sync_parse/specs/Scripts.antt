@@ -9,7 +9,7 @@ use Rattle.sync_tokens.specs.declared.words.Word.{Word}
 use Rattle.sync_tokens.specs.Signs.{is_same}
 use Rattle.sync_tokens.specs.Words.{is_sign}
 use Rattle.sync_exprs.specs.declared.faults.Fault.TheVariants.{Ended, Wanted}
-use Rattle.sync_exprs.specs.declared.names.Named.{Named}
+use Rattle.sync_exprs.specs.declared.naming.Named.{Named}
 use Rattle.sync_exprs.specs.declared.expressions.Expr.{Expr}
 use Rattle.sync_exprs.specs.declared.expressions.Special.{Special}
 use Rattle.sync_exprs.specs.declared.expressions.Special.TheVariants as special
