@@ -1,5 +1,3 @@
-pub mod Kept
 pub mod Steps
 pub mod Growing
-pub mod Flags
 pub mod Symbols

@@ -24,10 +24,10 @@ use Rattle.sync_parse.specs.declared.trees.RawOperation.{RawOperation}
 use Rattle.sync_parse.specs.declared.trees.RawInvariant.{RawInvariant}
 use Rattle.sync_parse.specs.declared.trees.RawMachine.{RawMachine}
 use Rattle.sync_parse.specs.declared.trees.RawText.{RawText}
-use Rattle.sync_read.specs.declared.scopes.Scope.{Scope}
-use Rattle.sync_read.specs.Scopes.{symbol_of, own}
-use Rattle.sync_read.specs.Exprs.{term_of, form_of}
-use Rattle.sync_read.specs.declared.scopes.Sort.TheVariants as sort
+use Rattle.sync_names.specs.declared.scopes.Scope.{Scope}
+use Rattle.sync_names.specs.Scopes.{symbol_of, own}
+use Rattle.sync_names.specs.Exprs.{term_of, form_of}
+use Rattle.sync_names.specs.declared.scopes.Sort.TheVariants as sort
 use Rattle.sync_read.specs.Acts.{within, add_param, params_from, field_in, pattern_in, place_in, field_term, field_place, act_in, steps_from, fields_from}
 use Rattle.sync_read.specs.Resolving.{begin_operation, operation_in, operations_from, begin_invariant, invariant_in, invariants_from, machine_in}
 use Rattle.sync_read.specs.Scripts.{proofs_from}

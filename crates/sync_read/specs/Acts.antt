@@ -19,13 +19,13 @@ use Rattle.sync_parse.specs.declared.trees.RawPlace.TheVariants as place
 use Rattle.sync_parse.specs.declared.trees.RawActKind.{RawActKind}
 use Rattle.sync_parse.specs.declared.trees.RawActKind.TheVariants as raw
 use Rattle.sync_parse.specs.declared.trees.RawAct.{RawAct}
-use Rattle.sync_read.specs.declared.scopes.Sort.{Sort}
-use Rattle.sync_read.specs.declared.scopes.Sort.TheVariants as sort
-use Rattle.sync_read.specs.declared.scopes.Meaning.{Meaning}
-use Rattle.sync_read.specs.declared.scopes.Meaning.TheVariants as meaning
-use Rattle.sync_read.specs.declared.scopes.Scope.{Scope}
-use Rattle.sync_read.specs.Scopes.{refuse, declare, own, symbol_of, meaning_of}
-use Rattle.sync_read.specs.Exprs.{term_of, form_of}
+use Rattle.sync_names.specs.declared.scopes.Sort.{Sort}
+use Rattle.sync_names.specs.declared.scopes.Sort.TheVariants as sort
+use Rattle.sync_names.specs.declared.scopes.Meaning.{Meaning}
+use Rattle.sync_names.specs.declared.scopes.Meaning.TheVariants as meaning
+use Rattle.sync_names.specs.declared.scopes.Scope.{Scope}
+use Rattle.sync_names.specs.Scopes.{refuse, declare, own, symbol_of, meaning_of}
+use Rattle.sync_names.specs.Exprs.{term_of, form_of}
 
 -- at most so many come before
 abbrev pub within : ℕ → ℕ → ℕ → Result ℕ Refusal

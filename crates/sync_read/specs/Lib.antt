@@ -1,5 +1,3 @@
-pub mod Scopes
-pub mod Exprs
 pub mod Acts
 pub mod Owned
 pub mod Resolving

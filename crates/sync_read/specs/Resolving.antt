@@ -13,12 +13,12 @@ use Rattle.sync_parse.specs.declared.trees.RawAct.{RawAct}
 use Rattle.sync_parse.specs.declared.trees.RawOperation.{RawOperation}
 use Rattle.sync_parse.specs.declared.trees.RawInvariant.{RawInvariant}
 use Rattle.sync_parse.specs.declared.trees.RawMachine.{RawMachine}
-use Rattle.sync_read.specs.declared.scopes.Meaning.TheVariants as meaning
-use Rattle.sync_read.specs.declared.scopes.Owner.{Owner}
-use Rattle.sync_read.specs.declared.scopes.Owner.TheVariants as owner
-use Rattle.sync_read.specs.declared.scopes.Scope.{Scope}
-use Rattle.sync_read.specs.Scopes.{refuse, declare}
-use Rattle.sync_read.specs.Exprs.{form_of}
+use Rattle.sync_names.specs.declared.scopes.Meaning.TheVariants as meaning
+use Rattle.sync_names.specs.declared.scopes.Owner.{Owner}
+use Rattle.sync_names.specs.declared.scopes.Owner.TheVariants as owner
+use Rattle.sync_names.specs.declared.scopes.Scope.{Scope}
+use Rattle.sync_names.specs.Scopes.{refuse, declare}
+use Rattle.sync_names.specs.Exprs.{form_of}
 use Rattle.sync_read.specs.Acts.{within, fields_from, params_from, steps_from}
 
 -- a statement gives the field of this name its first value

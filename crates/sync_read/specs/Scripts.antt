@@ -26,14 +26,14 @@ use Rattle.sync_parse.specs.declared.scripts.RawStepKind.TheOpen.{RawStepKind-F,
 use Rattle.sync_parse.specs.declared.trees.RawClaim.{RawClaim}
 use Rattle.sync_parse.specs.declared.trees.RawClaim.TheVariants as raw
 use Rattle.sync_parse.specs.declared.trees.RawProof.{RawProof}
-use Rattle.sync_read.specs.declared.scopes.Sort.TheVariants as sort
-use Rattle.sync_read.specs.declared.scopes.Owner.{Owner}
-use Rattle.sync_read.specs.declared.scopes.Owner.TheVariants as owner
-use Rattle.sync_read.specs.declared.scopes.Meaning.{Meaning}
-use Rattle.sync_read.specs.declared.scopes.Meaning.TheVariants as meaning
-use Rattle.sync_read.specs.declared.scopes.Scope.{Scope}
-use Rattle.sync_read.specs.Scopes.{refuse, meaning_of}
-use Rattle.sync_read.specs.Exprs.{term_of, form_of}
+use Rattle.sync_names.specs.declared.scopes.Sort.TheVariants as sort
+use Rattle.sync_names.specs.declared.scopes.Owner.{Owner}
+use Rattle.sync_names.specs.declared.scopes.Owner.TheVariants as owner
+use Rattle.sync_names.specs.declared.scopes.Meaning.{Meaning}
+use Rattle.sync_names.specs.declared.scopes.Meaning.TheVariants as meaning
+use Rattle.sync_names.specs.declared.scopes.Scope.{Scope}
+use Rattle.sync_names.specs.Scopes.{refuse, meaning_of}
+use Rattle.sync_names.specs.Exprs.{term_of, form_of}
 use Rattle.sync_read.specs.Acts.{within}
 
 abbrev pub subject_line : Subject → ℕ

@@ -8,13 +8,12 @@ ghost use Rattle.sync_machine.specs.Views.{symbols_of, pattern_tree, place_tree,
 ghost use Rattle.sync_machine.specs.declared.machine.Step.{Step};
 ghost use Rattle.sync_read.specs.Acts.{strategy_sort, within, add_field, fields_from, add_param, params_from, field_in, pattern_in, place_in, field_term, field_place, act_in, steps_from};
 
-use crate::exprs::{form_of, term_of};
-use crate::scopes::{Meaning, Scope, Sort, refused, symbol_of};
 use sqlite_items::Items;
 use std::alloc::Global;
 use sync_base::{Rule, Stop};
-use sync_machine::{Act, Field, Pattern, Place, Step, Strategy};
 use sync_exprs::{Expr, Named};
+use sync_machine::{Act, Field, Pattern, Place, Step, Strategy};
+use sync_names::{Meaning, Scope, Sort, form_of, refused, symbol_of, term_of};
 use sync_parse::{RawAct, RawActKind, RawField, RawPattern, RawPlace};
 use sync_terms::{Sym, TermId, Terms};
 
@@ -142,7 +141,7 @@ fn pattern(terms: &mut Terms, scope: &mut Scope, raw: &RawPattern) -> Result<Pat
 }
 
 /// A place.
-#[tactic(auto, using(crate::proofs::Kept::kept_tree, crate::proofs::Kept::kept_term, crate::proofs::Kept::along, crate::proofs::Kept::stays))]
+#[tactic(auto, using(sync_names::proofs::Kept::kept_tree, sync_names::proofs::Kept::kept_term, sync_names::proofs::Kept::along, sync_names::proofs::Kept::stays))]
 fn place(terms: &mut Terms, scope: &mut Scope, raw: &RawPlace) -> Result<Place, Stop>
     ensures exact { Gives (λ p. (place_tree terms.new p, scope.new)) result (place_in raw.now scope.old) }
     ensures ids { IfOk result (HasPlaceIds terms.new) }
@@ -255,7 +254,7 @@ fn act(terms: &mut Terms, scope: &mut Scope, raw: &RawActKind) -> Result<Act, St
 }
 
 /// The statements of an operation.
-#[tactic(auto, using(crate::proofs::Kept::along, crate::proofs::Kept::stays, crate::proofs::Steps::steps_kept, crate::proofs::Steps::steps_stay), unfolding(crate::specs::Acts::steps_from))]
+#[tactic(auto, using(sync_names::proofs::Kept::along, sync_names::proofs::Kept::stays, crate::proofs::Steps::steps_kept, crate::proofs::Steps::steps_stay), unfolding(crate::specs::Acts::steps_from))]
 pub(crate) fn steps(
     alloc: Global,
     terms: &mut Terms,

@@ -2,12 +2,8 @@
 #![tactic(auto)]
 
 mod acts;
-mod exprs;
 mod machines;
 mod scripts;
-mod scopes;
 mod texts;
 
-pub use machines::machine;
-pub use scopes::{Meaning, Owner, Owners, Scope, Sort};
 pub use texts::{Text, resolve};

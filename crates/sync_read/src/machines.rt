@@ -11,12 +11,11 @@ ghost use Rattle.sync_read.specs.Resolving.{starts, start_count, starts_once, is
 ghost use Rattle.sync_read.specs.Owned.{HasOperationIds};
 
 use crate::acts::{fields, params, steps, within};
-use crate::exprs::form_of;
-use crate::scopes::{Meaning, Owner, Scope, refused};
 use sqlite_items::Items;
 use std::alloc::Global;
 use sync_base::{Rule, Stop};
 use sync_machine::{Field, Invariant, Machine, OpMode, Operation};
+use sync_names::{Meaning, Owner, Scope, form_of, refused};
 use sync_parse::{RawAct, RawActKind, RawInvariant, RawMachine, RawOperation};
 use sync_terms::Terms;
 
@@ -90,7 +89,7 @@ fn begin_operation(
 }
 
 /// The operation with this number.
-#[tactic(auto, using(crate::proofs::Kept::along, crate::proofs::Kept::stays))]
+#[tactic(auto, using(sync_names::proofs::Kept::along, sync_names::proofs::Kept::stays))]
 fn operation(
     alloc: Global,
     number: usize,
@@ -116,7 +115,7 @@ fn operation(
 }
 
 /// The operations of a machine.
-#[tactic(auto, using(crate::proofs::Kept::along, crate::proofs::Kept::stays, crate::proofs::Growing::operations_kept, crate::proofs::Growing::operations_stay), unfolding(crate::specs::Resolving::operations_from))]
+#[tactic(auto, using(sync_names::proofs::Kept::along, sync_names::proofs::Kept::stays, crate::proofs::Growing::operations_kept, crate::proofs::Growing::operations_stay), unfolding(crate::specs::Resolving::operations_from))]
 fn operations(
     alloc: Global,
     fields: &[Field],
@@ -147,7 +146,7 @@ fn begin_invariant(number: usize, scope: &mut Scope, raw: &RawInvariant) -> Resu
 }
 
 /// The invariant with this number.
-#[tactic(auto, using(crate::proofs::Kept::along, crate::proofs::Kept::stays))]
+#[tactic(auto, using(sync_names::proofs::Kept::along, sync_names::proofs::Kept::stays))]
 fn invariant(
     alloc: Global,
     number: usize,
@@ -171,7 +170,7 @@ fn invariant(
 }
 
 /// The invariants of a machine.
-#[tactic(auto, using(crate::proofs::Kept::along, crate::proofs::Kept::stays, crate::proofs::Growing::invariants_kept, crate::proofs::Growing::invariants_stay), unfolding(crate::specs::Resolving::invariants_from))]
+#[tactic(auto, using(sync_names::proofs::Kept::along, sync_names::proofs::Kept::stays, crate::proofs::Growing::invariants_kept, crate::proofs::Growing::invariants_stay), unfolding(crate::specs::Resolving::invariants_from))]
 fn invariants(
     alloc: Global,
     terms: &mut Terms,
@@ -192,7 +191,7 @@ fn invariants(
 
 /// The machine of a raw tree; the scope behind it knows all its names.
 #[tactic(auto, using(crate::proofs::Growing::operations_kept, crate::proofs::Growing::operations_stay))]
-pub fn machine(alloc: Global, scope: &mut Scope, raw: &RawMachine) -> Result<Machine, Stop>
+pub(crate) fn machine(alloc: Global, scope: &mut Scope, raw: &RawMachine) -> Result<Machine, Stop>
     ensures exact { Gives (λ m. (machine_tree m, scope.new)) result (machine_in scope.old raw.now) }
     ensures ids { IfOk result HasOwnIds }
 {

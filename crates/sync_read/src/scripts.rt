@@ -4,16 +4,15 @@ ghost use Rattle.sync_base.specs.Outcome.{Gives};
 ghost use Rattle.sync_terms.specs.Stored.{Stored, tree, Extends};
 ghost use Rattle.sync_terms.specs.Plans.{plan_of};
 ghost use Rattle.sync_read.specs.Scripts.{hyp_in, parts_from, numbers_from, map_and_number, map_and_numbers, block_of, step_of, then_of, operation_meaning, claim_in, claim_owner, proof_in, proofs_from, proof_tree};
-ghost use Rattle.sync_read.specs.Scopes.{meaning_of};
+ghost use Rattle.sync_names.specs.Scopes.{meaning_of};
 
 use crate::acts::within;
-use crate::exprs::{form_of, term_of};
-use crate::scopes::{Meaning, Owner, Scope, Sort, refused};
 use sqlite_items::Items;
 use std::alloc::Global;
 use sync_base::{Rule, Stop};
-use sync_induct::Proof;
 use sync_exprs::{Expr, Named};
+use sync_induct::Proof;
+use sync_names::{Meaning, Owner, Scope, Sort, form_of, refused, term_of};
 use sync_parse::{
     RawBlock, RawClaim, RawHyp, RawPart, RawProof, RawStep, RawStepKind, Subject,
 };
@@ -52,7 +51,7 @@ fn parts(alloc: Global, raw: &[RawPart]) -> Result<Items<Part>, Stop>
 }
 
 /// Terms that are numbers.
-#[tactic(auto, using(crate::proofs::Kept::kept_tree, crate::proofs::Kept::kept_term, crate::proofs::Kept::along, crate::proofs::Kept::stays), unfolding(crate::specs::Scripts::numbers_from))]
+#[tactic(auto, using(sync_names::proofs::Kept::kept_tree, sync_names::proofs::Kept::kept_term, sync_names::proofs::Kept::along, sync_names::proofs::Kept::stays), unfolding(crate::specs::Scripts::numbers_from))]
 fn numbers(
     alloc: Global,
     terms: &mut Terms,
@@ -71,7 +70,7 @@ fn numbers(
 }
 
 /// A map and a key.
-#[tactic(auto, using(crate::proofs::Kept::kept_tree, crate::proofs::Kept::kept_term, crate::proofs::Kept::along, crate::proofs::Kept::stays))]
+#[tactic(auto, using(sync_names::proofs::Kept::kept_tree, sync_names::proofs::Kept::kept_term, sync_names::proofs::Kept::along, sync_names::proofs::Kept::stays))]
 fn map_and_number(
     terms: &mut Terms,
     scope: &Scope,
@@ -87,7 +86,7 @@ fn map_and_number(
 }
 
 /// A map and two keys.
-#[tactic(auto, using(crate::proofs::Kept::kept_tree, crate::proofs::Kept::kept_term, crate::proofs::Kept::along, crate::proofs::Kept::stays))]
+#[tactic(auto, using(sync_names::proofs::Kept::kept_tree, sync_names::proofs::Kept::kept_term, sync_names::proofs::Kept::along, sync_names::proofs::Kept::stays))]
 fn map_and_numbers(
     terms: &mut Terms,
     scope: &Scope,
@@ -105,7 +104,7 @@ fn map_and_numbers(
 
 /// A block of steps.
 #[cycle(blocks)]
-#[tactic(auto, using(crate::proofs::Kept::along, crate::proofs::Kept::stays), unfolding(crate::specs::Scripts::thens_from))]
+#[tactic(auto, using(sync_names::proofs::Kept::along, sync_names::proofs::Kept::stays), unfolding(crate::specs::Scripts::thens_from))]
 fn block(alloc: Global, terms: &mut Terms, scope: &Scope, raw: &RawBlock) -> Result<Block, Stop>
     ensures exact { (t : Stored) → Extends terms.new t → Gives (plan_of t) result (block_of scope.now raw.now) }
     ensures keeps { Extends terms.old terms.new }
@@ -123,7 +122,7 @@ fn block(alloc: Global, terms: &mut Terms, scope: &Scope, raw: &RawBlock) -> Res
 
 /// A step.
 #[cycle(blocks)]
-#[tactic(auto, using(crate::proofs::Kept::kept_formula, crate::proofs::Kept::kept_tree, crate::proofs::Kept::along, crate::proofs::Kept::stays))]
+#[tactic(auto, using(sync_names::proofs::Kept::kept_formula, sync_names::proofs::Kept::kept_tree, sync_names::proofs::Kept::along, sync_names::proofs::Kept::stays))]
 fn step_of(
     alloc: Global,
     terms: &mut Terms,
@@ -210,7 +209,7 @@ fn claim_owner(claim: Claim) -> Owner
 }
 
 /// A proof behind so many others.
-#[tactic(auto, using(crate::proofs::Kept::along, crate::proofs::Kept::stays))]
+#[tactic(auto, using(sync_names::proofs::Kept::along, sync_names::proofs::Kept::stays))]
 fn proof(
     alloc: Global,
     terms: &mut Terms,
@@ -240,7 +239,7 @@ fn proof(
 }
 
 /// The proofs of a text.
-#[tactic(auto, using(crate::proofs::Kept::along, crate::proofs::Kept::stays), unfolding(crate::specs::Scripts::proofs_from))]
+#[tactic(auto, using(sync_names::proofs::Kept::along, sync_names::proofs::Kept::stays), unfolding(crate::specs::Scripts::proofs_from))]
 pub(crate) fn proofs(
     alloc: Global,
     terms: &mut Terms,

@@ -7,13 +7,13 @@ ghost use Rattle.sync_read.specs.declared.texts.Text.{Text};
 ghost use Rattle.sync_read.specs.Texts.{first_scope, resolved, text_tree};
 
 use crate::machines::machine;
-use crate::scopes::{Meaning, Owner, Owners, Scope};
 use crate::scripts::proofs;
 use sqlite_items::Items;
 use std::alloc::Global;
 use sync_base::{NameList, NoMemory, Stop};
 use sync_induct::Proofs;
 use sync_machine::Machine;
+use sync_names::{Meaning, Owner, Owners, Scope};
 use sync_parse::RawText;
 
 /// A text: its machine, with the store of all its terms, its proofs and its names.
@@ -44,7 +44,7 @@ fn first_scope(alloc: Global, count: usize) -> Result<Scope, NoMemory>
 }
 
 /// The text of a raw tree. Refuses with the first broken rule N.
-#[tactic(auto, using(crate::proofs::Growing::operations_kept, crate::proofs::Growing::operations_stay, crate::proofs::Growing::invariants_kept, crate::proofs::Growing::invariants_stay, crate::proofs::Kept::stays))]
+#[tactic(auto, using(crate::proofs::Growing::operations_kept, crate::proofs::Growing::operations_stay, crate::proofs::Growing::invariants_kept, crate::proofs::Growing::invariants_stay, sync_names::proofs::Kept::stays))]
 pub fn resolve(alloc: Global, raw: RawText) -> Result<Text, Stop>
     ensures exact { Gives text_tree result (resolved raw) }
     ensures ids { IfOk result (λ (t : Text). HasOwnIds t.machine) }

@@ -1,7 +1,7 @@
 //! What the names of a text stand for at a place.
 ghost use Rattle.std.specs.Prelude.{◌≡◌};
 ghost use Rattle.sync_base.specs.Outcome.{Gives};
-ghost use Rattle.sync_read.specs.Scopes.{symbol_of, param_symbol_of, flag, with_flag};
+ghost use Rattle.sync_names.specs.Scopes.{symbol_of, param_symbol_of, flag, with_flag};
 
 use sqlite_items::{Items, at};
 use sync_base::{Refusal, Rule, Stop};
@@ -54,21 +54,21 @@ pub struct Scope {
 }
 
 /// A broken rule at a line.
-pub(crate) fn broken(rule: Rule, line: u32) -> Refusal
+pub fn broken(rule: Rule, line: u32) -> Refusal
     ensures { result ≡ record { line = line; rule = rule } }
 {
     Refusal { line, rule }
 }
 
 /// A broken rule at a line, as the reason to stop.
-pub(crate) fn refused(rule: Rule, line: u32) -> Stop
+pub fn refused(rule: Rule, line: u32) -> Stop
     ensures { result ≡ Stop.Refused (record { line = line; rule = rule }) }
 {
     Stop::Refused(broken(rule, line))
 }
 
 /// The symbol of a name as a parameter or bound name; a text has fewer than 1,048,576 names.
-pub(crate) fn symbol_of(name: u32) -> Sym
+pub fn symbol_of(name: u32) -> Sym
     ensures { result.0 ≡ symbol_of name }
 {
     Sym(64 + 4 * name.min(1_048_575))
@@ -102,7 +102,7 @@ fn with_flag(flags: u64, number: u32) -> u64
 }
 
 impl Owners {
-    ghost use Rattle.sync_read.specs.Scopes.{has_owner, with_owner};
+    ghost use Rattle.sync_names.specs.Scopes.{has_owner, with_owner};
 
     fn has(self, owner: Owner) -> bool
         ensures { result ≡ has_owner self owner }
@@ -128,10 +128,10 @@ impl Owners {
 }
 
 impl Scope {
-    ghost use Rattle.sync_read.specs.Scopes.{meaning_of, is_owned, is_local, is_taken, name_sort, name_symbol, knows_params, param_symbol, declare, own};
+    ghost use Rattle.sync_names.specs.Scopes.{meaning_of, is_owned, is_local, is_taken, name_sort, name_symbol, knows_params, param_symbol, declare, own};
 
     /// What a name was declared as.
-    pub(crate) fn meaning(&self, name: u32) -> Meaning
+    pub fn meaning(&self, name: u32) -> Meaning
         ensures { result ≡ meaning_of self.now name }
     {
         match at(self.meanings.as_slice(), name as usize) {
@@ -141,7 +141,7 @@ impl Scope {
     }
 
     /// Declares a name, which is new.
-    pub(crate) fn declare(&mut self, named: Named, meaning: Meaning) -> Result<(), Stop>
+    pub fn declare(&mut self, named: Named, meaning: Meaning) -> Result<(), Stop>
         ensures { Gives (λ _. self.new) result (declare self.old named meaning) }
     {
         if named.name as usize >= self.meanings.len() {
@@ -186,7 +186,7 @@ impl Scope {
     }
 
     /// Makes a new name a parameter or bound name of the owner.
-    pub(crate) fn own(&mut self, named: Named) -> Result<(), Stop>
+    pub fn own(&mut self, named: Named) -> Result<(), Stop>
         ensures { Gives (λ _. self.new) result (own self.old named) }
     {
         let owners = match self.owners.get(named.name as usize) {
@@ -202,7 +202,7 @@ impl Scope {
     }
 
     /// The sort of a name in a term, where it is known.
-    pub(crate) fn name_sort(&self, name: u32) -> Option<Sort>
+    pub fn name_sort(&self, name: u32) -> Option<Sort>
         ensures { result ≡ name_sort self.now name }
     {
         if self.is_local(name) {
@@ -215,7 +215,7 @@ impl Scope {
     }
 
     /// The symbol of a name in a term.
-    pub(crate) fn name_symbol(&self, named: Named) -> Result<Sym, Stop>
+    pub fn name_symbol(&self, named: Named) -> Result<Sym, Stop>
         ensures { Gives (λ x. x.0) result (name_symbol self.now named) }
     {
         if self.is_local(named.name) {
@@ -230,7 +230,7 @@ impl Scope {
     }
 
     /// Whether `$` is known here.
-    pub(crate) fn knows_params(&self) -> bool
+    pub fn knows_params(&self) -> bool
         ensures { result ≡ knows_params self.now.claim }
     {
         match self.claim {
@@ -240,7 +240,7 @@ impl Scope {
     }
 
     /// The symbol of `$`, which stands at a line, before a name.
-    pub(crate) fn param_symbol(&self, line: u32, named: Named) -> Result<Sym, Stop>
+    pub fn param_symbol(&self, line: u32, named: Named) -> Result<Sym, Stop>
         ensures { Gives (λ x. x.0) result (param_symbol self.now line named) }
     {
         if !self.knows_params() {

@@ -16,10 +16,10 @@ use Rattle.sync_exprs.specs.declared.expressions.Function.{Function}
 use Rattle.sync_exprs.specs.declared.expressions.Function.TheVariants as function
 use Rattle.sync_exprs.specs.declared.expressions.Operator.{Operator}
 use Rattle.sync_exprs.specs.declared.expressions.Operator.TheVariants as operator
-use Rattle.sync_read.specs.declared.scopes.Sort.{Sort}
-use Rattle.sync_read.specs.declared.scopes.Sort.TheVariants as sort
-use Rattle.sync_read.specs.declared.scopes.Scope.{Scope}
-use Rattle.sync_read.specs.Scopes.{refuse, name_sort, name_symbol, knows_params, param_symbol}
+use Rattle.sync_names.specs.declared.scopes.Sort.{Sort}
+use Rattle.sync_names.specs.declared.scopes.Sort.TheVariants as sort
+use Rattle.sync_names.specs.declared.scopes.Scope.{Scope}
+use Rattle.sync_names.specs.Scopes.{refuse, name_sort, name_symbol, knows_params, param_symbol}
 
 -- an expression: its line; its nodes as a tree; its sort, where its name is known; the rule N1 or N3 that its first
 -- lexeme breaks; and its term or formula, if that is what it is
@@ -158,7 +158,7 @@ applied function.Bump args line s = do
   Ok (trees.Bump p.0 p.1 p.2)
 applied function.Held args line s = refuse N1 line
 
-abbrev pub call_term : Function → List Reading → ℕ → Scope → Result Tree Refusal
+unfoldable pub call_term : Function → List Reading → ℕ → Scope → Result Tree Refusal
 call_term f args line s = unless (call_fault f line (length args)) (applied f args line s)
 
 -- ---- operators
@@ -205,6 +205,9 @@ joins_forms _ = false
 abbrev pub Kind : Type 0
 Kind = ℕ → Reading
 
+unfoldable pub all_nodes : List Reading → ℕ
+all_nodes rs = sum (map (λ (r : Reading). r.nodes) rs)
+
 -- the nodes of a kind as a tree; `-t` is `0 - t`
 abbrev pub nodes_in : ExprKind-F Kind Reading → ℕ
 nodes_in (ExprKind-F.Number n) = 1
@@ -212,7 +215,7 @@ nodes_in (ExprKind-F.Name named) = 1
 nodes_in (ExprKind-F.Param line named) = 1
 nodes_in ExprKind-F.Nil = 1
 nodes_in (ExprKind-F.Special word line) = 1
-nodes_in (ExprKind-F.Call f line args) = 1 + sum (map (λ (r : Reading). r.nodes) args)
+nodes_in (ExprKind-F.Call f line args) = 1 + all_nodes args
 nodes_in (ExprKind-F.Not e) = 1 + e.nodes
 nodes_in (ExprKind-F.Minus e) = 2 + e.nodes
 nodes_in (ExprKind-F.Times n e) = 1 + e.nodes

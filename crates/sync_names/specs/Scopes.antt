@@ -5,14 +5,14 @@ use Rattle.sync_base.specs.declared.stops.Refusal.{Refusal}
 use Rattle.sync_base.specs.declared.stops.Rule.{Rule}
 use Rattle.sync_base.specs.declared.stops.Rule.TheVariants.{N1, N2}
 use Rattle.sync_exprs.specs.declared.naming.Named.{Named}
-use Rattle.sync_read.specs.declared.scopes.Sort.{Sort}
-use Rattle.sync_read.specs.declared.scopes.Sort.TheVariants.{Number, Map, Formula}
-use Rattle.sync_read.specs.declared.scopes.Meaning.{Meaning}
-use Rattle.sync_read.specs.declared.scopes.Meaning.TheVariants.{Nothing, Field, Operation, Invariant}
-use Rattle.sync_read.specs.declared.scopes.Owners.{Owners}
-use Rattle.sync_read.specs.declared.scopes.Owner.{Owner}
-use Rattle.sync_read.specs.declared.scopes.Owner.TheVariants as owner
-use Rattle.sync_read.specs.declared.scopes.Scope.{Scope}
+use Rattle.sync_names.specs.declared.scopes.Sort.{Sort}
+use Rattle.sync_names.specs.declared.scopes.Sort.TheVariants.{Number, Map, Formula}
+use Rattle.sync_names.specs.declared.scopes.Meaning.{Meaning}
+use Rattle.sync_names.specs.declared.scopes.Meaning.TheVariants.{Nothing, Field, Operation, Invariant}
+use Rattle.sync_names.specs.declared.scopes.Owners.{Owners}
+use Rattle.sync_names.specs.declared.scopes.Owner.{Owner}
+use Rattle.sync_names.specs.declared.scopes.Owner.TheVariants as owner
+use Rattle.sync_names.specs.declared.scopes.Scope.{Scope}
 
 -- a broken rule at a line
 abbrev pub refuse : {A : Type 0} → Rule → ℕ → Result A Refusal

@@ -1,9 +1,9 @@
 //! Expressions, made into terms and formulas of a store.
-ghost use Rattle.std.specs.Prelude.{◌≡◌, ◌+◌, min, map, sum, length, IfOk, Ok, pos};
+ghost use Rattle.std.specs.Prelude.{◌≡◌, ◌+◌, min, map, length, IfOk, Ok, pos};
 ghost use Rattle.sync_base.specs.Outcome.{Gives};
 ghost use Rattle.sync_terms.specs.Stored.{tree, formula, shape, form_shape, IsTerm, IsForm, HasChildren, HasParts, Extends};
 ghost use Rattle.sync_terms.specs.Trees.{Sub, Lit};
-ghost use Rattle.sync_read.specs.Exprs.{Reading, reading, clashes, misfit, call_fault, function_sort, operator_sort, operator_nodes, term_as, form_as, map_alone, map_and_key, map_and_two, call_term, applied, two_terms, two_forms, compared, joins_forms, start_fault, term_of, form_of};
+ghost use Rattle.sync_names.specs.Exprs.{Reading, reading, clashes, misfit, call_fault, function_sort, operator_sort, operator_nodes, term_as, form_as, map_alone, map_and_key, map_and_two, call_term, applied, two_terms, two_forms, compared, joins_forms, all_nodes, start_fault, term_of, form_of};
 
 use crate::scopes::{Scope, Sort, broken, refused};
 use sync_base::{Refusal, Rule, Stop};
@@ -161,31 +161,43 @@ fn operator_nodes(operator: Operator) -> u64
     }
 }
 
+/// A number of nodes, or one more than a term may have.
+fn capped(count: u64) -> u64
+    ensures { result ≡ min count 1000001 }
+{
+    count.min(MOST_NODES + 1)
+}
+
 /// The nodes of an expression as a tree, or one more than a term may have.
+#[cycle(counting)]
 fn nodes(e: &Expr) -> u64
     ensures { result ≡ min (reading e.now).nodes 1000001 }
 {
-    let count = match &e.what {
+    match &e.what {
         ExprKind::Number(_)
         | ExprKind::Name(_)
         | ExprKind::Param(_, _)
         | ExprKind::Nil
         | ExprKind::Special(_, _) => 1,
-        ExprKind::Call(_, _, args) => 1 + nodes_of(args.as_slice()),
-        ExprKind::Not(a) | ExprKind::Times(_, a) => 1 + nodes(a.get()),
-        ExprKind::Minus(a) => 2 + nodes(a.get()),
-        ExprKind::Two(operator, a, b) => operator_nodes(*operator) + nodes(a.get()) + nodes(b.get()),
-    };
-    count.min(MOST_NODES + 1)
+        ExprKind::Call(_, _, args) => capped(1 + nodes_of(args.as_slice())),
+        ExprKind::Not(a) => capped(1 + nodes(a.get())),
+        ExprKind::Minus(a) => capped(2 + nodes(a.get())),
+        ExprKind::Times(_, a) => capped(1 + nodes(a.get())),
+        ExprKind::Two(operator, a, b) => {
+            capped(operator_nodes(*operator) + nodes(a.get()) + nodes(b.get()))
+        }
+    }
 }
 
 /// The nodes of expressions, or one more than a term may have.
+#[cycle(counting)]
+#[tactic(auto, unfolding(crate::specs::Exprs::all_nodes))]
 fn nodes_of(es: &[Expr]) -> u64
-    ensures { result ≡ min (sum (map (λ e. (reading e).nodes) es.now)) 1000001 }
+    ensures { result ≡ min (all_nodes (map reading es.now)) 1000001 }
 {
     let mut count = 0;
     for e in es {
-        count = (count + nodes(e)).min(MOST_NODES + 1);
+        count = capped(count + nodes(e));
     }
     count
 }
@@ -345,7 +357,7 @@ fn applied(
 
 /// A function of its arguments.
 #[cycle(terms)]
-#[tactic(auto, using(crate::proofs::Kept::stays))]
+#[tactic(auto, using(crate::proofs::Kept::stays), unfolding(crate::specs::Exprs::call_term))]
 fn call(
     terms: &mut Terms,
     scope: &Scope,
@@ -505,7 +517,7 @@ fn form(terms: &mut Terms, scope: &Scope, e: &Expr) -> Result<FormId, Stop>
 
 /// An expression that stands by itself, as a term of a sort.
 #[tactic(auto, using(crate::proofs::Kept::stays))]
-pub(crate) fn term_of(
+pub fn term_of(
     terms: &mut Terms,
     scope: &Scope,
     e: &Expr,
@@ -523,7 +535,7 @@ pub(crate) fn term_of(
 
 /// An expression that stands by itself, as a formula.
 #[tactic(auto, using(crate::proofs::Kept::stays))]
-pub(crate) fn form_of(terms: &mut Terms, scope: &Scope, e: &Expr) -> Result<FormId, Stop>
+pub fn form_of(terms: &mut Terms, scope: &Scope, e: &Expr) -> Result<FormId, Stop>
     ensures exact { Gives (formula terms.new) result (form_of e.now scope.now) }
     ensures id { IfOk result (IsForm terms.new) }
     ensures keeps { Extends terms.old terms.new }
