@@ -56,7 +56,7 @@ abbrev Symbols : List ℕ × Scope → Type 0
 Symbols x = AllByRecursion IsTextName x.0
 
 params_are : (limited : Bool) (held : List ℕ) (s : Scope) (ns : List Named) → AllByRecursion IsTextName held → IfOk (params_from limited held s ns) Symbols
-  unfolding params_from
+unfolding params_from
 params_are limited held s [] h = h
 params_are limited held s (n ∷ ns) h =
     after Symbols (add_param limited (length held) s n) (λ s2. params_from limited (held ++ symbol_of n.name ∷ []) s2 ns)
@@ -101,7 +101,7 @@ field_place_is named p s =
       after_ok FieldPlaced Placed (place_in p s) _ (place_is p s) (λ x h. h))
 
 act_is : (a : RawActKind) (s : Scope) → IfOk (act_in a s) Acted
-  unfolding bound_by
+unfolding bound_by
 act_is (raw.Init named e) s = after Acted (field_term named e s) _ (λ x. tt)
 act_is (raw.Require e) s = after Acted (form_of e s) _ (λ f. tt)
 act_is (raw.Assert e) s = after Acted (form_of e s) _ (λ f. tt)
@@ -121,7 +121,7 @@ abbrev Stepped : List StepTree × Scope → Type 0
 Stepped x = AllByRecursion StepBinds x.0
 
 steps_are : (held : List StepTree) (s : Scope) (acts : List RawAct) → AllByRecursion StepBinds held → IfOk (steps_from held s acts) Stepped
-  unfolding steps_from
+unfolding steps_from
 steps_are held s [] h = h
 steps_are held s (a ∷ more) h =
     after Stepped (within 64 (length held) a.line) _ (λ n.
@@ -134,6 +134,7 @@ abbrev Operated : OperationTree × Scope → Type 0
 Operated x = HasTextNames x.0
 
 operation_is : (number : ℕ) (fs : List Field) (s : Scope) (o : RawOperation) → IfOk (operation_in number fs s o) Operated
+unfolding operation_in
 operation_is number fs s o =
     after Operated (begin_operation number fs s o) _ (λ s2.
       after_ok Operated Symbols (params_from true [] s2 o.params) _ (params_are true [] s2 o.params tt) (λ ps p.
@@ -144,7 +145,7 @@ abbrev AllOperated : List OperationTree × Scope → Type 0
 AllOperated x = AllByRecursion HasTextNames x.0
 
 operations_are : (fs : List Field) (held : List OperationTree) (s : Scope) (os : List RawOperation) → AllByRecursion HasTextNames held → IfOk (operations_from fs held s os) AllOperated
-  unfolding operations_from
+unfolding operations_from
 operations_are fs held s [] h = h
 operations_are fs held s (o ∷ more) h =
     after_ok AllOperated Operated (operation_in (length held) fs s o) _ (operation_is (length held) fs s o) (λ x p.
@@ -157,6 +158,7 @@ abbrev Invariant : InvariantTree × Scope → Type 0
 Invariant x = HasSymbols x.0
 
 invariant_is : (number : ℕ) (s : Scope) (i : RawInvariant) → IfOk (invariant_in number s i) Invariant
+unfolding invariant_in
 invariant_is number s i =
     after Invariant (begin_invariant number s i) _ (λ s2.
       after_ok Invariant Symbols (params_from false [] s2 i.params) _ (params_are false [] s2 i.params tt) (λ ps p.
@@ -166,7 +168,7 @@ abbrev AllInvariant : List InvariantTree × Scope → Type 0
 AllInvariant x = AllByRecursion HasSymbols x.0
 
 invariants_are : (held : List InvariantTree) (s : Scope) (is : List RawInvariant) → AllByRecursion HasSymbols held → IfOk (invariants_from held s is) AllInvariant
-  unfolding invariants_from
+unfolding invariants_from
 invariants_are held s [] h = h
 invariants_are held s (i ∷ more) h =
     after_ok AllInvariant Invariant (invariant_in (length held) s i) _ (invariant_is (length held) s i) (λ x p.
@@ -178,6 +180,7 @@ abbrev Made : MachineTree × Scope → Type 0
 Made x = AreTextNames x.0
 
 machine_is : (s : Scope) (m : RawMachine) → IfOk (machine_in s m) Made
+unfolding machine_in
 machine_is s m =
     after Made (fields_from [] s m.fields) _ (λ fs.
       after_ok Made AllOperated (operations_from fs.0 [] fs.1 m.operations) _ (operations_are fs.0 [] fs.1 m.operations tt) (λ os p.

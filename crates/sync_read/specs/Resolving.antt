@@ -51,13 +51,13 @@ is_started mode.Transition fs acts = true
 is_started mode.Property fs acts = true
 
 -- the scope of the operation with this number
-abbrev pub begin_operation : ℕ → List Field → Scope → RawOperation → Result Scope Refusal
+unfoldable pub begin_operation : ℕ → List Field → Scope → RawOperation → Result Scope Refusal
 begin_operation number fs s o = if is_started o.mode fs o.acts then (do
     n ← within 64 number o.line
     s2 ← declare s o.name (meaning.Operation number)
     Ok (record s2 { owner = owner.Operation number })) else refuse N4 o.line
 
-abbrev pub operation_in : ℕ → List Field → Scope → RawOperation → Result (OperationTree × Scope) Refusal
+unfoldable pub operation_in : ℕ → List Field → Scope → RawOperation → Result (OperationTree × Scope) Refusal
 operation_in number fs s o = do
   s2 ← begin_operation number fs s o
   ps ← params_from true [] s2 o.params
@@ -71,13 +71,13 @@ operations_from fs held s (o ∷ more) = do
   operations_from fs (held ++ x.0 ∷ []) x.1 more
 
 -- the scope of the invariant with this number
-abbrev pub begin_invariant : ℕ → Scope → RawInvariant → Result Scope Refusal
+unfoldable pub begin_invariant : ℕ → Scope → RawInvariant → Result Scope Refusal
 begin_invariant number s i = do
   n ← within 64 number i.line
   s2 ← declare s i.name (meaning.Invariant number)
   Ok (record s2 { owner = owner.Invariant number })
 
-abbrev pub invariant_in : ℕ → Scope → RawInvariant → Result (InvariantTree × Scope) Refusal
+unfoldable pub invariant_in : ℕ → Scope → RawInvariant → Result (InvariantTree × Scope) Refusal
 invariant_in number s i = do
   s2 ← begin_invariant number s i
   ps ← params_from false [] s2 i.params
@@ -91,7 +91,7 @@ invariants_from held s (i ∷ more) = do
   invariants_from (held ++ x.0 ∷ []) x.1 more
 
 -- fields, then operations, then invariants
-abbrev pub machine_in : Scope → RawMachine → Result (MachineTree × Scope) Refusal
+unfoldable pub machine_in : Scope → RawMachine → Result (MachineTree × Scope) Refusal
 machine_in s m = do
   fs ← fields_from [] s m.fields
   os ← operations_from fs.0 [] fs.1 m.operations

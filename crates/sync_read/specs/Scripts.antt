@@ -41,7 +41,7 @@ subject_line (subject.Name named) = named.line
 subject_line (subject.Special word line) = line
 
 -- a hypothesis of a machine's script: `low` and `high` speak of locals, which no machine has
-abbrev pub hyp_in : RawHyp → Result HypName Refusal
+unfoldable pub hyp_in : RawHyp → Result HypName Refusal
 hyp_in hyp.Denied = Ok name.Denied
 hyp_in (hyp.Label named) = Ok (name.Label named.name)
 hyp_in (hyp.At n) = Ok (name.At n)
@@ -62,13 +62,13 @@ numbers_from held s (e ∷ es) = do
   numbers_from (held ++ t ∷ []) s es
 
 -- a map and a key
-abbrev pub map_and_number : Expr → Expr → Scope → Result (Tree × Tree) Refusal
+unfoldable pub map_and_number : Expr → Expr → Scope → Result (Tree × Tree) Refusal
 map_and_number m k s = do
   x ← term_of sort.Map m s
   y ← term_of sort.Number k s
   Ok (x, y)
 
-abbrev pub map_and_numbers : Expr → Expr → Expr → Scope → Result (Tree × Tree × Tree) Refusal
+unfoldable pub map_and_numbers : Expr → Expr → Expr → Scope → Result (Tree × Tree × Tree) Refusal
 map_and_numbers m j k s = do
   p ← map_and_number m j s
   y ← term_of sort.Number k s
@@ -173,7 +173,7 @@ abbrev pub script_scope : ℕ → Claim → Scope → Scope
 script_scope o c s = record s { owner = owner.Operation o; claim = claim_owner c }
 
 -- a proof behind so many others
-abbrev pub proof_in : ℕ → Scope → RawProof → Result (ProofTree × Scope) Refusal
+unfoldable pub proof_in : ℕ → Scope → RawProof → Result (ProofTree × Scope) Refusal
 proof_in before s p = do
   o ← operation_meaning (meaning_of s p.operation.name) p.operation.line
   c ← claim_in s p.claim

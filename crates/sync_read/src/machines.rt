@@ -66,6 +66,7 @@ fn starts_once(fields: &[Field], acts: &[RawAct]) -> bool
 }
 
 /// Declares the operation with this number, whose names are known from here on.
+#[tactic(auto, unfolding(crate::specs::Resolving::begin_operation))]
 fn begin_operation(
     number: usize,
     fields: &[Field],
@@ -89,7 +90,7 @@ fn begin_operation(
 }
 
 /// The operation with this number.
-#[tactic(auto, using(sync_names::proofs::Kept::along, sync_names::proofs::Kept::stays))]
+#[tactic(auto, using(sync_names::proofs::Kept::along, sync_names::proofs::Kept::stays), unfolding(crate::specs::Resolving::operation_in))]
 fn operation(
     alloc: Global,
     number: usize,
@@ -136,6 +137,7 @@ fn operations(
 }
 
 /// Declares the invariant with this number, whose parameters are known from here on.
+#[tactic(auto, unfolding(crate::specs::Resolving::begin_invariant))]
 fn begin_invariant(number: usize, scope: &mut Scope, raw: &RawInvariant) -> Result<(), Stop>
     ensures { Gives (λ _. scope.new) result (begin_invariant number scope.old raw.now) }
 {
@@ -146,7 +148,7 @@ fn begin_invariant(number: usize, scope: &mut Scope, raw: &RawInvariant) -> Resu
 }
 
 /// The invariant with this number.
-#[tactic(auto, using(sync_names::proofs::Kept::along, sync_names::proofs::Kept::stays))]
+#[tactic(auto, using(sync_names::proofs::Kept::along, sync_names::proofs::Kept::stays), unfolding(crate::specs::Resolving::invariant_in))]
 fn invariant(
     alloc: Global,
     number: usize,
@@ -190,7 +192,7 @@ fn invariants(
 }
 
 /// The machine of a raw tree; the scope behind it knows all its names.
-#[tactic(auto, using(crate::proofs::Growing::operations_kept, crate::proofs::Growing::operations_stay))]
+#[tactic(auto, using(crate::proofs::Growing::operations_kept, crate::proofs::Growing::operations_stay), unfolding(crate::specs::Resolving::machine_in))]
 pub(crate) fn machine(alloc: Global, scope: &mut Scope, raw: &RawMachine) -> Result<Machine, Stop>
     ensures exact { Gives (λ m. (machine_tree m, scope.new)) result (machine_in scope.old raw.now) }
     ensures ids { IfOk result HasOwnIds }

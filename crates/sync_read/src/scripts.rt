@@ -20,6 +20,7 @@ use sync_rules::Claim;
 use sync_terms::{Block, HypName, Part, Script, ScriptStep, StepKind, TermId, Terms};
 
 /// A hypothesis of a machine's script.
+#[tactic(auto, unfolding(crate::specs::Scripts::hyp_in))]
 fn hyp(raw: RawHyp) -> Result<HypName, Stop>
     ensures { Gives (λ h. h) result (hyp_in raw) }
 {
@@ -70,7 +71,7 @@ fn numbers(
 }
 
 /// A map and a key.
-#[tactic(auto, using(sync_names::proofs::Kept::kept_tree, sync_names::proofs::Kept::kept_term, sync_names::proofs::Kept::along, sync_names::proofs::Kept::stays))]
+#[tactic(auto, using(sync_names::proofs::Kept::kept_tree, sync_names::proofs::Kept::kept_term, sync_names::proofs::Kept::along, sync_names::proofs::Kept::stays), unfolding(crate::specs::Scripts::map_and_number))]
 fn map_and_number(
     terms: &mut Terms,
     scope: &Scope,
@@ -86,7 +87,7 @@ fn map_and_number(
 }
 
 /// A map and two keys.
-#[tactic(auto, using(sync_names::proofs::Kept::kept_tree, sync_names::proofs::Kept::kept_term, sync_names::proofs::Kept::along, sync_names::proofs::Kept::stays))]
+#[tactic(auto, using(sync_names::proofs::Kept::kept_tree, sync_names::proofs::Kept::kept_term, sync_names::proofs::Kept::along, sync_names::proofs::Kept::stays), unfolding(crate::specs::Scripts::map_and_numbers))]
 fn map_and_numbers(
     terms: &mut Terms,
     scope: &Scope,
@@ -209,7 +210,7 @@ fn claim_owner(claim: Claim) -> Owner
 }
 
 /// A proof behind so many others.
-#[tactic(auto, using(sync_names::proofs::Kept::along, sync_names::proofs::Kept::stays))]
+#[tactic(auto, using(sync_names::proofs::Kept::along, sync_names::proofs::Kept::stays), unfolding(crate::specs::Scripts::proof_in))]
 fn proof(
     alloc: Global,
     terms: &mut Terms,
