@@ -2,3 +2,4 @@ pub mod Steps
 pub mod Growing
 pub mod Symbols
 pub mod Going
+pub mod Planned
