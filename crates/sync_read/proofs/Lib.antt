@@ -3,3 +3,4 @@ pub mod Growing
 pub mod Symbols
 pub mod Going
 pub mod Planned
+pub mod Whole

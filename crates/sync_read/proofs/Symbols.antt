@@ -23,15 +23,12 @@ use Rattle.sync_parse.specs.declared.trees.RawAct.{RawAct}
 use Rattle.sync_parse.specs.declared.trees.RawOperation.{RawOperation}
 use Rattle.sync_parse.specs.declared.trees.RawInvariant.{RawInvariant}
 use Rattle.sync_parse.specs.declared.trees.RawMachine.{RawMachine}
-use Rattle.sync_parse.specs.declared.trees.RawText.{RawText}
 use Rattle.sync_names.specs.declared.scopes.Scope.{Scope}
 use Rattle.sync_names.specs.Scopes.{symbol_of, own}
 use Rattle.sync_names.specs.Exprs.{term_of, form_of}
 use Rattle.sync_names.specs.declared.scopes.Sort.TheVariants as sort
 use Rattle.sync_read.specs.Acts.{within, add_param, params_from, field_in, pattern_in, place_in, field_term, field_place, act_in, steps_from, fields_from}
 use Rattle.sync_read.specs.Resolving.{begin_operation, operation_in, operations_from, begin_invariant, invariant_in, invariants_from, machine_in}
-use Rattle.sync_read.specs.Scripts.{proofs_from}
-use Rattle.sync_read.specs.Texts.{TextTree, first_scope, resolved}
 
 -- ---- chains of steps that may refuse
 
@@ -174,7 +171,7 @@ invariants_are held s (i ∷ more) h =
     after_ok AllInvariant Invariant (invariant_in (length held) s i) _ (invariant_is (length held) s i) (λ x p.
       invariants_are (held ++ x.0 ∷ []) x.1 more (one_more HasSymbols held x.0 h p))
 
--- ---- machines and texts
+-- ---- machines
 
 abbrev Made : MachineTree × Scope → Type 0
 Made x = AreTextNames x.0
@@ -187,10 +184,5 @@ machine_is s m =
         after_ok Made AllInvariant (invariants_from [] os.1 m.invariants) _ (invariants_are [] os.1 m.invariants tt) (λ is q.
           record { ops = p; invariants = q })))
 
-text_is : (t : RawText) → IfOk (resolved t) (λ x. AreTextNames x.machine)
-text_is t =
-    after_ok (λ x. AreTextNames x.machine) Made (machine_in (first_scope (length t.names.list)) t.machine) _ (machine_is (first_scope (length t.names.list)) t.machine) (λ m p.
-      after (λ x. AreTextNames x.machine) (proofs_from [] m.1 t.proofs) _ (λ ps. p))
-
-pub text_names : (t : RawText) (x : TextTree) → resolved t ≡ Ok x → AreTextNames x.machine
-text_names t x e = IfOk-at_ok (λ y. AreTextNames y.machine) e (text_is t)
+pub machine_names : (s : Scope) (m : RawMachine) (x : MachineTree × Scope) → machine_in s m ≡ Ok x → AreTextNames x.0
+machine_names s m x e = IfOk-at_ok Made e (machine_is s m)
