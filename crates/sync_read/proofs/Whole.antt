@@ -1,0 +1,86 @@
+-- Proofs, machines and texts: what they are once their parts are made.
+use Rattle.std.proofs.Common.{◌≡◌, ℕ, List, [], length, map, Result, Ok, Err, refl, sym, ap, subst, ◌∙◌}
+use Rattle.std.specs.List.{AllByRecursion}
+use Rattle.sync_base.specs.declared.stops.Refusal.{Refusal}
+use Rattle.sync_base.specs.declared.stops.Stop.{Stop}
+use Rattle.sync_base.specs.declared.stops.Stop.TheVariants.{Refused, Memory}
+use Rattle.sync_base.specs.Outcome.{◌>>=◌, Stops, Gives}
+use Rattle.sync_terms.specs.Stored.{Stored, Extends, IsForm}
+use Rattle.sync_terms.specs.Plans.{Plan}
+use Rattle.sync_machine.specs.declared.machine.Machine.{Machine}
+use Rattle.sync_machine.specs.Machines.{MachineTree, OperationTree, InvariantTree}
+use Rattle.sync_machine.specs.Views.{operation_tree, invariant_tree, machine_tree, HasOwnIds}
+use Rattle.sync_machine.specs.Naming.{AreTextNames}
+use Rattle.sync_rules.specs.declared.claims.Claim.{Claim}
+use Rattle.sync_parse.specs.declared.trees.RawProof.{RawProof}
+use Rattle.sync_parse.specs.declared.trees.RawText.{RawText}
+use Rattle.sync_names.specs.declared.scopes.Scope.{Scope}
+use Rattle.sync_names.specs.Scopes.{meaning_of}
+use Rattle.sync_read.specs.Acts.{within}
+use Rattle.sync_read.specs.Resolving.{machine_in}
+use Rattle.sync_read.specs.Scripts.{ProofTree, operation_meaning, claim_in, script_scope, block_of, proof_in, proofs_from}
+use Rattle.sync_read.specs.Texts.{TextTree, first_scope, resolved}
+use Rattle.sync_read.proofs.Growing.{operations_kept, operations_stay, invariants_kept, invariants_stay}
+use Rattle.sync_read.proofs.Symbols.{machine_names}
+
+-- an answer that stops
+pub gives_stop : {A B : Type 0} (view : A → B) (r : Result A Stop) (e : Stop) (wanted : Result B Refusal) → r ≡ Err e → Stops e wanted → Gives view r wanted
+gives_stop view r e wanted is h = subst (λ x. Gives view x wanted) (sym is) h
+
+-- ---- proofs
+
+abbrev behind_claim : ℕ → Scope → RawProof → ℕ → Claim → Result (ProofTree × Scope) Refusal
+behind_claim before s p o c = within 65536 before p.script.line >>= (λ n. block_of (script_scope o c s) p.script.block >>= (λ b.
+    Ok (record { op = o; claim = c; plan = b; by_line = p.script.line; line = p.operation.line }, script_scope o c s)))
+
+proof_is : (before : ℕ) (s : Scope) (p : RawProof) (o n : ℕ) (c : Claim) → operation_meaning (meaning_of s p.operation.name) p.operation.line ≡ Ok o → claim_in s p.claim ≡ Ok c
+    → within 65536 before p.script.line ≡ Ok n
+    → proof_in before s p ≡ (block_of (script_scope o c s) p.script.block >>= (λ b. Ok (record { op = o; claim = c; plan = b; by_line = p.script.line; line = p.operation.line }, script_scope o c s)))
+unfolding proof_in
+proof_is before s p o n c operation claim few =
+    ap (λ r. r >>= (λ o. claim_in s p.claim >>= behind_claim before s p o)) operation
+    ∙ ap (λ r. r >>= behind_claim before s p o) claim
+    ∙ ap (λ r. r >>= (λ n. block_of (script_scope o c s) p.script.block >>= (λ b.
+        Ok (record { op = o; claim = c; plan = b; by_line = p.script.line; line = p.operation.line }, script_scope o c s)))) few
+
+pub proof_made : (before : ℕ) (s next : Scope) (p : RawProof) (o n : ℕ) (c : Claim) (plan : Plan) → operation_meaning (meaning_of s p.operation.name) p.operation.line ≡ Ok o → claim_in s p.claim ≡ Ok c
+    → within 65536 before p.script.line ≡ Ok n → next ≡ script_scope o c s → block_of next p.script.block ≡ Ok plan
+    → proof_in before s p ≡ Ok (record { op = o; claim = c; plan = plan; by_line = p.script.line; line = p.operation.line }, next)
+proof_made before s next p o n c plan operation claim few is block =
+    let made : ProofTree = record { op = o; claim = c; plan = plan; by_line = p.script.line; line = p.operation.line } in
+    proof_is before s p o n c operation claim few
+    ∙ ap (λ r. r >>= (λ b. Ok (record { op = o; claim = c; plan = b; by_line = p.script.line; line = p.operation.line }, script_scope o c s))) (ap (λ s. block_of s p.script.block) (sym is) ∙ block)
+    ∙ ap (λ s. Ok (made, s)) (sym is)
+
+pub proof_stops : (e : Stop) (before : ℕ) (s next : Scope) (p : RawProof) (o n : ℕ) (c : Claim) → operation_meaning (meaning_of s p.operation.name) p.operation.line ≡ Ok o → claim_in s p.claim ≡ Ok c
+    → within 65536 before p.script.line ≡ Ok n → next ≡ script_scope o c s → Stops e (block_of next p.script.block) → Stops e (proof_in before s p)
+proof_stops Memory before s next p o n c operation claim few is h = tt
+proof_stops (Refused r) before s next p o n c operation claim few is h =
+    proof_is before s p o n c operation claim few
+    ∙ ap (λ r. r >>= (λ b. Ok (record { op = o; claim = c; plan = b; by_line = p.script.line; line = p.operation.line }, script_scope o c s))) (ap (λ s. block_of s p.script.block) (sym is) ∙ h)
+
+-- ---- machines
+
+-- the machine over a store that has grown
+abbrev pub over : Stored → Machine → Machine
+over t m = record { name = m.name; fields = m.fields; ops = m.ops; invariants = m.invariants; terms = t }
+
+pub machine_kept : (t : Stored) (m : Machine) → Extends m.terms t → HasOwnIds m → machine_tree (over t m) ≡ machine_tree m
+machine_kept t m grows ids =
+    let make : List OperationTree → List InvariantTree → MachineTree = λ os is. record { name = m.name; fields = m.fields; ops = os; invariants = is } in
+    ap (λ os. make os (map (invariant_tree t) m.invariants)) (operations_kept m.terms t m.ops grows ids.ops)
+    ∙ ap (make (map (operation_tree m.terms) m.ops)) (invariants_kept m.terms t m.invariants grows ids.invariants)
+
+pub machine_stays : (t : Stored) (m : Machine) → Extends m.terms t → HasOwnIds m → HasOwnIds (over t m)
+machine_stays t m grows ids = record { ops = operations_stay m.terms t m.ops grows ids.ops; invariants = invariants_stay m.terms t m.invariants grows ids.invariants }
+
+pub names_kept : (t : Stored) (m : Machine) (s next : Scope) (raw : RawText) → Extends m.terms t → HasOwnIds m → machine_in s raw.machine ≡ Ok (machine_tree m, next) → AreTextNames (machine_tree (over t m))
+names_kept t m s next raw grows ids is = subst AreTextNames (sym (machine_kept t m grows ids)) (machine_names s raw.machine (machine_tree m, next) is)
+
+-- ---- texts
+
+pub text_stops : (e : Stop) (s : Scope) (raw : RawText) (m : MachineTree × Scope) → s ≡ first_scope (length raw.names.list) → machine_in s raw.machine ≡ Ok m → Stops e (proofs_from [] m.1 raw.proofs) → Stops e (resolved raw)
+text_stops Memory s raw m first machine h = tt
+text_stops (Refused r) s raw m first machine h =
+    ap (λ x. x >>= (λ m. proofs_from [] m.1 raw.proofs >>= (λ ps. Ok (record { machine = m.0; proofs = ps.0; names = raw.names })))) (ap (λ s. machine_in s raw.machine) (sym first) ∙ machine)
+    ∙ ap (λ x. x >>= (λ ps. Ok (record { machine = m.0; proofs = ps.0; names = raw.names }))) h

@@ -1,0 +1,5 @@
+pub mod Acts
+pub mod Owned
+pub mod Resolving
+pub mod Scripts
+pub mod Texts

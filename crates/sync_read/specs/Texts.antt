@@ -1,0 +1,38 @@
+-- What a raw text means, as plain lists, or the first rule N that it breaks.
+use Rattle.std.specs.Prelude.{ℕ, List, [], length, map, min, replicate, Result, Ok, Err}
+use Rattle.sync_base.specs.declared.stops.Refusal.{Refusal}
+use Rattle.sync_base.specs.declared.names.NameList.{NameList}
+use Rattle.sync_base.specs.Outcome.{◌>>=◌}
+use Rattle.sync_machine.specs.Machines.{MachineTree}
+use Rattle.sync_machine.specs.Views.{machine_tree}
+use Rattle.sync_parse.specs.declared.trees.RawText.{RawText}
+use Rattle.sync_names.specs.declared.scopes.Meaning.TheVariants.{Nothing}
+use Rattle.sync_names.specs.declared.scopes.Owners.{Owners}
+use Rattle.sync_names.specs.declared.scopes.Owner.TheVariants.{Nobody}
+use Rattle.sync_names.specs.declared.scopes.Scope.{Scope}
+use Rattle.sync_read.specs.declared.texts.Text.{Text}
+use Rattle.sync_read.specs.Resolving.{machine_in}
+use Rattle.sync_read.specs.Scripts.{ProofTree, proofs_from, proof_tree}
+
+pub record TextTree : Type 0 where
+  pub machine : MachineTree
+  pub proofs : List ProofTree
+  pub names : NameList
+
+abbrev pub unowned : Owners
+unowned = record { operations = 0; invariants = 0 }
+
+-- so many names, of which none stands for anything; a text has fewer than 1,048,576
+abbrev pub first_scope : ℕ → Scope
+first_scope count = record { meanings = replicate (min count 1048576) Nothing; owners = replicate (min count 1048576) unowned; owner = Nobody; claim = Nobody }
+
+-- first the machine, then its proofs
+abbrev pub resolved : RawText → Result TextTree Refusal
+resolved raw = do
+  m ← machine_in (first_scope (length raw.names.list)) raw.machine
+  ps ← proofs_from [] m.1 raw.proofs
+  Ok (record { machine = m.0; proofs = ps.0; names = raw.names })
+
+-- a text with its ids read in its machine's store
+abbrev pub text_tree : Text → TextTree
+text_tree t = record { machine = machine_tree t.machine; proofs = map (proof_tree t.machine.terms) t.proofs.list; names = t.names }

@@ -1,0 +1,9 @@
+//! From the raw tree of a text to its machine and proofs: what each name stands for, with the first rule N that is broken.
+#![tactic(auto)]
+
+mod acts;
+mod machines;
+mod scripts;
+mod texts;
+
+pub use texts::{Text, resolve};
