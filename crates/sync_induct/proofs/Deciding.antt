@@ -29,7 +29,7 @@ use Rattle.sync_induct.specs.Titles.{titled, same_title}
 use Rattle.sync_induct.specs.declared.proofs.Proof.{Proof}
 use Rattle.sync_induct.specs.Checks.{ProofTree, title_of, titles_of, proof_trees, proofs_in, no_store, proof_of, is_large, judged, has_title, stray_fault, duties_fault, proof_fault, unbuilt_fault}
 use Rattle.sync_induct.specs.Closing.{IsKeepable, AreWanted}
-use Rattle.sync_induct.specs.Duties.{duties_from, duties_of}
+use Rattle.sync_induct.specs.Duties.{Duty, duties_from, duties_of}
 use Rattle.sync_induct.specs.Walks.{IsWalkable}
 use Rattle.sync_induct.proofs.Lasting.{operation-stays, invariants-stay}
 use Rattle.sync_induct.proofs.Ready.{operations-walkable, invariants-keepable}
