@@ -8,6 +8,7 @@ use Rattle.sync_base.specs.Outcome.{first, ◌>>=◌}
 use Rattle.sync_lex.specs.Lexemes.{lexemes_of}
 use Rattle.sync_tokens.specs.Words.{worded}
 use Rattle.sync_parse.specs.Machines.{parsed}
+use Rattle.sync_machine.specs.Machines.{MachineTree}
 use Rattle.sync_machine.specs.Naming.{machine_fault}
 use Rattle.sync_machine.specs.States.{HoldsAlways}
 use Rattle.sync_rules.specs.Faults.{strategy_fault}
@@ -22,18 +23,25 @@ most_bytes = 1048576
 abbrev pub spelled : List ℕ → Result TextTree Refusal
 spelled bytes = parsed bytes >>= resolved
 
--- the first rule that a machine, its statements or its proofs break
-abbrev pub text_fault : TextTree → Option Refusal
-text_fault t = first (machine_fault t.machine) (first (strategy_fault t.machine) (first (unbuilt_fault t.machine.fields) (proof_fault t.machine t.proofs)))
+-- the first rule of names or of strategies that a machine breaks
+abbrev pub form_fault : MachineTree → Option Refusal
+form_fault m = first (machine_fault m) (strategy_fault m)
 
--- the number of the scripts of a text that breaks no rule
-abbrev pub scripts_unless : Option Refusal → TextTree → Result ℕ Refusal
-scripts_unless None t = Ok (length t.proofs)
-scripts_unless (Some refusal) t = Err refusal
+-- the first rule that a machine's proofs break
+abbrev pub proofs_fault : TextTree → Option Refusal
+proofs_fault t = first (unbuilt_fault t.machine.fields) (proof_fault t.machine t.proofs)
+
+-- so many scripts, where no rule is broken
+abbrev pub unless : Option Refusal → ℕ → Result ℕ Refusal
+unless None scripts = Ok scripts
+unless (Some refusal) scripts = Err refusal
 
 -- the number of a text's scripts, or the first rule that it breaks
+abbrev pub judged : TextTree → Result ℕ Refusal
+judged t = unless (first (form_fault t.machine) (proofs_fault t)) (length t.proofs)
+
 unfoldable pub verdict_of : List ℕ → Result ℕ Refusal
-verdict_of bytes = spelled bytes >>= λ t. scripts_unless (text_fault t) t
+verdict_of bytes = spelled bytes >>= judged
 
 -- The bytes spell a machine with so many scripts, and it holds always: each state that it reaches by declared steps meets
 -- all its invariants, and no safety condition and no assertion fails at one.

@@ -54,7 +54,10 @@ proofs {
   up keeps top by { same; }
 }
 ";
-    assert_eq!(rt; verdict(rt.alloc(), wrong_sum.as_slice())?, Err((13, Rule::K5)));
+    assert_eq!(rt;
+        verdict(rt.alloc(), wrong_sum.as_slice())?,
+        Err((13, Rule::K5))
+    );
     let wrong_same = b"version 1;
 machine Two {
   field c: variable;
@@ -71,7 +74,10 @@ proofs {
   up keeps top by { same; }
 }
 ";
-    assert_eq!(rt; verdict(rt.alloc(), wrong_same.as_slice())?, Err((14, Rule::K4)));
+    assert_eq!(rt;
+        verdict(rt.alloc(), wrong_same.as_slice())?,
+        Err((14, Rule::K4))
+    );
     Ok(())
 }
 
@@ -167,7 +173,10 @@ assert x <= 1;
 proofs { t at 2 by {
 sum 1 denied, -1 at 1; } }
 ";
-    assert_eq!(rt; verdict(rt.alloc(), negative.as_slice())?, Err((7, Rule::K6)));
+    assert_eq!(rt;
+        verdict(rt.alloc(), negative.as_slice())?,
+        Err((7, Rule::K6))
+    );
     let third = b"version 1;
 machine M { field c: variable; init b() { init c = 0; }
 transition u() { update c = 1; have c;
@@ -180,12 +189,18 @@ machine M { field c: variable; init b() { init c = 0; }
 transition u() { update
 d = 1; } }
 ";
-    assert_eq!(rt; verdict(rt.alloc(), unknown.as_slice())?, Err((4, Rule::N1)));
+    assert_eq!(rt;
+        verdict(rt.alloc(), unknown.as_slice())?,
+        Err((4, Rule::N1))
+    );
     let unproved = b"version 1;
 machine M { field c: variable; init b() { init c = 0; }
 invariant i(): c = 0; }
 ";
-    assert_eq!(rt; verdict(rt.alloc(), unproved.as_slice())?, Err((2, Rule::I1)));
+    assert_eq!(rt;
+        verdict(rt.alloc(), unproved.as_slice())?,
+        Err((2, Rule::I1))
+    );
     let stray = b"version 1;
 machine M { field c: variable; init b() { init c = 0; } }
 proofs {
