@@ -15,3 +15,6 @@ mod walks;
 pub use checking::inductive;
 pub use holding::Inductive;
 pub use proofs::{Proof, Proofs};
+
+#[cfg(test)]
+mod tests;
