@@ -1,5 +1,5 @@
 -- The loop over an operation's statements: what is left to show, to know and to leave, from one statement to the next.
-use Rattle.std.proofs.Common.{◌≡◌, ℕ, suc, List, [], ◌∷◌, ◌++◌, Option, None, Err, refl, sym, ap, subst, ◌∙◌}
+use Rattle.std.proofs.Common.{◌≡◌, ℕ, suc, List, [], ◌∷◌, ◌++◌, None, Err, refl, sym, ap, ◌∙◌}
 use Rattle.sync_base.specs.declared.stops.Stop.{Stop}
 use Rattle.sync_base.specs.Outcome.{Passes}
 use Rattle.sync_terms.specs.Trees.{Tree}
@@ -10,7 +10,7 @@ use Rattle.sync_machine.specs.States.{strategy_of, current_of, advanced, last_va
 use Rattle.sync_kernel.specs.Facts.{Fact}
 use Rattle.sync_induct.specs.Checks.{ProofTree, duties_fault}
 use Rattle.sync_induct.specs.Duties.{Duty, safety_duties, step_facts, step_duties, facts_behind, AreProved}
-use Rattle.sync_induct.proofs.Remaining.{Remains, remains-whole, remains-same, remains-past, remains-refused, remains-none, remains-proved}
+use Rattle.sync_induct.proofs.Remaining.{Remains, remains-whole, remains-same, remains-past, remains-refused}
 
 -- where the walk stands: values, facts, number and the statements that are left
 pub record Place : Type 0 where

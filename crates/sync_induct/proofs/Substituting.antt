@@ -1,15 +1,15 @@
 -- The pairs of a closing claim, and that they substitute as it says.
-use Rattle.std.proofs.Common.{◌≡◌, ℕ, zero, suc, ◌+◌, ◌-◌, ◌<◌, ◌≤◌, Bool, true, false, List, [], ◌∷◌, ◌++◌, length, map, get_or, take, Option, Some, None, Result, Ok, Err, refl, sym, ap, subst, ◌∙◌, inl, inr, arith, cond, ltb, add-zero, zero-add}
+use Rattle.std.proofs.Common.{◌≡◌, ℕ, zero, suc, ◌+◌, ◌<◌, ◌≤◌, Bool, true, false, List, [], ◌∷◌, ◌++◌, length, map, get_or, take, Option, Some, Result, Ok, Err, refl, sym, ap, subst, ◌∙◌, inl, inr, arith, cond, ltb, add-zero, zero-add}
 use Rattle.std.specs.Prelude.{nat_eq, IfOk}
 use Rattle.std.specs.Option.{option_map_or}
 use Rattle.std.specs.List.{AllByRecursion, list_any}
-use Rattle.std.proofs.lemmas.Bool.{cases_Bool, eqb-true, eq-eqb, ne_eqb, lt-ltb, le-ltb, ltb-true, ltb-false}
-use Rattle.std.proofs.lemmas.List.{take_more, take_all, map-append, length-take-le, length-map}
+use Rattle.std.proofs.lemmas.Bool.{cases_Bool, eqb-true, eq-eqb, ne_eqb, ltb-true, ltb-false}
+use Rattle.std.proofs.lemmas.List.{take_more, take_all, map-append, length-take-le}
 use Rattle.sync_terms.specs.declared.nodes.Sym.{Sym}
 use Rattle.sync_terms.specs.declared.nodes.TermId.{TermId}
 use Rattle.sync_terms.specs.declared.nodes.FormId.{FormId}
 use Rattle.sync_terms.specs.declared.store.TermStop.{TermStop}
-use Rattle.sync_terms.specs.Trees.{Tree, Name, Nil, Formula, replaced_in}
+use Rattle.sync_terms.specs.Trees.{Tree, Name, Nil, replaced_in}
 use Rattle.sync_terms.specs.declared.nodes.Node.TheVariants as node
 use Rattle.sync_terms.specs.Stored.{Stored, tree, formula, shape, IsTerm, IsForm, Extends}
 use Rattle.sync_terms.specs.Substitution.{term_of, substitution}

@@ -10,7 +10,9 @@ use sqlite_items::Items;
 use std::alloc::Global;
 use std::test::*;
 use sync_base::{Refusal, Rule, Stop};
-use sync_machine::{Act, Field, Invariant, Machine, OpMode, Operation, Step, Strategy, well_formed};
+use sync_machine::{
+    Act, Field, Invariant, Machine, OpMode, Operation, Step, Strategy, well_formed,
+};
 use sync_rules::{Claim, check_ops};
 use sync_terms::{
     Block, FormId, FormNode, HypName, Node, Part, Script, ScriptStep, StepKind, Sym, TermId, Terms,
@@ -285,7 +287,10 @@ fn missing_proof(rt: HostRuntime) -> Result<(), Fail> {
         line: 6,
         rule: Rule::I1,
     });
-    assert_eq!(rt; refusal(rt.alloc(), three_proofs(rt.alloc(), -1)?)?, Some(missing));
+    assert_eq!(rt;
+        refusal(rt.alloc(), three_proofs(rt.alloc(), -1)?)?,
+        Some(missing)
+    );
     Ok(())
 }
 

@@ -1,8 +1,8 @@
-use Rattle.std.proofs.Common.{◌∙◌, ◌++◌, ◌∷◌, [], List, ℕ, ap, sym, get_or, take}
+use Rattle.std.proofs.Common.{◌∙◌, ◌++◌, ◌∷◌, [], List, ℕ, ap, get_or, take}
 use Rattle.sync_terms.specs.declared.nodes.Sym.{Sym}
 use Rattle.sync_terms.specs.declared.nodes.TermId.{TermId}
 use Rattle.sync_induct.specs.Closing.{field_pairs}
-use Rattle.sync_induct.proofs.Substituting.{no-pairs, pairs-more, pairs-all}
+use Rattle.sync_induct.proofs.Substituting.{no-pairs, pairs-more}
 use Rattle.sync_induct.proofs.closing.field_pairs.Goals as goal
 
 pub loop-i-init : goal.loop-i-init

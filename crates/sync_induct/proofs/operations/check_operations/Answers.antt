@@ -29,8 +29,8 @@ check_operation-requires c =
 pub returns-in_err-check_operation-clause-exact : goal.returns-in_err-check_operation-clause-exact
 returns-in_err-check_operation-clause-exact c =
     let h = operations-refused c.args.terms.now c.loop-i.terms c.args.fields.now c.args.invariants.now c.args.operations.now (proof_trees c.args.book.proofs.now) c.loop-i.i c.in-Ok.number c.index-operations-i.result
-        c.loop-i.invariant.keeps c.loop-i-test.true c.index-operations-i.is c.in-Ok.ensures.1 c.requires.invariants c.requires.walkable c.loop-i.invariant.left
-        (Unit {0}) (Unit {0}) c.in_err-check_operation.field-0.0 c.in_err-check_operation.ensures.exact in
+    c.loop-i.invariant.keeps c.loop-i-test.true c.index-operations-i.is c.in-Ok.ensures.1 c.requires.invariants c.requires.walkable c.loop-i.invariant.left
+    (Unit {0}) (Unit {0}) c.in_err-check_operation.field-0.0 c.in_err-check_operation.ensures.exact in
     search rules
 
 pub returns-in_err-check_operation-clause-keeps : goal.returns-in_err-check_operation-clause-keeps

@@ -1,4 +1,4 @@
-use Rattle.std.proofs.Common.{◌≡◌, ◌∙◌, ◌+◌, Bool, true, false, refl, sym, rules}
+use Rattle.std.proofs.Common.{◌+◌, Bool, true, false, refl, rules}
 use Rattle.std.specs.HashSet.{contains}
 use Rattle.sync_terms.proofs.Extending.{Extends-refl, Extends-trans}
 use Rattle.sync_machine.specs.Views.{operation_tree}
@@ -28,7 +28,7 @@ returns-in_err-keep_one-clause-exact c =
     let n = c.in-Ok.ensures.1 in
     let wanted = wanted-is s o c.args.op (known_of s w) (values_of s w) xs j x lt is (contains same_title c.args.book.wanted.now) c.in-Ok.number c.new.result c.contains.result true c.requires.wanted n c.new.ensures c.contains.ensures c.if-contains.true in
     let h = keeping-refused s c.loop-j.terms w c.loop-j.self o c.args.op xs (proof_trees c.args.book.proofs.now) j c.in-Ok.number x lt is n c.requires.walk c.requires.invariants c.loop-j.invariant
-        (Unit {0}) (Unit {0}) c.in_err-keep_one.field-0.0 wanted c.in_err-keep_one.ensures.exact in
+    (Unit {0}) (Unit {0}) c.in_err-keep_one.field-0.0 wanted c.in_err-keep_one.ensures.exact in
     search rules
 
 pub returns-in_err-keep_one-clause-keeps : goal.returns-in_err-keep_one-clause-keeps

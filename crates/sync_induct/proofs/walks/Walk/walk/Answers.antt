@@ -40,8 +40,8 @@ returns-in_err-check-clause-exact c =
     let i = c.loop-i.i in
     let d : Step = record { act = stored.Init 0 (record { 0 = 0 }); line = 0 } in
     let h = step-refused s c.loop-i.terms c.loop-i.invariant.keeps c.args.fields.now c.args.op (proof_trees c.args.book.proofs.now) (place_at s s xs 0 c.args.self.now) xs i d c.loop-i.self c.in-Ok.number
-          c.loop-i-test.true c.in-Ok.ensures.1 (All-get_or (IsWalkable s c.args.fields.now) xs i d c.loop-i-test.true c.requires.walkable).ids c.loop-i.invariant.continues
-          (Unit {0}) (Unit {0}) c.in_err-check.field-0.0 c.in_err-check.ensures.exact in
+    c.loop-i-test.true c.in-Ok.ensures.1 (All-get_or (IsWalkable s c.args.fields.now) xs i d c.loop-i-test.true c.requires.walkable).ids c.loop-i.invariant.continues
+    (Unit {0}) (Unit {0}) c.in_err-check.field-0.0 c.in_err-check.ensures.exact in
     search rules
 
 pub returns : goal.returns
