@@ -6,6 +6,7 @@ mod closing;
 mod holding;
 mod index;
 mod judges;
+mod numbers;
 mod operations;
 mod proofs;
 mod sizes;
