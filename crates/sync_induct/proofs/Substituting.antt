@@ -37,9 +37,6 @@ pairs-more ts i d lt =
     let n : 0 + length (take i ts) ≡ i = zero-add (length (take i ts)) ∙ length-take-le i ts (omega arith) in
     sym (ap (field_pairs 0) (take_more ts i d lt) ∙ (field_pairs-push 0 (take i ts) (get_or ts i d) ∙ ap (λ (k : ℕ). field_pairs 0 (take i ts) ++ (record { 0 = k }, get_or ts i d) ∷ []) n))
 
-pub pairs-all : (ts : List TermId) (i : ℕ) → length ts ≤ i → field_pairs 0 (take i ts) ≡ field_pairs 0 ts
-pairs-all ts i le = ap (field_pairs 0) (take_all i ts le)
-
 pub name-at : (xs : List Sym) (i : ℕ) (d : Sym) → i < length xs → AllByRecursion IsNameSymbol (symbols_of xs) → IsNameSymbol (get_or xs i d).0
 name-at [] i d lt h = absurd (omega arith)
 name-at (x ∷ xs) zero d lt h = h.0
