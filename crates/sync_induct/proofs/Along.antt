@@ -1,10 +1,10 @@
 -- Facts along the statements of an operation: what holds behind them, what they leave, and what proved duties give.
-use Rattle.std.proofs.Common.{◌≡◌, ◌≢◌, ℕ, zero, suc, ◌+◌, ◌*◌, ◌<◌, ◌≤◌, ℤ, Bool, true, false, ◌||◌, List, [], ◌∷◌, ◌++◌, length, map, get_or, set, Option, Some, None, refl, sym, ap, subst, ◌∙◌, inl, inr, arith, cond, add-zero}
-use Rattle.std.specs.List.{AllByRecursion, list_any, range_with_len}
-use Rattle.std.proofs.lemmas.Bool.{cases_eq, true≢false, false≢true}
+use Rattle.std.proofs.Common.{◌≡◌, ℕ, zero, suc, ◌+◌, ◌<◌, Bool, true, false, ◌||◌, List, [], ◌∷◌, ◌++◌, length, get_or, set, Option, Some, None, refl, sym, ap, subst, ◌∙◌, arith, cond, add-zero}
+use Rattle.std.specs.List.{AllByRecursion}
+use Rattle.std.proofs.lemmas.Bool.{true≢false, false≢true}
 use Rattle.std.proofs.lemmas.List.{get_or-set_other, length-set}
-use Rattle.sync_terms.specs.Trees.{Tree, Name, Nil, Formula, replaced_in}
-use Rattle.sync_terms.specs.Values.{Valuation, num, mapped, truth, Holds, HoldsForAll, with_number, Given, IsValid}
+use Rattle.sync_terms.specs.Trees.{Tree, Nil, Formula, replaced_in}
+use Rattle.sync_terms.specs.Values.{Valuation, HoldsForAll, Given, IsValid}
 use Rattle.sync_machine.specs.declared.fields.Field.{Field}
 use Rattle.sync_machine.specs.Machines.{ActTree, Init, Require, Assert, Update, HaveVariable, Add, Remove, Have, Deposit, Withdraw, Guard, StepTree, OperationTree, InvariantTree, MachineTree}
 use Rattle.sync_machine.specs.Statements.{safety, condition, after, field_of, changed_by}

@@ -1,19 +1,17 @@
 -- A walk that goes on: one more fact, one more value, and a store that grows.
-use Rattle.std.proofs.Common.{◌≡◌, ℕ, zero, suc, ◌+◌, ◌-◌, ◌^◌, ◌<◌, ◌≤◌, min, List, [], ◌∷◌, ◌++◌, length, map, set, refl, sym, ap, subst, ◌∙◌, arith}
+use Rattle.std.proofs.Common.{◌≡◌, ℕ, zero, suc, ◌+◌, ◌-◌, ◌^◌, min, List, [], ◌∷◌, ◌++◌, map, set, sym, ap, subst, ◌∙◌, arith}
 use Rattle.std.specs.Prelude.{slice_set}
 use Rattle.std.specs.List.{AllByRecursion}
 use Rattle.std.proofs.lemmas.List.{map-set, map-append}
-use Rattle.sync_terms.specs.Trees.{Tree, Formula, formula_size}
+use Rattle.sync_terms.specs.Trees.{formula_size}
 use Rattle.sync_terms.specs.declared.nodes.TermId.{TermId}
-use Rattle.sync_terms.specs.declared.nodes.FormId.{FormId}
-use Rattle.sync_terms.specs.declared.scripts.HypName.TheVariants.{At}
 use Rattle.sync_terms.specs.Stored.{Stored, tree, formula, IsTerm, IsForm}
 use Rattle.sync_kernel.specs.declared.sequents.Hyp.{Hyp}
 use Rattle.sync_kernel.specs.Facts.{Fact, fact_of}
 use Rattle.sync_induct.specs.declared.walks.Walk.{Walk}
 use Rattle.sync_induct.specs.Checks.{facts_size, capped}
 use Rattle.sync_induct.specs.Duties.{facts_of, HaveForms}
-use Rattle.sync_induct.specs.Walks.{values_of, known_of, known_at, IsWalk, HasCome}
+use Rattle.sync_induct.specs.Walks.{values_of, known_of, IsWalk, HasCome}
 
 facts_size-append : (xs : List Fact) (f : Fact) → facts_size (xs ++ f ∷ []) ≡ facts_size xs + formula_size f.form
 unfolding facts_size

@@ -1,19 +1,19 @@
 -- The first proof of a title, by its place and by its script; and what a duty's proof is worth.
-use Rattle.std.proofs.Common.{◌≡◌, ℕ, zero, suc, ◌+◌, ◌-◌, ◌^◌, ◌<◌, ◌≤◌, min, Bool, true, false, cond, ltb, ◌||◌, List, [], ◌∷◌, length, map, Option, Some, None, Result, Ok, Err, refl, sym, ap, subst, ◌∙◌, inl, inr, arith, add-zero, zero-add}
-use Rattle.std.specs.Prelude.{slice_get, OnOk, nat_lt}
+use Rattle.std.proofs.Common.{◌≡◌, ℕ, suc, ◌+◌, ◌-◌, ◌^◌, ◌<◌, ◌≤◌, min, Bool, true, false, cond, ltb, ◌||◌, List, [], ◌∷◌, map, Option, Some, None, Result, refl, sym, ap, subst, ◌∙◌, inl, inr, arith, add-zero, zero-add}
+use Rattle.std.specs.Prelude.{slice_get, OnOk}
 use Rattle.std.specs.Option.{is_some}
 use Rattle.std.proofs.lemmas.Bool.{cases_Bool, true≢false, false≢true, lt-ltb, le-ltb}
 use Rattle.sync_base.specs.declared.stops.Refusal.{Refusal}
 use Rattle.sync_base.specs.declared.stops.Rule.TheVariants.{I1, K8}
 use Rattle.sync_base.specs.declared.stops.Stop.{Stop}
 use Rattle.sync_base.specs.Outcome.{Passes}
-use Rattle.sync_terms.specs.Trees.{Formula, formula_size, neg}
+use Rattle.sync_terms.specs.Trees.{Formula, formula_size}
 use Rattle.sync_terms.specs.Values.{Given, IsValid}
 use Rattle.sync_terms.specs.Stored.{Stored}
 use Rattle.sync_rules.specs.declared.claims.Obligation.{Obligation}
 use Rattle.sync_terms.specs.Plans.{Plan, plan_of}
 use Rattle.sync_kernel.specs.declared.sequents.Hyp.{Hyp}
-use Rattle.sync_kernel.specs.Facts.{Fact, fact_of, given}
+use Rattle.sync_kernel.specs.Facts.{fact_of, given}
 use Rattle.sync_kernel.specs.Scripts.{script_fault}
 use Rattle.sync_induct.specs.declared.index.Title.{Title}
 use Rattle.sync_induct.specs.declared.proofs.Proof.{Proof}

@@ -1,10 +1,10 @@
 -- What stays as it is while a store grows: facts, values, statements, walks.
-use Rattle.std.proofs.Common.{◌≡◌, ℕ, List, [], ◌∷◌, ◌++◌, map, Option, Some, None, refl, sym, ap, subst, ◌∙◌}
+use Rattle.std.proofs.Common.{◌≡◌, List, [], ◌∷◌, map, Option, Some, None, refl, sym, ap, subst, ◌∙◌}
 use Rattle.std.specs.List.{AllByRecursion}
 use Rattle.sync_terms.specs.Trees.{Tree}
 use Rattle.sync_terms.specs.Trees as terms
 use Rattle.sync_terms.specs.declared.nodes.TermId.{TermId}
-use Rattle.sync_terms.specs.Stored.{Stored, tree, formula, IsTerm, IsForm, Extends}
+use Rattle.sync_terms.specs.Stored.{Stored, tree, IsTerm, IsForm, Extends}
 use Rattle.sync_machine.specs.declared.fields.Field.{Field}
 use Rattle.sync_machine.specs.declared.machine.Pattern.{Pattern}
 use Rattle.sync_machine.specs.declared.machine.Pattern.TheVariants as patterns

@@ -15,7 +15,7 @@ use Rattle.sync_machine.specs.declared.fields.Field.{Field}
 use Rattle.sync_machine.specs.declared.machine.Step.{Step}
 use Rattle.sync_machine.specs.declared.machine.Invariant.{Invariant}
 use Rattle.sync_machine.specs.declared.machine.Operation.{Operation}
-use Rattle.sync_machine.specs.Machines.{StepTree, InvariantTree, OperationTree}
+use Rattle.sync_machine.specs.Machines.{InvariantTree, OperationTree}
 use Rattle.sync_machine.specs.States.{first_values, last_values}
 use Rattle.sync_machine.specs.Views.{steps_tree, invariant_tree, operation_tree, HasActIds}
 use Rattle.sync_kernel.specs.Facts.{Fact}
@@ -24,7 +24,7 @@ use Rattle.sync_induct.specs.declared.walks.Walk.{Walk}
 use Rattle.sync_induct.specs.Checks.{ProofTree, duties_fault}
 use Rattle.sync_induct.specs.Closing.{IsKeepable, AreWanted}
 use Rattle.sync_induct.specs.Duties.{Duty, step_duties, facts_behind, keeps_duties, base_facts, operation_duties, duties_from, AreProved}
-use Rattle.sync_induct.specs.Walks.{IsWalk, HasCome, IsWalkable, values_of, known_of}
+use Rattle.sync_induct.specs.Walks.{HasCome, IsWalkable, values_of, known_of}
 use Rattle.sync_induct.proofs.Lasting.{steps-stay, walkable-stays, operation-stays, invariants-stay, keepable-stays}
 use Rattle.sync_induct.proofs.Remaining.{Remains, fault-append, proved-append, remains-whole, remains-same, remains-past, remains-refused}
 

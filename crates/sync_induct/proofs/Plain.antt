@@ -1,8 +1,7 @@
 -- Statements on numbers: what they promise, and what is known and left behind them, over a store that grows.
-use Rattle.std.proofs.Common.{◌≡◌, ℕ, suc, ◌+◌, ◌<◌, ◌≤◌, Bool, true, false, List, [], ◌∷◌, ◌++◌, length, map, get_or, set, Option, Some, None, Result, Ok, Err, refl, sym, ap, subst, ◌∙◌, inl, inr, arith}
+use Rattle.std.proofs.Common.{◌≡◌, ℕ, true, List, [], ◌∷◌, Option, Some, None, Result, Ok, Err, refl, sym, ap, subst, ◌∙◌}
 use Rattle.std.specs.Prelude.{OnOk}
 use Rattle.std.specs.Option.{option_map}
-use Rattle.std.specs.List.{AllByRecursion}
 use Rattle.std.proofs.lemmas.Bool.{false≢true}
 use Rattle.sync_base.specs.declared.stops.Refusal.{Refusal}
 use Rattle.sync_base.specs.declared.stops.Stop.{Stop}
@@ -16,7 +15,7 @@ use Rattle.sync_machine.specs.declared.fields.Strategy.TheVariants.{Variable, Co
 use Rattle.sync_machine.specs.declared.machine.Act.{Act}
 use Rattle.sync_machine.specs.declared.machine.Act.TheVariants.{Init, Require, Assert, Update, HaveVariable, Add, Remove, Have, Deposit, Withdraw, Guard}
 use Rattle.sync_machine.specs.declared.machine.Step.{Step}
-use Rattle.sync_machine.specs.Statements.{amount_is_natural, enabling, safety, both, condition, after, field_of}
+use Rattle.sync_machine.specs.Statements.{amount_is_natural, enabling, safety, both, condition}
 use Rattle.sync_machine.specs.States.{strategy_of, current_of}
 use Rattle.sync_machine.specs.Views.{act_tree}
 use Rattle.sync_rules.specs.declared.claims.Claim.TheVariants as claims

@@ -1,5 +1,5 @@
 -- Where an operation begins: the values of its fields one by one, and the invariants as facts.
-use Rattle.std.proofs.Common.{◌≡◌, ◌⊎◌, inl, inr, ℕ, zero, suc, ◌+◌, ◌<◌, ◌≤◌, List, [], ◌∷◌, ◌++◌, length, map, get_or, take, refl, sym, ap, subst, ◌∙◌, arith, add-one, zero-add, add-zero}
+use Rattle.std.proofs.Common.{◌≡◌, ◌⊎◌, inl, inr, ℕ, suc, ◌+◌, ◌<◌, ◌≤◌, List, [], ◌∷◌, ◌++◌, length, map, get_or, take, refl, sym, ap, subst, ◌∙◌, arith, add-one, zero-add, add-zero}
 use Rattle.std.specs.List.{AllByRecursion, range_with_len}
 use Rattle.std.proofs.lemmas.List.{take_more, take_all, map-append, length-take-le}
 use Rattle.sync_terms.specs.Trees.{Tree, Name}
@@ -18,7 +18,7 @@ use Rattle.sync_induct.specs.Checks.{facts_size, capped}
 use Rattle.sync_induct.specs.Duties.{facts_of, HaveForms, invariant_facts, base_facts}
 use Rattle.sync_induct.specs.Starts.{first_value, values_from}
 use Rattle.sync_kernel.specs.declared.sequents.Hyp.{Hyp}
-use Rattle.sync_induct.specs.Walks.{HaveTrees, HasCome, IsWalk, known_of, values_of}
+use Rattle.sync_induct.specs.Walks.{HaveTrees, HasCome, known_of, values_of}
 use Rattle.sync_induct.proofs.Lasting.{trees-stay, terms-stay, invariants-stay}
 
 -- ---- ids with their trees

@@ -1,5 +1,5 @@
 -- The loop over an operation's statements: what is left to show, to know and to leave, from one statement to the next.
-use Rattle.std.proofs.Common.{◌≡◌, ℕ, suc, List, [], ◌∷◌, ◌++◌, Option, None, Err, refl, sym, ap, subst, ◌∙◌}
+use Rattle.std.proofs.Common.{◌≡◌, ℕ, suc, List, [], ◌∷◌, ◌++◌, None, Err, sym, ap, ◌∙◌}
 use Rattle.sync_base.specs.declared.stops.Stop.{Stop}
 use Rattle.sync_base.specs.Outcome.{Passes}
 use Rattle.sync_terms.specs.Trees.{Tree}
@@ -10,7 +10,7 @@ use Rattle.sync_machine.specs.States.{strategy_of, current_of, advanced, last_va
 use Rattle.sync_kernel.specs.Facts.{Fact}
 use Rattle.sync_induct.specs.Checks.{ProofTree, duties_fault}
 use Rattle.sync_induct.specs.Duties.{Duty, safety_duties, step_facts, step_duties, facts_behind, AreProved}
-use Rattle.sync_induct.proofs.Remaining.{Remains, remains-whole, remains-same, remains-past, remains-refused, remains-none, remains-proved}
+use Rattle.sync_induct.proofs.Remaining.{Remains, remains-same, remains-past, remains-refused}
 
 -- where the walk stands: values, facts, number and the statements that are left
 pub record Place : Type 0 where
@@ -33,9 +33,6 @@ pub record Continues (fs : List Field) (op : ℕ) (ps : List ProofTree) (from to
   pub duties : Remains ps (duties_at fs op from) (duties_at fs op to)
   pub facts : facts_from fs to ≡ facts_from fs from
   pub values : values_from fs to ≡ values_from fs from
-
-pub starts : (fs : List Field) (op : ℕ) (ps : List ProofTree) (p : Place) → Continues fs op ps p p
-starts fs op ps p = record { duties = remains-whole ps (duties_at fs op p); facts = refl; values = refl }
 
 abbrev pub own_duties : List Field → ℕ → Place → StepTree → List Duty
 own_duties fs op p x = safety_duties op p.number x.line p.facts (safety (strategy_of fs x.act) (current_of p.cur x.act) x.act)

@@ -1,15 +1,15 @@
 -- The pairs of a closing claim, and that they substitute as it says.
-use Rattle.std.proofs.Common.{◌≡◌, ℕ, zero, suc, ◌+◌, ◌-◌, ◌<◌, ◌≤◌, Bool, true, false, List, [], ◌∷◌, ◌++◌, length, map, get_or, take, Option, Some, None, Result, Ok, Err, refl, sym, ap, subst, ◌∙◌, inl, inr, arith, cond, ltb, add-zero, zero-add}
+use Rattle.std.proofs.Common.{◌≡◌, ℕ, zero, suc, ◌+◌, ◌<◌, ◌≤◌, Bool, true, false, List, [], ◌∷◌, ◌++◌, length, map, get_or, take, Option, Some, Result, Ok, Err, refl, sym, ap, subst, ◌∙◌, inl, inr, arith, cond, ltb, add-zero, zero-add}
 use Rattle.std.specs.Prelude.{nat_eq, IfOk}
 use Rattle.std.specs.Option.{option_map_or}
 use Rattle.std.specs.List.{AllByRecursion, list_any}
-use Rattle.std.proofs.lemmas.Bool.{cases_Bool, eqb-true, eq-eqb, ne_eqb, lt-ltb, le-ltb, ltb-true, ltb-false}
-use Rattle.std.proofs.lemmas.List.{take_more, take_all, map-append, length-take-le, length-map}
+use Rattle.std.proofs.lemmas.Bool.{cases_Bool, eqb-true, eq-eqb, ne_eqb, ltb-true, ltb-false}
+use Rattle.std.proofs.lemmas.List.{take_more, take_all, map-append, length-take-le}
 use Rattle.sync_terms.specs.declared.nodes.Sym.{Sym}
 use Rattle.sync_terms.specs.declared.nodes.TermId.{TermId}
 use Rattle.sync_terms.specs.declared.nodes.FormId.{FormId}
 use Rattle.sync_terms.specs.declared.store.TermStop.{TermStop}
-use Rattle.sync_terms.specs.Trees.{Tree, Name, Nil, Formula, replaced_in}
+use Rattle.sync_terms.specs.Trees.{Tree, Name, Nil, replaced_in}
 use Rattle.sync_terms.specs.declared.nodes.Node.TheVariants as node
 use Rattle.sync_terms.specs.Stored.{Stored, tree, formula, shape, IsTerm, IsForm, Extends}
 use Rattle.sync_terms.specs.Substitution.{term_of, substitution}
@@ -36,9 +36,6 @@ pub pairs-more : (ts : List TermId) (i : ℕ) (d : TermId) → i < length ts →
 pairs-more ts i d lt =
     let n : 0 + length (take i ts) ≡ i = zero-add (length (take i ts)) ∙ length-take-le i ts (omega arith) in
     sym (ap (field_pairs 0) (take_more ts i d lt) ∙ (field_pairs-push 0 (take i ts) (get_or ts i d) ∙ ap (λ (k : ℕ). field_pairs 0 (take i ts) ++ (record { 0 = k }, get_or ts i d) ∷ []) n))
-
-pub pairs-all : (ts : List TermId) (i : ℕ) → length ts ≤ i → field_pairs 0 (take i ts) ≡ field_pairs 0 ts
-pairs-all ts i le = ap (field_pairs 0) (take_all i ts le)
 
 pub name-at : (xs : List Sym) (i : ℕ) (d : Sym) → i < length xs → AllByRecursion IsNameSymbol (symbols_of xs) → IsNameSymbol (get_or xs i d).0
 name-at [] i d lt h = absurd (omega arith)

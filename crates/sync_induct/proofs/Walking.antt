@@ -1,18 +1,15 @@
 -- The walk over an operation's statements in a store that grows: from the statement with index i to the next.
-use Rattle.std.proofs.Common.{◌≡◌, ℕ, suc, ◌+◌, ◌<◌, List, ◌∷◌, ◌++◌, length, get_or, drop, None, Err, refl, sym, ap, subst, ◌∙◌, add-one}
+use Rattle.std.proofs.Common.{◌≡◌, ℕ, ◌+◌, ◌<◌, List, ◌∷◌, ◌++◌, length, get_or, drop, None, Err, sym, subst, ◌∙◌, add-one}
 use Rattle.std.proofs.lemmas.List.{at_drop_more}
 use Rattle.sync_base.specs.declared.stops.Stop.{Stop}
 use Rattle.sync_base.specs.Outcome.{Passes}
-use Rattle.sync_terms.specs.Trees.{Tree}
 use Rattle.sync_terms.specs.Stored.{Stored, Extends}
 use Rattle.sync_terms.proofs.Extending.{Extends-trans}
 use Rattle.sync_machine.specs.declared.fields.Field.{Field}
 use Rattle.sync_machine.specs.declared.machine.Step.{Step}
-use Rattle.sync_machine.specs.Machines.{StepTree}
 use Rattle.sync_machine.specs.Statements.{safety}
 use Rattle.sync_machine.specs.States.{strategy_of, current_of, advanced}
 use Rattle.sync_machine.specs.Views.{act_tree, step_tree, steps_tree, HasActIds}
-use Rattle.sync_kernel.specs.Facts.{Fact}
 use Rattle.sync_induct.specs.declared.walks.Walk.{Walk}
 use Rattle.sync_induct.specs.Checks.{ProofTree, duties_fault}
 use Rattle.sync_induct.specs.Duties.{Duty, safety_duties, step_facts, AreProved}

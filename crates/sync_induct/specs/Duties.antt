@@ -1,5 +1,5 @@
 -- What has to be proved of each operation, as sequents: the obligations with their hypotheses and claims.
-use Rattle.std.specs.Prelude.{◌≡◌, ℕ, suc, ◌+◌, ◌<◌, List, [], ◌∷◌, ◌++◌, map, length, slice_index_or, nat_eq, nat_lt, Option, Some, None, if◌then◌else◌}
+use Rattle.std.specs.Prelude.{ℕ, suc, List, [], ◌∷◌, ◌++◌, map, length, slice_index_or, nat_eq, nat_lt, Option, Some, None, if◌then◌else◌}
 use Rattle.std.specs.List.{AllByRecursion, list_any}
 use Rattle.sync_terms.specs.declared.scripts.HypName.TheVariants.{Label, At}
 use Rattle.sync_terms.specs.Trees.{Tree, Name, Nil, Formula, replaced_in}

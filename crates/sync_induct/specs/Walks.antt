@@ -1,5 +1,5 @@
 -- What is known at a place of an operation: hypotheses, and each field's value so far, over a store that grows.
-use Rattle.std.specs.Prelude.{◌≡◌, ℕ, ◌++◌, List, [], map, Option, Some, None, true}
+use Rattle.std.specs.Prelude.{◌≡◌, ℕ, ◌++◌, List, [], map, true}
 use Rattle.std.specs.List.{AllByRecursion}
 use Rattle.sync_terms.specs.Trees.{Tree, Formula}
 use Rattle.sync_terms.specs.declared.scripts.HypName.TheVariants.{At}
@@ -7,7 +7,7 @@ use Rattle.sync_terms.specs.declared.nodes.TermId.{TermId}
 use Rattle.sync_terms.specs.Stored.{Stored, tree, IsTerm}
 use Rattle.sync_machine.specs.declared.fields.Field.{Field}
 use Rattle.sync_machine.specs.declared.machine.Step.{Step}
-use Rattle.sync_machine.specs.Machines.{ActTree, Init, Require, Assert, Update, HaveVariable, Add, Remove, Have, Deposit, Withdraw, Guard, StepTree}
+use Rattle.sync_machine.specs.Machines.{ActTree, Init, Require, Assert, Update, HaveVariable, Add, Remove, Have, Deposit, Withdraw, Guard}
 use Rattle.sync_machine.specs.Statements.{safety}
 use Rattle.sync_machine.specs.States.{strategy_of, current_of, advanced}
 use Rattle.sync_machine.specs.Views.{act_tree, step_tree, HasActIds}

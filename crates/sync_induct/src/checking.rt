@@ -56,7 +56,7 @@ fn unbuilt(fields: &[Field]) -> Option<Refusal>
 /// - I1: an obligation has no proof; K8: its sequent has more than 1,000,000 nodes; the obligation's line. Else the first
 ///   rule K that its script breaks. In the order of the obligations.
 ///
-/// The machine is dropped on a refusal. Its store may have grown; all else in it is as it was.
+/// The machine is dropped on a refusal. Where it is handed on, its store may have grown; all else is as it was.
 pub fn inductive(alloc: Global, m: Machine, p: Proofs) -> Result<Inductive, Stop>
     requires ids { HasOwnIds m }
     requires named { IsNamed (machine_tree m) }

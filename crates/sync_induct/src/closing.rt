@@ -19,6 +19,7 @@ ghost use Rattle.sync_induct.specs.Walks.{IsWalk, known_of, values_of};
 
 use crate::index::Title;
 use crate::judges::{judge, refused};
+use crate::numbers::number;
 use crate::walks::{Book, Walk};
 use std::alloc::Global;
 use sync_base::{NoMemory, Rule, Stop};
@@ -35,10 +36,7 @@ fn field_pairs(alloc: Global, values: &[TermId]) -> Result<Vec<Pair>, NoMemory>
 {
     let mut pairs = Vec::new(alloc);
     for (i, value) in values.iter().enumerate() {
-        let Ok(number) = u32::try_from(i) else {
-            return Err(NoMemory);
-        };
-        pairs.push((Sym(number), *value))?;
+        pairs.push((Sym(number(i)?), *value))?;
     }
     Ok(pairs)
 }
@@ -66,7 +64,7 @@ fn add_dollars(terms: &mut Terms, pairs: &mut Vec<Pair>, params: &[Sym]) -> Resu
     Ok(())
 }
 
-/// Why there is no claim that is too large: its obligation has no proof, or the claim is refused.
+/// Why an obligation is refused whose claim would be too large: it has no proof, or its sequent is too large.
 fn too_large(book: Book<'_>, obligation: Obligation) -> Stop
     requires { (t : Named) → get same_title book.places.now t ≡ first_at t 0 (titles_of book.proofs.now) }
     ensures { (d : Duty) → d.obligation ≡ obligation → is_large d ≡ true → Passes {A = Unit {0}} (Err result) (duty_fault (proof_trees book.entry.proofs.now) d) }
@@ -98,7 +96,7 @@ impl Walk {
         terms.subst(invariant.form, pairs.as_slice())
     }
 
-    /// Checks that an operation at a line keeps the invariant with a number.
+    /// Checks the obligation to keep an invariant, from what is known behind the statements.
     fn keep_one(
         &mut self,
         alloc: Global,
@@ -156,10 +154,7 @@ impl Walk {
         ensures keeps { Extends terms.old terms.new }
     {
         for (j, invariant) in invariants.iter().enumerate() {
-            let Ok(number) = u32::try_from(j) else {
-                return Err(Stop::Memory);
-            };
-            let claim = Claim::Keeps(number);
+            let claim = Claim::Keeps(number(j)?);
             if book.wanted.contains(&Title::new(op, claim)) {
                 let obligation = Obligation {
                     op,

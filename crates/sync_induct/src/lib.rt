@@ -6,6 +6,7 @@ mod closing;
 mod holding;
 mod index;
 mod judges;
+mod numbers;
 mod operations;
 mod proofs;
 mod sizes;
@@ -15,3 +16,6 @@ mod walks;
 pub use checking::inductive;
 pub use holding::Inductive;
 pub use proofs::{Proof, Proofs};
+
+#[cfg(test)]
+mod tests;

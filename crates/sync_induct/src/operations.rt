@@ -14,6 +14,7 @@ ghost use Rattle.sync_induct.specs.Duties.{AreProved, operation_duties, duties_f
 ghost use Rattle.sync_induct.specs.Titles.{same_title, first_at};
 ghost use Rattle.sync_induct.specs.Walks.{IsWalkable};
 
+use crate::numbers::number;
 use crate::walks::{Book, Walk};
 use std::alloc::Global;
 use sync_base::Stop;
@@ -71,9 +72,7 @@ pub fn check_operations(
     ensures keeps { Extends terms.old terms.new }
 {
     for (i, operation) in operations.iter().enumerate() {
-        let Ok(number) = u32::try_from(i) else {
-            return Err(Stop::Memory);
-        };
+        let number = number(i)?;
         check_operation(alloc, terms, fields, invariants, number, operation, book)?;
     }
     Ok(())

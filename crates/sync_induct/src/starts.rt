@@ -9,6 +9,7 @@ ghost use Rattle.sync_induct.specs.Duties.{base_facts, invariant_facts};
 ghost use Rattle.sync_induct.specs.Starts as starts;
 ghost use Rattle.sync_induct.specs.Walks.{HaveTrees, HasCome, IsWalk, known_of, values_of};
 
+use crate::numbers::number;
 use crate::walks::Walk;
 use sqlite_items::Items;
 use std::alloc::Global;
@@ -64,10 +65,8 @@ fn first_values(
 {
     let mut values = Vec::new(alloc);
     for (i, field) in fields.iter().enumerate() {
-        let Ok(number) = u32::try_from(i) else {
-            return Err(NoMemory);
-        };
-        let Ok(value) = terms.add_term(first_node(mode, number, field.strategy)) else {
+        let node = first_node(mode, number(i)?, field.strategy);
+        let Ok(value) = terms.add_term(node) else {
             return Err(NoMemory);
         };
         values.push(value)?;

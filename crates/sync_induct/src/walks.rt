@@ -14,6 +14,7 @@ ghost use Rattle.sync_induct.specs.Titles.{same_title, first_at};
 
 use crate::index::{Places, Title};
 use crate::judges::judge;
+use crate::numbers::number;
 use crate::proofs::Proof;
 use sqlite_items::Items;
 use std::alloc::Global;
@@ -184,9 +185,7 @@ impl Walk {
         ensures keeps { Extends terms.old terms.new }
     {
         for (i, step) in steps.iter().enumerate() {
-            let Ok(number) = u32::try_from(i + 1) else {
-                return Err(Stop::Memory);
-            };
+            let number = number(i + 1)?;
             self.check(alloc, terms, fields, op, number, *step, book)?;
             self.pass(alloc, terms, fields, number, *step)?;
         }

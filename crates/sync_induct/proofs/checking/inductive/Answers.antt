@@ -2,7 +2,6 @@ use Rattle.std.proofs.Common.{◌≡◌, ◌∙◌, [], List, None, Err, rules, 
 use Rattle.std.specs.HashSet.{contains}
 use Rattle.sync_base.specs.Outcome.{Passes}
 use Rattle.sync_machine.specs.Views.{machine_tree}
-use Rattle.sync_machine.specs.Machines.{MachineTree}
 use Rattle.sync_machine.specs.States.{HoldsAlways}
 use Rattle.sync_rules.specs.declared.claims.Obligation.{Obligation}
 use Rattle.sync_rules.specs.Obligations.{obligations_of}

@@ -2,7 +2,7 @@ use Rattle.std.proofs.Common.{◌∙◌, ◌+◌, ◌++◌, ◌∷◌, [], List,
 use Rattle.sync_terms.specs.Trees.{Tree, Name}
 use Rattle.sync_terms.specs.declared.nodes.Sym.{Sym}
 use Rattle.sync_terms.specs.declared.nodes.TermId.{TermId}
-use Rattle.sync_terms.proofs.Extending.{Extends-refl, Extends-trans}
+use Rattle.sync_terms.proofs.Extending.{Extends-trans}
 use Rattle.sync_machine.specs.Views.{symbols_of}
 use Rattle.sync_induct.specs.Closing.{HavePairs, dollar_pair}
 use Rattle.sync_induct.proofs.Substituting.{name-at, dollars-more, dollars-all, pairs-push, named}

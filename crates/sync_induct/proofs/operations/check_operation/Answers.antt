@@ -9,7 +9,7 @@ use Rattle.sync_induct.proofs.operations.check_operation.Goals as goal
 pub returns-in_err-walk-2-clause-exact : goal.returns-in_err-walk-2-clause-exact
 returns-in_err-walk-2-clause-exact c =
     let h = operation-steps_refused c.args.terms.now c.begin.new.terms c.walk.new.terms c.args.fields.now c.args.invariants.now c.args.number c.args.operation.now c.in_ok-walk.walk c.as_slice.result.now
-        c.in_ok-walk.ensures.keeps c.requires.walkable c.requires.invariants c.as_slice.ensures c.in_ok-walk.ensures.come (Unit {0}) (Unit {0}) c.in_err-walk-2.field-0.0 (proof_trees c.args.book.proofs.now) c.in_err-walk-2.ensures.exact in
+    c.in_ok-walk.ensures.keeps c.requires.walkable c.requires.invariants c.as_slice.ensures c.in_ok-walk.ensures.come (Unit {0}) (Unit {0}) c.in_err-walk-2.field-0.0 (proof_trees c.args.book.proofs.now) c.in_err-walk-2.ensures.exact in
     search rules
 
 pub keep-requires-clause-invariants : goal.keep-requires-clause-invariants

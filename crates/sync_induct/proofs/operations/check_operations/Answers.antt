@@ -19,18 +19,18 @@ check_operation-requires c =
     let ps = proof_trees c.args.book.proofs.now in
     let x = c.index-operations-i.result in
     record {
-      invariants = keepable-then s t fs c.args.invariants.now c.args.operations.now ps c.loop-i.i c.in-Ok.number x c.loop-i.invariant.keeps c.loop-i-test.true c.index-operations-i.is c.in-Ok.ensures.1 c.requires.invariants c.requires.walkable;
-      walkable = walkable-then s t fs c.args.invariants.now c.args.operations.now ps c.loop-i.i c.in-Ok.number x c.loop-i.invariant.keeps c.loop-i-test.true c.index-operations-i.is c.in-Ok.ensures.1 c.requires.invariants c.requires.walkable;
-      wanted = wanted-then s t fs c.args.invariants.now c.args.operations.now ps c.loop-i.i c.in-Ok.number x c.loop-i.invariant.keeps c.loop-i-test.true c.index-operations-i.is c.in-Ok.ensures.1 c.requires.invariants c.requires.walkable
+      invariants = keepable-then s t fs c.args.invariants.now c.args.operations.now ps c.loop-i.i c.in_ok-number.number x c.loop-i.invariant.keeps c.loop-i-test.true c.index-operations-i.is c.in_ok-number.ensures c.requires.invariants c.requires.walkable;
+      walkable = walkable-then s t fs c.args.invariants.now c.args.operations.now ps c.loop-i.i c.in_ok-number.number x c.loop-i.invariant.keeps c.loop-i-test.true c.index-operations-i.is c.in_ok-number.ensures c.requires.invariants c.requires.walkable;
+      wanted = wanted-then s t fs c.args.invariants.now c.args.operations.now ps c.loop-i.i c.in_ok-number.number x c.loop-i.invariant.keeps c.loop-i-test.true c.index-operations-i.is c.in_ok-number.ensures c.requires.invariants c.requires.walkable
           (contains same_title c.args.book.wanted.now) c.requires.wanted;
       placed = c.requires.placed;
     }
 
 pub returns-in_err-check_operation-clause-exact : goal.returns-in_err-check_operation-clause-exact
 returns-in_err-check_operation-clause-exact c =
-    let h = operations-refused c.args.terms.now c.loop-i.terms c.args.fields.now c.args.invariants.now c.args.operations.now (proof_trees c.args.book.proofs.now) c.loop-i.i c.in-Ok.number c.index-operations-i.result
-        c.loop-i.invariant.keeps c.loop-i-test.true c.index-operations-i.is c.in-Ok.ensures.1 c.requires.invariants c.requires.walkable c.loop-i.invariant.left
-        (Unit {0}) (Unit {0}) c.in_err-check_operation.field-0.0 c.in_err-check_operation.ensures.exact in
+    let h = operations-refused c.args.terms.now c.loop-i.terms c.args.fields.now c.args.invariants.now c.args.operations.now (proof_trees c.args.book.proofs.now) c.loop-i.i c.in_ok-number.number c.index-operations-i.result
+    c.loop-i.invariant.keeps c.loop-i-test.true c.index-operations-i.is c.in_ok-number.ensures c.requires.invariants c.requires.walkable c.loop-i.invariant.left
+    (Unit {0}) (Unit {0}) c.in_err-check_operation.field-0.0 c.in_err-check_operation.ensures.exact in
     search rules
 
 pub returns-in_err-check_operation-clause-keeps : goal.returns-in_err-check_operation-clause-keeps
@@ -41,8 +41,8 @@ loop-i-preserved c =
     let e = c.in_ok-check_operation.ensures in
     record {
       keeps = Extends-trans c.loop-i.invariant.keeps e.keeps;
-      left = operations-past c.args.terms.now c.loop-i.terms c.args.fields.now c.args.invariants.now c.args.operations.now (proof_trees c.args.book.proofs.now) c.loop-i.i c.in-Ok.number c.index-operations-i.result
-          c.loop-i.invariant.keeps c.loop-i-test.true c.index-operations-i.is c.in-Ok.ensures.1 c.requires.invariants c.requires.walkable c.loop-i.invariant.left e.exact e.proved;
+      left = operations-past c.args.terms.now c.loop-i.terms c.args.fields.now c.args.invariants.now c.args.operations.now (proof_trees c.args.book.proofs.now) c.loop-i.i c.in_ok-number.number c.index-operations-i.result
+          c.loop-i.invariant.keeps c.loop-i-test.true c.index-operations-i.is c.in_ok-number.ensures c.requires.invariants c.requires.walkable c.loop-i.invariant.left e.exact e.proved;
     }
 
 pub returns : goal.returns

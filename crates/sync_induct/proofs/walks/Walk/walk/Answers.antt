@@ -28,8 +28,8 @@ loop-i-preserved c =
     record {
       keeps = Extends-trans c.loop-i.invariant.keeps e.keeps;
       stands = c.in_ok-pass.ensures.walk;
-      continues = step-passed s c.loop-i.terms c.loop-i.invariant.keeps c.args.fields.now c.args.op (proof_trees c.args.book.proofs.now) (place_at s s xs 0 c.args.self.now) xs i d c.loop-i.self c.in-Ok.number
-          c.loop-i-test.true c.in-Ok.ensures.1 (All-get_or (IsWalkable s c.args.fields.now) xs i d c.loop-i-test.true c.requires.walkable).ids c.loop-i.invariant.continues
+      continues = step-passed s c.loop-i.terms c.loop-i.invariant.keeps c.args.fields.now c.args.op (proof_trees c.args.book.proofs.now) (place_at s s xs 0 c.args.self.now) xs i d c.loop-i.self c.in_ok-number.number
+          c.loop-i-test.true c.in_ok-number.ensures (All-get_or (IsWalkable s c.args.fields.now) xs i d c.loop-i-test.true c.requires.walkable).ids c.loop-i.invariant.continues
           c.check.new.terms e.keeps c.check.new.self c.pass.new.self c.loop-i.invariant.stands e.hyps e.current c.in_ok-pass.ensures e.exact e.proved;
     }
 
@@ -39,9 +39,9 @@ returns-in_err-check-clause-exact c =
     let xs = c.args.steps.now in
     let i = c.loop-i.i in
     let d : Step = record { act = stored.Init 0 (record { 0 = 0 }); line = 0 } in
-    let h = step-refused s c.loop-i.terms c.loop-i.invariant.keeps c.args.fields.now c.args.op (proof_trees c.args.book.proofs.now) (place_at s s xs 0 c.args.self.now) xs i d c.loop-i.self c.in-Ok.number
-          c.loop-i-test.true c.in-Ok.ensures.1 (All-get_or (IsWalkable s c.args.fields.now) xs i d c.loop-i-test.true c.requires.walkable).ids c.loop-i.invariant.continues
-          (Unit {0}) (Unit {0}) c.in_err-check.field-0.0 c.in_err-check.ensures.exact in
+    let h = step-refused s c.loop-i.terms c.loop-i.invariant.keeps c.args.fields.now c.args.op (proof_trees c.args.book.proofs.now) (place_at s s xs 0 c.args.self.now) xs i d c.loop-i.self c.in_ok-number.number
+    c.loop-i-test.true c.in_ok-number.ensures (All-get_or (IsWalkable s c.args.fields.now) xs i d c.loop-i-test.true c.requires.walkable).ids c.loop-i.invariant.continues
+    (Unit {0}) (Unit {0}) c.in_err-check.field-0.0 c.in_err-check.ensures.exact in
     search rules
 
 pub returns : goal.returns
