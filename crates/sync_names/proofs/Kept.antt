@@ -22,5 +22,5 @@ stays s = record { terms = λ id h. (h, refl); forms = λ id h. (h, refl) }
 pub along : (s t u : Stored) → Extends s t → Extends t u → Extends s u
 along s t u e f = record {
   terms = λ id h. ((f.terms id (e.terms id h).0).0, (f.terms id (e.terms id h).0).1 ∙ (e.terms id h).1);
-  forms = λ id h. ((f.forms id (e.forms id h).0).0, (f.forms id (e.forms id h).0).1 ∙ (e.forms id h).1)
+  forms = λ id h. ((f.forms id (e.forms id h).0).0, (f.forms id (e.forms id h).0).1 ∙ (e.forms id h).1);
 }

@@ -2,14 +2,12 @@
 --
 -- At one place the rule with the smaller number counts. An expression that begins with a lexeme that breaks N1 or N3
 -- is refused for it, before its size (N5) and its sort (N6), which stand at the same lexeme; then come its parts.
-use Rattle.std.specs.Prelude.{ℕ, ◌+◌, ◌==◌, ℤ, pos, Bool, true, false, not, List, length, map, sum, slice_get, nat_lt, Option, Some, None, Result, Ok, Err, if◌then◌else◌}
+use Rattle.std.specs.Prelude.{ℕ, ◌+◌, ◌==◌, pos, Bool, true, false, not, List, [], ◌∷◌, length, slice_get, nat_lt, Option, Some, None, Result, Ok, Err, if◌then◌else◌}
 use Rattle.sync_base.specs.declared.stops.Refusal.{Refusal}
-use Rattle.sync_base.specs.declared.stops.Rule.{Rule}
 use Rattle.sync_base.specs.declared.stops.Rule.TheVariants.{N1, N3, N5, N6}
 use Rattle.sync_base.specs.Outcome.{◌>>=◌, first}
 use Rattle.sync_terms.specs.Trees.{Tree, Formula}
 use Rattle.sync_terms.specs.Trees as trees
-use Rattle.sync_exprs.specs.declared.naming.Named.{Named}
 use Rattle.sync_exprs.specs.declared.expressions.Expr.{Expr, fold-Expr}
 use Rattle.sync_exprs.specs.declared.expressions.ExprKind.TheOpen.{ExprKind-F, Expr-F}
 use Rattle.sync_exprs.specs.declared.expressions.Function.{Function}
@@ -104,34 +102,27 @@ abbrev pub call_fault : Function → ℕ → ℕ → Option Refusal
 call_fault function.Held line count = Some (record { line = line; rule = N1 })
 call_fault f line count = if count == arity f then None else Some (record { line = line; rule = N3 })
 
-abbrev pub or_missing : {A : Type 0} → Option A → ℕ → Result A Refusal
-or_missing (Some a) line = Ok a
-or_missing None line = refuse N3 line
+abbrev pub term_or_missing : Sort → Option Reading → ℕ → Scope → Result Tree Refusal
+term_or_missing wanted (Some r) line s = term_as wanted r s
+term_or_missing wanted None line s = refuse N3 line
 
--- the argument at a place
-abbrev pub argument : {A : Type 0} → List A → ℕ → ℕ → Result A Refusal
-argument args i line = or_missing (slice_get args i) line
-
--- a map
-abbrev pub map_alone : List Reading → ℕ → Scope → Result Tree Refusal
-map_alone args line s = do
-  m ← argument args 0 line
-  term_as sort.Map m s
+-- the argument at a place, as a term of a sort
+abbrev pub argument : Sort → List Reading → ℕ → ℕ → Scope → Result Tree Refusal
+argument wanted args at line s = term_or_missing wanted (slice_get args at) line s
 
 -- a map and a number
 abbrev pub map_and_key : List Reading → ℕ → Scope → Result (Tree × Tree) Refusal
 map_and_key args line s = do
-  m ← argument args 0 line
-  k ← argument args 1 line
-  pair_as sort.Map m sort.Number k s
+  m ← argument sort.Map args 0 line s
+  k ← argument sort.Number args 1 line s
+  Ok (m, k)
 
 -- a map and two numbers
 abbrev pub map_and_two : List Reading → ℕ → Scope → Result (Tree × Tree × Tree) Refusal
 map_and_two args line s = do
   p ← map_and_key args line s
-  v ← argument args 2 line
-  x ← term_as sort.Number v s
-  Ok (p.0, p.1, x)
+  v ← argument sort.Number args 2 line s
+  Ok (p.0, p.1, v)
 
 -- a function of arguments of which there are as many as it takes
 unfoldable pub applied : Function → List Reading → ℕ → Scope → Result Tree Refusal
@@ -142,10 +133,10 @@ applied function.Has args line s = do
   p ← map_and_key args line s
   Ok (trees.Has p.0 p.1)
 applied function.Size args line s = do
-  m ← map_alone args line s
+  m ← argument sort.Map args 0 line s
   Ok (trees.Size m)
 applied function.Sum args line s = do
-  m ← map_alone args line s
+  m ← argument sort.Map args 0 line s
   Ok (trees.Sum m)
 applied function.Put args line s = do
   p ← map_and_two args line s
@@ -206,7 +197,16 @@ abbrev pub Kind : Type 0
 Kind = ℕ → Reading
 
 unfoldable pub all_nodes : List Reading → ℕ
-all_nodes rs = sum (map (λ (r : Reading). r.nodes) rs)
+all_nodes [] = 0
+all_nodes (r ∷ rs) = r.nodes + all_nodes rs
+
+abbrev pub or_none : Option Reading → ℕ
+or_none (Some r) = r.nodes
+or_none None = 0
+
+-- the nodes of the argument at a place
+abbrev pub nodes_at : List Reading → ℕ → ℕ
+nodes_at rs at = or_none (slice_get rs at)
 
 -- the nodes of a kind as a tree; `-t` is `0 - t`
 abbrev pub nodes_in : ExprKind-F Kind Reading → ℕ

@@ -1,12 +1,12 @@
 -- What the names of a text stand for at a place.
-use Rattle.std.specs.Prelude.{ℕ, ◌+◌, ◌*◌, ◌^◌, ◌==◌, min, bit_or, Bool, true, false, List, slice_get, slice_set, length, nat_lt, ◌||◌, Option, Some, None, Result, Ok, Err, if◌then◌else◌}
+use Rattle.std.specs.Prelude.{ℕ, ◌+◌, ◌*◌, ◌^◌, ◌==◌, min, bit_or, Bool, true, false, slice_get, slice_set, length, nat_lt, ◌||◌, Option, Some, None, Result, Ok, Err, if◌then◌else◌}
 use Rattle.std.specs.Int.{bit_at}
 use Rattle.sync_base.specs.declared.stops.Refusal.{Refusal}
 use Rattle.sync_base.specs.declared.stops.Rule.{Rule}
 use Rattle.sync_base.specs.declared.stops.Rule.TheVariants.{N1, N2}
 use Rattle.sync_exprs.specs.declared.naming.Named.{Named}
 use Rattle.sync_names.specs.declared.scopes.Sort.{Sort}
-use Rattle.sync_names.specs.declared.scopes.Sort.TheVariants.{Number, Map, Formula}
+use Rattle.sync_names.specs.declared.scopes.Sort.TheVariants.{Number}
 use Rattle.sync_names.specs.declared.scopes.Meaning.{Meaning}
 use Rattle.sync_names.specs.declared.scopes.Meaning.TheVariants.{Nothing, Field, Operation, Invariant}
 use Rattle.sync_names.specs.declared.scopes.Owners.{Owners}

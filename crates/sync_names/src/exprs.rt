@@ -1,9 +1,9 @@
 //! Expressions, made into terms and formulas of a store.
-ghost use Rattle.std.specs.Prelude.{◌≡◌, ◌+◌, min, map, length, IfOk, Ok, pos};
+ghost use Rattle.std.specs.Prelude.{◌≡◌, ◌+◌, ◌≤◌, ◌<◌, min, map, length, get_or, MatchOption, IfSome, IfOk, Ok, pos};
 ghost use Rattle.sync_base.specs.Outcome.{Gives};
 ghost use Rattle.sync_terms.specs.Stored.{tree, formula, shape, form_shape, IsTerm, IsForm, HasChildren, HasParts, Extends};
-ghost use Rattle.sync_terms.specs.Trees.{Sub, Lit};
-ghost use Rattle.sync_names.specs.Exprs.{Reading, reading, clashes, misfit, call_fault, function_sort, operator_sort, operator_nodes, term_as, form_as, map_alone, map_and_key, map_and_two, call_term, applied, two_terms, two_forms, compared, joins_forms, all_nodes, start_fault, term_of, form_of};
+ghost use Rattle.sync_terms.specs.Trees.{Sub, Lit, tree_size, formula_size};
+ghost use Rattle.sync_names.specs.Exprs.{Reading, reading, clashes, misfit, call_fault, function_sort, operator_sort, operator_nodes, term_as, form_as, argument, map_and_key, map_and_two, call_term, applied, two_terms, two_forms, compared, joins_forms, all_nodes, nodes_at, start_fault, term_of, form_of};
 
 use crate::scopes::{Scope, Sort, broken, refused};
 use sync_base::{Refusal, Rule, Stop};
@@ -15,27 +15,31 @@ const MOST_NODES: u64 = 1_000_000;
 
 /// Adds a term, which is small enough.
 fn added(terms: &mut Terms, node: Node) -> Result<TermId, Stop>
-    requires { HasChildren terms.old node }
+    requires children { HasChildren terms.old node }
+    requires small { tree_size (shape terms.old node) ≤ 1000000 }
     ensures exact { Gives (tree terms.new) result (Ok (shape terms.old node)) }
     ensures id { IfOk result (IsTerm terms.new) }
     ensures keeps { Extends terms.old terms.new }
 {
     match terms.add_term(node) {
         Ok(id) => Ok(id),
-        Err(TermStop::TooLarge | TermStop::Memory) => Err(Stop::Memory),
+        Err(TermStop::Memory) => Err(Stop::Memory),
+        Err(TermStop::TooLarge) => unreachable!(),
     }
 }
 
 /// Adds a formula, which is small enough.
 fn added_form(terms: &mut Terms, node: FormNode) -> Result<FormId, Stop>
-    requires { HasParts terms.old node }
+    requires parts { HasParts terms.old node }
+    requires small { formula_size (form_shape terms.old node) ≤ 1000000 }
     ensures exact { Gives (formula terms.new) result (Ok (form_shape terms.old node)) }
     ensures id { IfOk result (IsForm terms.new) }
     ensures keeps { Extends terms.old terms.new }
 {
     match terms.add_form(node) {
         Ok(id) => Ok(id),
-        Err(TermStop::TooLarge | TermStop::Memory) => Err(Stop::Memory),
+        Err(TermStop::Memory) => Err(Stop::Memory),
+        Err(TermStop::TooLarge) => unreachable!(),
     }
 }
 
@@ -216,9 +220,10 @@ fn start_fault(scope: &Scope, e: &Expr) -> Option<Refusal>
 }
 
 /// The term `0 - x`.
-#[tactic(auto, using(crate::proofs::Kept::kept_tree, crate::proofs::Kept::kept_term, crate::proofs::Kept::along, crate::proofs::Kept::stays), unfolding(sync_terms::specs::Stored::shape, sync_terms::specs::Stored::tree))]
+#[tactic(auto, using(crate::proofs::Kept::kept_tree, crate::proofs::Kept::kept_term, crate::proofs::Kept::along, crate::proofs::Kept::stays), unfolding(sync_terms::specs::Stored::shape, sync_terms::specs::Stored::tree, sync_terms::specs::Trees::tree_size))]
 fn negated(terms: &mut Terms, x: TermId) -> Result<TermId, Stop>
-    requires { IsTerm terms.old x }
+    requires id { IsTerm terms.old x }
+    requires small { 2 + tree_size (tree terms.old x) ≤ 1000000 }
     ensures exact { Gives (tree terms.new) result (Ok (Sub (Lit (pos 0)) (tree terms.old x))) }
     ensures id { IfOk result (IsTerm terms.new) }
     ensures keeps { Extends terms.old terms.new }
@@ -228,10 +233,11 @@ fn negated(terms: &mut Terms, x: TermId) -> Result<TermId, Stop>
 }
 
 /// A sum or a difference.
-#[tactic(auto, unfolding(sync_terms::specs::Stored::shape, sync_terms::specs::Stored::tree))]
+#[tactic(auto, unfolding(sync_terms::specs::Stored::shape, sync_terms::specs::Stored::tree, sync_terms::specs::Trees::tree_size))]
 fn counted(terms: &mut Terms, operator: Operator, x: TermId, y: TermId) -> Result<TermId, Stop>
     requires x { IsTerm terms.old x }
     requires y { IsTerm terms.old y }
+    requires small { 1 + tree_size (tree terms.old x) + tree_size (tree terms.old y) ≤ 1000000 }
     ensures exact { Gives (tree terms.new) result (Ok (two_terms operator (tree terms.old x) (tree terms.old y))) }
     ensures id { IfOk result (IsTerm terms.new) }
     ensures keeps { Extends terms.old terms.new }
@@ -249,18 +255,38 @@ fn counted(terms: &mut Terms, operator: Operator, x: TermId, y: TermId) -> Resul
     }
 }
 
-/// A map, as the argument.
+/// The argument at a place.
+#[tactic(auto, using(crate::proofs::Nodes::one_small, crate::proofs::Nodes::one_at))]
+fn place(args: &[Expr], at: usize) -> Option<&Expr>
+    requires small { all_nodes (map reading args.now) ≤ 1000000 }
+    ensures item { MatchOption result (length args.now ≤ at) (λ e. (at < length args.now) × (e.now ≡ get_or args.now at e.now)) }
+    ensures nodes { IfSome result (λ e. (reading e.now).nodes ≡ nodes_at (map reading args.now) at) }
+    ensures small { IfSome result (λ e. (reading e.now).nodes ≤ 1000000) }
+{
+    args.get(at)
+}
+
+/// The argument at a place, as a term of a sort.
 #[cycle(terms)]
 #[tactic(auto, using(crate::proofs::Kept::along, crate::proofs::Kept::stays))]
-fn map_alone(terms: &mut Terms, scope: &Scope, args: &[Expr], line: u32) -> Result<TermId, Stop>
-    ensures exact { Gives (tree terms.new) result (map_alone (map reading args.now) line scope.now) }
+fn argument(
+    terms: &mut Terms,
+    scope: &Scope,
+    args: &[Expr],
+    at: usize,
+    line: u32,
+    wanted: Sort,
+) -> Result<TermId, Stop>
+    requires small { all_nodes (map reading args.now) ≤ 1000000 }
+    ensures exact { Gives (tree terms.new) result (argument wanted (map reading args.now) at line scope.now) }
     ensures id { IfOk result (IsTerm terms.new) }
+    ensures size { IfOk result (λ t. tree_size (tree terms.new t) ≤ nodes_at (map reading args.now) at) }
     ensures keeps { Extends terms.old terms.new }
 {
-    let Some(m) = args.get(0) else {
+    let Some(e) = place(args, at) else {
         return Err(refused(Rule::N3, line));
     };
-    term(terms, scope, m, Sort::Map)
+    term(terms, scope, e, wanted)
 }
 
 /// A map and a number, as arguments.
@@ -272,45 +298,40 @@ fn map_and_key(
     args: &[Expr],
     line: u32,
 ) -> Result<(TermId, TermId), Stop>
+    requires small { all_nodes (map reading args.now) ≤ 1000000 }
     ensures exact { Gives (λ p. (tree terms.new p.0, tree terms.new p.1)) result (map_and_key (map reading args.now) line scope.now) }
     ensures ids { IfOk result (λ p. IsTerm terms.new p.0 × IsTerm terms.new p.1) }
+    ensures size { IfOk result (λ p. tree_size (tree terms.new p.0) + tree_size (tree terms.new p.1) ≤ nodes_at (map reading args.now) 0 + nodes_at (map reading args.now) 1) }
     ensures keeps { Extends terms.old terms.new }
 {
-    let Some(m) = args.get(0) else {
-        return Err(refused(Rule::N3, line));
-    };
-    let Some(k) = args.get(1) else {
-        return Err(refused(Rule::N3, line));
-    };
-    let m = term(terms, scope, m, Sort::Map)?;
-    let k = term(terms, scope, k, Sort::Number)?;
+    let m = argument(terms, scope, args, 0, line, Sort::Map)?;
+    let k = argument(terms, scope, args, 1, line, Sort::Number)?;
     Ok((m, k))
 }
 
 /// A map and two numbers, as arguments.
 #[cycle(terms)]
-#[tactic(auto, using(crate::proofs::Kept::kept_tree, crate::proofs::Kept::kept_term, crate::proofs::Kept::along, crate::proofs::Kept::stays))]
+#[tactic(auto, using(crate::proofs::Nodes::three_small, crate::proofs::Kept::kept_tree, crate::proofs::Kept::kept_term, crate::proofs::Kept::along, crate::proofs::Kept::stays))]
 fn map_and_two(
     terms: &mut Terms,
     scope: &Scope,
     args: &[Expr],
     line: u32,
 ) -> Result<(TermId, TermId, TermId), Stop>
+    requires small { all_nodes (map reading args.now) ≤ 1000000 }
     ensures exact { Gives (λ p. (tree terms.new p.0, tree terms.new p.1, tree terms.new p.2)) result (map_and_two (map reading args.now) line scope.now) }
     ensures ids { IfOk result (λ p. IsTerm terms.new p.0 × IsTerm terms.new p.1 × IsTerm terms.new p.2) }
+    ensures size { IfOk result (λ p. tree_size (tree terms.new p.0) + tree_size (tree terms.new p.1) + tree_size (tree terms.new p.2) ≤ all_nodes (map reading args.now)) }
     ensures keeps { Extends terms.old terms.new }
 {
     let (m, k) = map_and_key(terms, scope, args, line)?;
-    let Some(v) = args.get(2) else {
-        return Err(refused(Rule::N3, line));
-    };
-    let x = term(terms, scope, v, Sort::Number)?;
-    Ok((m, k, x))
+    let v = argument(terms, scope, args, 2, line, Sort::Number)?;
+    Ok((m, k, v))
 }
 
 /// A function of arguments of which there are as many as it takes.
 #[cycle(terms)]
-#[tactic(auto, using(crate::proofs::Kept::along, crate::proofs::Kept::stays), unfolding(crate::specs::Exprs::applied, sync_terms::specs::Stored::shape, sync_terms::specs::Stored::tree))]
+#[tactic(auto, using(crate::proofs::Nodes::three_small, crate::proofs::Kept::along, crate::proofs::Kept::stays), unfolding(crate::specs::Exprs::applied, sync_terms::specs::Stored::shape, sync_terms::specs::Stored::tree, sync_terms::specs::Trees::tree_size))]
 fn applied(
     terms: &mut Terms,
     scope: &Scope,
@@ -318,8 +339,10 @@ fn applied(
     args: &[Expr],
     line: u32,
 ) -> Result<TermId, Stop>
+    requires small { 1 + all_nodes (map reading args.now) ≤ 1000000 }
     ensures exact { Gives (tree terms.new) result (applied function (map reading args.now) line scope.now) }
     ensures id { IfOk result (IsTerm terms.new) }
+    ensures size { IfOk result (λ t. tree_size (tree terms.new t) ≤ 1 + all_nodes (map reading args.now)) }
     ensures keeps { Extends terms.old terms.new }
 {
     match function {
@@ -336,11 +359,11 @@ fn applied(
             added(terms, Node::Del(m, k))
         }
         Function::Size => {
-            let m = map_alone(terms, scope, args, line)?;
+            let m = argument(terms, scope, args, 0, line, Sort::Map)?;
             added(terms, Node::Size(m))
         }
         Function::Sum => {
-            let m = map_alone(terms, scope, args, line)?;
+            let m = argument(terms, scope, args, 0, line, Sort::Map)?;
             added(terms, Node::Sum(m))
         }
         Function::Put => {
@@ -365,8 +388,10 @@ fn call(
     args: &[Expr],
     line: u32,
 ) -> Result<TermId, Stop>
+    requires small { 1 + all_nodes (map reading args.now) ≤ 1000000 }
     ensures exact { Gives (tree terms.new) result (call_term function (map reading args.now) line scope.now) }
     ensures id { IfOk result (IsTerm terms.new) }
+    ensures size { IfOk result (λ t. tree_size (tree terms.new t) ≤ 1 + all_nodes (map reading args.now)) }
     ensures keeps { Extends terms.old terms.new }
 {
     if let Some(refusal) = call_fault(function, line, args.len()) {
@@ -377,10 +402,12 @@ fn call(
 
 /// An expression as a term of a sort.
 #[cycle(terms)]
-#[tactic(auto, using(crate::proofs::Kept::kept_tree, crate::proofs::Kept::kept_term, crate::proofs::Kept::along, crate::proofs::Kept::stays), unfolding(sync_terms::specs::Stored::shape, sync_terms::specs::Stored::tree))]
+#[tactic(auto, using(crate::proofs::Kept::kept_tree, crate::proofs::Kept::kept_term, crate::proofs::Kept::along, crate::proofs::Kept::stays), unfolding(sync_terms::specs::Stored::shape, sync_terms::specs::Stored::tree, sync_terms::specs::Trees::tree_size))]
 fn term(terms: &mut Terms, scope: &Scope, e: &Expr, wanted: Sort) -> Result<TermId, Stop>
+    requires small { (reading e.now).nodes ≤ 1000000 }
     ensures exact { Gives (tree terms.new) result (term_as wanted (reading e.now) scope.now) }
     ensures id { IfOk result (IsTerm terms.new) }
+    ensures size { IfOk result (λ t. tree_size (tree terms.new t) ≤ (reading e.now).nodes) }
     ensures keeps { Extends terms.old terms.new }
 {
     if clashes(wanted, sort_of(scope, e)) {
@@ -419,10 +446,11 @@ fn term(terms: &mut Terms, scope: &Scope, e: &Expr, wanted: Sort) -> Result<Term
 }
 
 /// Two terms, compared.
-#[tactic(auto, using(crate::proofs::Kept::along, crate::proofs::Kept::stays), unfolding(sync_terms::specs::Stored::form_shape, sync_terms::specs::Stored::tree, sync_terms::specs::Stored::formula))]
+#[tactic(auto, using(crate::proofs::Kept::along, crate::proofs::Kept::stays), unfolding(sync_terms::specs::Stored::form_shape, sync_terms::specs::Stored::tree, sync_terms::specs::Stored::formula, sync_terms::specs::Trees::tree_size, sync_terms::specs::Trees::formula_size))]
 fn compared(terms: &mut Terms, operator: Operator, x: TermId, y: TermId) -> Result<FormId, Stop>
     requires x { IsTerm terms.old x }
     requires y { IsTerm terms.old y }
+    requires small { operator_nodes operator + tree_size (tree terms.old x) + tree_size (tree terms.old y) ≤ 1000000 }
     ensures exact { Gives (formula terms.new) result (Ok (compared operator (tree terms.old x) (tree terms.old y))) }
     ensures id { IfOk result (IsForm terms.new) }
     ensures keeps { Extends terms.old terms.new }
@@ -444,10 +472,11 @@ fn compared(terms: &mut Terms, operator: Operator, x: TermId, y: TermId) -> Resu
 }
 
 /// Two formulas, joined.
-#[tactic(auto, unfolding(sync_terms::specs::Stored::form_shape, sync_terms::specs::Stored::tree, sync_terms::specs::Stored::formula))]
+#[tactic(auto, unfolding(sync_terms::specs::Stored::form_shape, sync_terms::specs::Stored::tree, sync_terms::specs::Stored::formula, sync_terms::specs::Trees::tree_size, sync_terms::specs::Trees::formula_size))]
 fn combined(terms: &mut Terms, operator: Operator, f: FormId, g: FormId) -> Result<FormId, Stop>
     requires f { IsForm terms.old f }
     requires g { IsForm terms.old g }
+    requires small { 1 + formula_size (formula terms.old f) + formula_size (formula terms.old g) ≤ 1000000 }
     ensures exact { Gives (formula terms.new) result (Ok (two_forms operator (formula terms.old f) (formula terms.old g))) }
     ensures id { IfOk result (IsForm terms.new) }
     ensures keeps { Extends terms.old terms.new }
@@ -480,10 +509,12 @@ fn joins_forms(operator: Operator) -> bool
 }
 
 /// An expression as a formula.
-#[tactic(auto, using(crate::proofs::Kept::kept_tree, crate::proofs::Kept::kept_term, crate::proofs::Kept::kept_formula, crate::proofs::Kept::kept_form, crate::proofs::Kept::along, crate::proofs::Kept::stays), unfolding(sync_terms::specs::Stored::form_shape, sync_terms::specs::Stored::tree, sync_terms::specs::Stored::formula))]
+#[tactic(auto, using(crate::proofs::Kept::kept_tree, crate::proofs::Kept::kept_term, crate::proofs::Kept::kept_formula, crate::proofs::Kept::kept_form, crate::proofs::Kept::along, crate::proofs::Kept::stays), unfolding(sync_terms::specs::Stored::form_shape, sync_terms::specs::Stored::tree, sync_terms::specs::Stored::formula, sync_terms::specs::Trees::tree_size, sync_terms::specs::Trees::formula_size))]
 fn form(terms: &mut Terms, scope: &Scope, e: &Expr) -> Result<FormId, Stop>
+    requires small { (reading e.now).nodes ≤ 1000000 }
     ensures exact { Gives (formula terms.new) result (form_as (reading e.now) scope.now) }
     ensures id { IfOk result (IsForm terms.new) }
+    ensures size { IfOk result (λ f. formula_size (formula terms.new f) ≤ (reading e.now).nodes) }
     ensures keeps { Extends terms.old terms.new }
 {
     if clashes(Sort::Formula, sort_of(scope, e)) {
@@ -517,12 +548,7 @@ fn form(terms: &mut Terms, scope: &Scope, e: &Expr) -> Result<FormId, Stop>
 
 /// An expression that stands by itself, as a term of a sort.
 #[tactic(auto, using(crate::proofs::Kept::stays))]
-pub fn term_of(
-    terms: &mut Terms,
-    scope: &Scope,
-    e: &Expr,
-    wanted: Sort,
-) -> Result<TermId, Stop>
+pub fn term_of(terms: &mut Terms, scope: &Scope, e: &Expr, wanted: Sort) -> Result<TermId, Stop>
     ensures exact { Gives (tree terms.new) result (term_of wanted e.now scope.now) }
     ensures id { IfOk result (IsTerm terms.new) }
     ensures keeps { Extends terms.old terms.new }

@@ -7,3 +7,6 @@ mod scripts;
 mod texts;
 
 pub use texts::{Text, resolve};
+
+#[cfg(test)]
+mod tests;
