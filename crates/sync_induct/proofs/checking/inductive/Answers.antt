@@ -38,7 +38,7 @@ returns-in_err-placed-clause-exact c =
     let built : unbuilt_fault c.args.m.fields ≡ None = ap unbuilt_fault (sym c.as_slice.ensures) ∙ (sym c.unbuilt.ensures ∙ c.in_default.is) in
     let knows : (t : Title) → contains same_title c.in_ok-titles.titles t ≡ has_title (obligations_of m) t = λ t. c.in_ok-titles.ensures t ∙ ap (λ (os : List Obligation). has_title os t) (c.as_slice-2.ensures.value ∙ c.in_ok-listed.ensures) in
     let h = stray-answer (unbuilt_fault c.args.m.fields) c.args.m.terms m c.args.p.list built (Unit {0}) (Unit {0}) c.in_err-placed.field-0.0
-        (subst (λ (ps : List Proof). Passes {A = Unit {0}} (Err c.in_err-placed.field-0.0) (stray_fault (obligations_of m) [] (titles_of ps))) c.as_slice-3.ensures (c.in_err-placed.ensures.exact (obligations_of m) knows)) in
+    (subst (λ (ps : List Proof). Passes {A = Unit {0}} (Err c.in_err-placed.field-0.0) (stray_fault (obligations_of m) [] (titles_of ps))) c.as_slice-3.ensures (c.in_err-placed.ensures.exact (obligations_of m) knows)) in
     search rules
 
 pub returns-in_err-check_operations-clause-exact : goal.returns-in_err-check_operations-clause-exact
@@ -49,8 +49,8 @@ returns-in_err-check_operations-clause-exact c =
     let none = subst (λ (ps : List Proof). stray_fault (obligations_of m) [] (titles_of ps) ≡ None) c.as_slice-3.ensures (c.in_ok-placed.ensures.exact (obligations_of m) knows) in
     let duties = duties-are c.args.m c.as_slice-5.result.now c.as_slice-6.result.now c.as_slice-7.result.now c.as_slice-5.ensures c.as_slice-6.ensures c.as_slice-7.ensures in
     let h = duty-answer (unbuilt_fault c.args.m.fields) c.args.m.terms m c.args.p.list built none (Unit {0}) (Unit {0}) c.in_err-check_operations.field-0.0
-        (subst (λ (ps : List Proof). Passes {A = Unit {0}} (Err c.in_err-check_operations.field-0.0) (duties_fault (proof_trees ps) (duties_of m))) c.as_slice-4.ensures
-        (subst (λ (ds : List Duty). Passes {A = Unit {0}} (Err c.in_err-check_operations.field-0.0) (duties_fault (proof_trees c.as_slice-4.result.now) ds)) duties c.in_err-check_operations.ensures.exact)) in
+    (subst (λ (ps : List Proof). Passes {A = Unit {0}} (Err c.in_err-check_operations.field-0.0) (duties_fault (proof_trees ps) (duties_of m))) c.as_slice-4.ensures
+    (subst (λ (ds : List Duty). Passes {A = Unit {0}} (Err c.in_err-check_operations.field-0.0) (duties_fault (proof_trees c.as_slice-4.result.now) ds)) duties c.in_err-check_operations.ensures.exact)) in
     search rules
 
 pub new-requires : goal.new-requires
