@@ -66,7 +66,7 @@ function chain(    line, k, most) {
     for (k = 0; written < bytes - 200; k++) {
         if (k == 64) break
         line = "0"
-        most = (bytes / 64 - 80) / 2 / 4
+        most = (bytes / 64 - 80) / 8.2
         if (most > 63 * 63) most = 63 * 63
         line = chained("a", most) " <= " chained("b", most)
         put("  invariant i" k "(): " line ";")
