@@ -29,7 +29,7 @@ form_fault m = first (machine_fault m) (strategy_fault m)
 
 -- the first rule that a machine's proofs break
 abbrev pub proofs_fault : TextTree → Option Refusal
-proofs_fault t = first (unbuilt_fault t.machine.fields) (proof_fault t.machine t.proofs)
+proofs_fault t = first (unbuilt_fault t.machine.fields t.machine.ops) (proof_fault t.machine t.proofs)
 
 -- so many scripts, where no rule is broken
 abbrev pub unless : Option Refusal → ℕ → Result ℕ Refusal

@@ -214,3 +214,37 @@ machine M {
     assert_eq!(rt; verdict(rt.alloc(), open.as_slice())?, Err((4, Rule::G2)));
     Ok(())
 }
+
+#[test]
+fn fields_of_other_strategies(rt: HostRuntime) -> Result<(), Fail> {
+    let mixed = b"version 1;
+machine M {
+field c: variable; field m: map; field k: constant; field t: count;
+init begin() { init c = 0; init m = nil; init k = 7; }
+transition t1() { update c = 0; }
+invariant i(): c = 0; }
+proofs { begin keeps i by { same; }
+t1 keeps i by { same; } }
+";
+    assert_eq!(rt; verdict(rt.alloc(), mixed.as_slice())?, Err((4, Rule::N4)));
+    let maps = b"version 1;
+machine M {
+field c: variable; field m: map; field k: constant;
+init begin() { init c = 0; init m = nil; init k = 7; }
+transition t1() { update c = 0; }
+invariant i(): c = 0; }
+proofs { begin keeps i by { same; }
+t1 keeps i by { same; } }
+";
+    assert_eq!(rt; verdict(rt.alloc(), maps.as_slice())?, Ok(2));
+    let tokens = b"version 1;
+machine M {
+field m: map;
+init begin() { init m = nil; }
+transition t1() {
+add m += [1 => 2]; } }
+proofs { t1 at 1 by { same; } }
+";
+    assert_eq!(rt; verdict(rt.alloc(), tokens.as_slice())?, Err((6, Rule::G9)));
+    Ok(())
+}

@@ -113,6 +113,12 @@ wanted-in m is_wanted ops knows same k o e =
     wanted-of (machine_tree m) is_wanted knows k (operation_tree m.terms o)
     (slice_get-map (operation_tree m.terms) m.ops k ∙ ap (option_map (operation_tree m.terms)) (ap (λ (xs : List Operation). slice_get xs k) (sym same) ∙ e))
 
+-- every statement of the machine is built
+pub unbuilt-none : (m : Machine) (fs : List Field) (os : List Operation) (r : Option Refusal) → fs ≡ m.fields → os ≡ m.ops → r ≡ unbuilt_fault fs (map (operation_tree m.terms) os) → r ≡ None → unbuilt_fault m.fields (machine_tree m).ops ≡ None
+unbuilt-none m fs os r fields ops is none =
+    let same : unbuilt_fault fs (map (operation_tree m.terms) os) ≡ unbuilt_fault m.fields (machine_tree m).ops = λ j. unbuilt_fault (fields j) (map (operation_tree m.terms) (ops j)) in
+    sym same ∙ (sym is ∙ none)
+
 -- ---- the machine's lists, as the code meets them
 
 module _ (m : Machine) (fs : List Field) (is : List Invariant) (os : List Operation) (fields : fs ≡ m.fields) (invariants : is ≡ m.invariants) (ops : os ≡ m.ops) where
@@ -122,10 +128,10 @@ module _ (m : Machine) (fs : List Field) (is : List Invariant) (os : List Operat
   pub met-keepable : HasOwnIds m → IsNamed (machine_tree m) → AllByRecursion (IsKeepable m.terms) is
   met-keepable ids named = subst (λ (xs : List Invariant). AllByRecursion (IsKeepable m.terms) xs) (sym invariants) (invariants-keepable m.terms m.fields m.invariants ids.invariants named.invariants)
 
-  pub met-walkable : HasOwnIds m → AllByRecursion (λ (o : OperationTree). AreAllowed m.fields o.steps) (machine_tree m).ops → unbuilt_fault m.fields ≡ None → AllByRecursion (λ (o : Operation). All (IsWalkable m.terms fs) o.steps) os
-  met-walkable ids allowed built =
+  pub met-walkable : HasOwnIds m → unbuilt_fault m.fields (machine_tree m).ops ≡ None → AllByRecursion (λ (o : Operation). All (IsWalkable m.terms fs) o.steps) os
+  met-walkable ids built =
       subst (λ (xs : List Field). AllByRecursion (λ (o : Operation). All (IsWalkable m.terms xs) o.steps) os) (sym fields)
-      (subst (λ (xs : List Operation). AllByRecursion (λ (o : Operation). All (IsWalkable m.terms m.fields) o.steps) xs) (sym ops) (operations-walkable m.terms m.fields m.ops ids.ops allowed built))
+      (subst (λ (xs : List Operation). AllByRecursion (λ (o : Operation). All (IsWalkable m.terms m.fields) o.steps) xs) (sym ops) (operations-walkable m.terms m.fields m.ops ids.ops built))
 
   pub met-wanted : (is_wanted : Title → Bool) → ((t : Title) → is_wanted t ≡ has_title (obligations_of (machine_tree m)) t) → (k : ℕ) (o : Operation) → slice_get os k ≡ Some o
       → AreWanted is_wanted k (operation_tree m.terms o) (map (invariant_tree m.terms) is)

@@ -92,7 +92,7 @@ module _ (s t : Stored) (e : Extends s t) where
   walkable-stays fs x h = record {
     ids = act-ids x.act h.ids;
     plain = subst IsPlain (sym (act-stays x.act h.ids)) h.plain;
-    built = ap (λ (a : ActTree). is_built (strategy_of fs a)) (act-stays x.act h.ids) ∙ h.built;
+    built = ap (λ (a : ActTree). is_built (strategy_of fs a) a) (act-stays x.act h.ids) ∙ h.built;
   }
 
   fact-stays : (h : Hyp) → IsForm s h.form → fact_of t h ≡ fact_of s h

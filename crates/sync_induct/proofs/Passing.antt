@@ -29,7 +29,7 @@ as-come s v a b c d h e f = record { walk = h.walk; known = h.known ∙ e; now =
 facts-is : (s : Stored) (fs : List Field) (n : ℕ) (w : Walk) (x : Step) (o : Option FormId) → IsWalkable s fs x → known_from x.act ≡ o → facts_after s fs n w x ≡ known_of s w ++ condition_facts n (option_map (formula s) o)
 facts-is s fs n w x o h e =
     ap (λ (c : Option Formula). known_of s w ++ condition_facts n c)
-    (condition-is s (strategy_of fs (act_tree s x.act)) (current_of (values_of s w) (act_tree s x.act)) x.act h.plain h.built ∙ ap (option_map (formula s)) e)
+    (condition-is s (strategy_of fs (act_tree s x.act)) (current_of (values_of s w) (act_tree s x.act)) x.act h.built ∙ ap (option_map (formula s)) e)
 
 facts-stay : (s : Stored) (fs : List Field) (n : ℕ) (w : Walk) (x : Step) → IsWalkable s fs x → known_from x.act ≡ None → known_of s w ≡ facts_after s fs n w x
 facts-stay s fs n w x h e = sym (facts-is s fs n w x None h e ∙ append-nil (known_of s w))

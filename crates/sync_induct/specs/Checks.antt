@@ -10,7 +10,8 @@ use Rattle.sync_terms.specs.Stored.{Stored, formula}
 use Rattle.sync_machine.specs.declared.fields.Field.{Field}
 use Rattle.sync_machine.specs.declared.fields.Strategy.{Strategy}
 use Rattle.sync_machine.specs.declared.fields.Strategy.TheVariants.{Variable, Constant, NotTokenized, Option as OptionField, Map, Set, Multiset, Count, PersistentOption, PersistentMap, PersistentSet, PersistentCount, StorageMap}
-use Rattle.sync_machine.specs.Machines.{MachineTree}
+use Rattle.sync_machine.specs.Machines.{ActTree, Init, Require, Assert, Update, HaveVariable, Add, Remove, Have, Deposit, Withdraw, Guard, StepTree, OperationTree, MachineTree}
+use Rattle.sync_machine.specs.States.{strategy_of}
 use Rattle.sync_rules.specs.declared.claims.Obligation.{Obligation}
 use Rattle.sync_rules.specs.Obligations.{obligations_of}
 use Rattle.sync_kernel.specs.Facts.{Fact}
@@ -92,26 +93,43 @@ duties_fault ps (d ∷ ds) = first (duty_fault ps d) (duties_fault ps ds)
 abbrev pub proof_fault : MachineTree → List ProofTree → Option Refusal
 proof_fault m ps = first (stray_fault (obligations_of m) [] (map (λ (p : ProofTree). p.title) ps)) (duties_fault ps (duties_of m))
 
--- the strategies whose fields are checked so far
-abbrev pub is_built : Strategy → Bool
-is_built Variable = true
-is_built Constant = true
-is_built NotTokenized = true
-is_built OptionField = false
-is_built Map = false
-is_built Set = false
-is_built Multiset = false
-is_built Count = false
-is_built PersistentOption = false
-is_built PersistentMap = false
-is_built PersistentSet = false
-is_built PersistentCount = false
-is_built StorageMap = false
+abbrev pub is_count : Strategy → Bool
+is_count Count = true
+is_count Variable = false
+is_count Constant = false
+is_count NotTokenized = false
+is_count OptionField = false
+is_count Map = false
+is_count Set = false
+is_count Multiset = false
+is_count PersistentOption = false
+is_count PersistentMap = false
+is_count PersistentSet = false
+is_count PersistentCount = false
+is_count StorageMap = false
 
--- the first field of another strategy
-unfoldable pub unbuilt_fault : List Field → Option Refusal
-unbuilt_fault [] = None
-unbuilt_fault (f ∷ fs) = if is_built f.strategy then unbuilt_fault fs else Some (record { line = f.line; rule = G9 })
+-- a statement that is checked so far, on a field of this strategy: none on tokens or stored objects, and no first value of a count
+abbrev pub is_built : Strategy → ActTree → Bool
+is_built k (Init f t) = not (is_count k)
+is_built k (Require form) = true
+is_built k (Assert form) = true
+is_built k (Update f t) = true
+is_built k (HaveVariable f) = true
+is_built k (Add f p) = false
+is_built k (Remove f p) = false
+is_built k (Have f p) = false
+is_built k (Deposit f p) = false
+is_built k (Withdraw f p) = false
+is_built k (Guard f p) = false
+
+-- the first statement that is not
+unfoldable pub unbuilt_step : List Field → List StepTree → Option Refusal
+unbuilt_step fs [] = None
+unbuilt_step fs (x ∷ xs) = if is_built (strategy_of fs x.act) x.act then unbuilt_step fs xs else Some (record { line = x.line; rule = G9 })
+
+unfoldable pub unbuilt_fault : List Field → List OperationTree → Option Refusal
+unbuilt_fault fs [] = None
+unbuilt_fault fs (o ∷ os) = first (unbuilt_step fs o.steps) (unbuilt_fault fs os)
 
 -- a count that stands still at the end of its type
 abbrev pub capped : ℕ → ℕ

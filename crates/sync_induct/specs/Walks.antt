@@ -45,7 +45,7 @@ pub record HasCome (s : Stored) (w : Walk) (facts : List Fact) (values : List Tr
   pub known : known_of s w ≡ facts
   pub now : values_of s w ≡ values
 
--- a statement that fields have which are numbers without tokens of their own
+-- a statement on no tokens and no stored objects
 abbrev pub IsPlain : ActTree → Type 0
 IsPlain (Init f t) = Unit {0}
 IsPlain (Update f t) = Unit {0}
@@ -59,11 +59,11 @@ IsPlain (Deposit f p) = ⊥
 IsPlain (Withdraw f p) = ⊥
 IsPlain (Guard f p) = ⊥
 
--- a statement that can be walked over: its ids are of the store, and its field is a number
+-- a statement that can be walked over: its ids are of the store, and it is checked so far
 pub record IsWalkable (s : Stored) (fs : List Field) (x : Step) : Type 0 where
   pub ids : HasActIds s x.act
   pub plain : IsPlain (act_tree s x.act)
-  pub built : is_built (strategy_of fs (act_tree s x.act)) ≡ true
+  pub built : is_built (strategy_of fs (act_tree s x.act)) (act_tree s x.act) ≡ true
 
 -- what the statement with number n has to show, after the walk so far
 abbrev pub owed : Stored → List Field → ℕ → ℕ → Walk → Step → List Duty
