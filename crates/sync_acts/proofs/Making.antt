@@ -1,6 +1,6 @@
 -- How what is built step by step is the whole.
 use Rattle.std.proofs.Common.{◌≡◌, ℕ, ◌<◌, ◌≤◌, refl, sym, ap, ◌∙◌, subst, Result, Ok, Err, arith}
-use Rattle.std.specs.Prelude.{◌↔◌, IfOk, IfErr, IsErrAnd, IsOkAnd, MatchResult, IfSome, Option, Some, None, option_map}
+use Rattle.std.specs.Prelude.{◌↔◌, IfOk, IsErrAnd, IsOkAnd, MatchResult, IfSome, Option, Some, None, option_map}
 use Rattle.sync_terms.specs.declared.nodes.TermId.{TermId}
 use Rattle.sync_terms.specs.declared.nodes.FormId.{FormId}
 use Rattle.sync_terms.specs.declared.nodes.Node.{Node}
@@ -9,7 +9,7 @@ use Rattle.sync_terms.specs.declared.nodes.FormNode.{FormNode}
 use Rattle.sync_terms.specs.declared.nodes.FormNode.TheVariants as form
 use Rattle.sync_terms.specs.declared.store.TermStop.{TermStop}
 use Rattle.sync_terms.specs.declared.store.TermStop.TheVariants.{TooLarge, Memory}
-use Rattle.sync_terms.specs.Trees.{Tree, Formula, Le, Eq, And, Or, tree_size, formula_size}
+use Rattle.sync_terms.specs.Trees.{Tree, Formula, tree_size, formula_size}
 use Rattle.sync_terms.specs.Stored.{Stored, tree, formula, shape, form_shape, IsTerm, IsForm, Extends}
 use Rattle.sync_terms.proofs.Steps.{le_from_not}
 use Rattle.sync_terms.specs.Kept.{limit}

@@ -8,7 +8,7 @@ use Rattle.sync_machine.specs.declared.fields.Strategy.{Strategy}
 use Rattle.sync_machine.specs.declared.fields.Strategy.TheVariants.{Count}
 use Rattle.sync_machine.specs.declared.machine.Place.{Place}
 use Rattle.sync_machine.specs.declared.machine.Act.{Act}
-use Rattle.sync_machine.specs.declared.machine.Act.TheVariants.{Init, Require, Assert, Update, HaveVariable, Add, Remove, Have, Deposit, Withdraw, Guard}
+use Rattle.sync_machine.specs.declared.machine.Act.TheVariants.{Require, Assert, Update, HaveVariable, Remove, Have, Withdraw, Guard}
 use Rattle.sync_machine.specs.Statements.{amount_is_natural, both, enabling, safety, condition, after}
 use Rattle.sync_machine.specs.Views.{act_tree}
 use Rattle.sync_acts.specs.Building.{condition_size}

@@ -12,11 +12,7 @@ use sync_machine::{Pattern, Place, Strategy};
 use sync_terms::{FormId, FormNode, Node, TermId, TermStop, Terms};
 
 /// The key is there.
-pub(crate) fn is_there(
-    terms: &mut Terms,
-    current: TermId,
-    key: TermId,
-) -> Result<FormId, TermStop>
+pub(crate) fn is_there(terms: &mut Terms, current: TermId, key: TermId) -> Result<FormId, TermStop>
     requires current { IsTerm terms.old current }
     requires key { IsTerm terms.old key }
     ensures built { BuildsForm terms.new (is_there (tree terms.old current) (tree terms.old key)) result }
@@ -100,9 +96,9 @@ fn is_counted(terms: &mut Terms, current: TermId, key: TermId) -> Result<FormId,
     ensures built { BuildsForm terms.new (trees.Le one (trees.Get (tree terms.old current) (tree terms.old key))) result }
     ensures keeps { Extends terms.old terms.new }
 {
-    let got = term(terms, Node::Get(current, key))?;
+    let count = term(terms, Node::Get(current, key))?;
     let one = one(terms)?;
-    form(terms, FormNode::Le(one, got))
+    form(terms, FormNode::Le(one, count))
 }
 
 /// The amount is not negative.
@@ -145,10 +141,7 @@ pub(crate) fn presence(
 {
     let at = terms_of(terms, place)?;
     match strategy {
-        Strategy::Option
-        | Strategy::Map
-        | Strategy::PersistentOption
-        | Strategy::PersistentMap => {
+        Strategy::Option | Strategy::Map | Strategy::PersistentOption | Strategy::PersistentMap => {
             as_condition(is_there_with(terms, current, at.key, at.value))
         }
         Strategy::Set | Strategy::PersistentSet => as_condition(is_there(terms, current, at.key)),
@@ -156,10 +149,8 @@ pub(crate) fn presence(
         Strategy::Count | Strategy::PersistentCount => {
             as_condition(form(terms, FormNode::Le(at.value, current)))
         }
-        Strategy::Variable
-        | Strategy::Constant
-        | Strategy::NotTokenized
-        | Strategy::StorageMap => Ok(None),
+        Strategy::Variable | Strategy::Constant | Strategy::NotTokenized | Strategy::StorageMap =>
+            Ok(None),
     }
 }
 
@@ -195,11 +186,7 @@ pub(crate) fn freshness(
 }
 
 /// What a withdrawal or a guard promises: the object is there, with the value that is asked for if one is.
-pub(crate) fn storage(
-    terms: &mut Terms,
-    current: TermId,
-    place: Place,
-) -> Result<FormId, TermStop>
+pub(crate) fn storage(terms: &mut Terms, current: TermId, place: Place) -> Result<FormId, TermStop>
     requires current { IsTerm terms.old current }
     requires place { HasPlaceIds terms.old place }
     ensures built { BuildsForm terms.new (storage (tree terms.old current) (place_tree terms.old place)) result }

@@ -9,3 +9,6 @@ mod values;
 
 pub use statements::{condition, enabling, safety};
 pub use values::after;
+
+#[cfg(test)]
+mod tests;

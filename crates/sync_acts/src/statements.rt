@@ -5,9 +5,7 @@ ghost use Rattle.sync_machine.specs.Statements.{is_free, is_there_with, key_of, 
 ghost use Rattle.sync_machine.specs.Views.{act_tree, place_tree, HasPlaceIds, HasActIds};
 ghost use Rattle.sync_acts.specs.Building.{BuildsForm, BuildsCondition};
 
-use crate::conditions::{
-    amount_is_natural, freshness, is_free, is_there_with, presence, storage,
-};
+use crate::conditions::{amount_is_natural, freshness, is_free, is_there_with, presence, storage};
 use crate::nodes::{as_condition, form, stored_form};
 use crate::places::terms_of;
 use sync_machine::{Act, Place, Strategy};

@@ -60,18 +60,14 @@ pub(crate) fn added(
 {
     let at = terms_of(terms, place)?;
     match strategy {
-        Strategy::Option
-        | Strategy::Map
-        | Strategy::PersistentOption
-        | Strategy::PersistentMap => term(terms, Node::Put(current, at.key, at.value)),
+        Strategy::Option | Strategy::Map | Strategy::PersistentOption | Strategy::PersistentMap =>
+            term(terms, Node::Put(current, at.key, at.value)),
         Strategy::Set | Strategy::PersistentSet => with_element(terms, current, at.key),
         Strategy::Multiset => once_more(terms, current, at.key),
         Strategy::Count => term(terms, Node::Add(current, at.value)),
         Strategy::PersistentCount => stored_term(terms, at.value),
-        Strategy::Variable
-        | Strategy::Constant
-        | Strategy::NotTokenized
-        | Strategy::StorageMap => stored_term(terms, current),
+        Strategy::Variable | Strategy::Constant | Strategy::NotTokenized | Strategy::StorageMap =>
+            stored_term(terms, current),
     }
 }
 

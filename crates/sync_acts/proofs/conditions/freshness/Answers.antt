@@ -16,7 +16,7 @@ returns-in-Option-clause-built c =
     let p = place_tree c.args.terms.now c.args.place in
     let m = tree c.args.terms.now c.args.current in
     let made : BuildsCondition c.is_free.new.terms (Some (is_free m (key_of p))) c.as_condition.result =
-        c.as_condition.ensures _ _ (BuildsForm-at c.args.current c.in_ok-at.at c.terms_of.ensures.keeps c.requires.current c.in_ok-at.ensures.found (λ m k v. is_free m k) c.is_free.result c.is_free.ensures.built) in
+    c.as_condition.ensures _ _ (BuildsForm-at c.args.current c.in_ok-at.at c.terms_of.ensures.keeps c.requires.current c.in_ok-at.ensures.found (λ m k v. is_free m k) c.is_free.result c.is_free.ensures.built) in
     by3 (λ (k : Strategy). BuildsCondition c.is_free.new.terms (freshness k m p) c.as_condition.result) c.in-Option.is made made made
 
 pub returns-in-Option-clause-keeps : goal.returns-in-Option-clause-keeps
@@ -28,7 +28,7 @@ returns-in-Count-clause-built c =
     let p = place_tree c.args.terms.now c.args.place in
     let m = tree c.args.terms.now c.args.current in
     let made : BuildsCondition c.is_natural.new.terms (Some (Le zero (value_of p))) c.as_condition-in-Count.result =
-        c.as_condition-in-Count.ensures _ _ (BuildsForm-at c.args.current c.in_ok-at.at c.terms_of.ensures.keeps c.requires.current c.in_ok-at.ensures.found (λ m k v. Le zero v) c.is_natural.result c.is_natural.ensures.built) in
+    c.as_condition-in-Count.ensures _ _ (BuildsForm-at c.args.current c.in_ok-at.at c.terms_of.ensures.keeps c.requires.current c.in_ok-at.ensures.found (λ m k v. Le zero v) c.is_natural.result c.is_natural.ensures.built) in
     by1 (λ (k : Strategy). BuildsCondition c.is_natural.new.terms (freshness k m p) c.as_condition-in-Count.result) c.in-Count.is made
 
 pub returns-in-Count-clause-keeps : goal.returns-in-Count-clause-keeps
@@ -40,7 +40,7 @@ returns-in-PersistentOption-clause-built c =
     let p = place_tree c.args.terms.now c.args.place in
     let m = tree c.args.terms.now c.args.current in
     let made : BuildsCondition c.is_free_or_with.new.terms (Some (Or (is_free m (key_of p)) (Eq (Get m (key_of p)) (value_of p)))) c.as_condition-in-PersistentOption.result =
-        c.as_condition-in-PersistentOption.ensures _ _ (BuildsForm-at c.args.current c.in_ok-at.at c.terms_of.ensures.keeps c.requires.current c.in_ok-at.ensures.found (λ m k v. Or (is_free m k) (Eq (Get m k) v)) c.is_free_or_with.result c.is_free_or_with.ensures.built) in
+    c.as_condition-in-PersistentOption.ensures _ _ (BuildsForm-at c.args.current c.in_ok-at.at c.terms_of.ensures.keeps c.requires.current c.in_ok-at.ensures.found (λ m k v. Or (is_free m k) (Eq (Get m k) v)) c.is_free_or_with.result c.is_free_or_with.ensures.built) in
     by2 (λ (k : Strategy). BuildsCondition c.is_free_or_with.new.terms (freshness k m p) c.as_condition-in-PersistentOption.result) c.in-PersistentOption.is made made
 
 pub returns-in-PersistentOption-clause-keeps : goal.returns-in-PersistentOption-clause-keeps
@@ -52,7 +52,7 @@ returns-in-PersistentCount-clause-built c =
     let p = place_tree c.args.terms.now c.args.place in
     let m = tree c.args.terms.now c.args.current in
     let made : BuildsCondition c.form.new.terms (Some (Le m (value_of p))) c.as_condition-in-PersistentCount.result =
-        c.as_condition-in-PersistentCount.ensures _ _ (BuildsForm-at c.args.current c.in_ok-at.at c.terms_of.ensures.keeps c.requires.current c.in_ok-at.ensures.found (λ m k v. Le m v) c.form.result c.form.ensures.built) in
+    c.as_condition-in-PersistentCount.ensures _ _ (BuildsForm-at c.args.current c.in_ok-at.at c.terms_of.ensures.keeps c.requires.current c.in_ok-at.ensures.found (λ m k v. Le m v) c.form.result c.form.ensures.built) in
     by1 (λ (k : Strategy). BuildsCondition c.form.new.terms (freshness k m p) c.as_condition-in-PersistentCount.result) c.in-PersistentCount.is made
 
 pub returns-in-PersistentCount-clause-keeps : goal.returns-in-PersistentCount-clause-keeps

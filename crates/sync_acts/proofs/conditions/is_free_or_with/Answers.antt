@@ -1,6 +1,6 @@
 use Rattle.std.proofs.Common.{arith}
 use Rattle.sync_terms.proofs.Extending.{Extends-trans}
-use Rattle.sync_terms.specs.Trees.{tree_size, formula_size}
+use Rattle.sync_terms.specs.Trees.{formula_size}
 use Rattle.sync_acts.proofs.Lasting.{agreement-stays}
 use Rattle.sync_acts.proofs.Making.{BuildsForm-form, BuildsForm-same}
 use Rattle.sync_acts.proofs.conditions.is_free_or_with.Goals as goal
@@ -11,7 +11,7 @@ returns-in_err-free-clause-built c = BuildsForm-form c.from_residual.result c.in
 
 pub returns-in_err-agrees-clause-built : goal.returns-in_err-agrees-clause-built
 unfolding formula_size
-returns-in_err-agrees-clause-built c = 
+returns-in_err-agrees-clause-built c =
     let same = agreement-stays c.args.terms.now c.is_free.new.terms c.is_free.ensures.keeps c.args.current c.args.key c.args.value c.requires.current c.requires.key c.requires.value in
     BuildsForm-form c.from_residual-in_err-agrees.result (BuildsForm-same c.in_err-agrees.ensures.built same) c.from_residual-in_err-agrees.ensures.1 (omega arith)
 

@@ -1,5 +1,4 @@
 use Rattle.sync_terms.specs.Stored.{tree}
-use Rattle.sync_terms.proofs.Extending.{Extends-refl}
 use Rattle.sync_machine.specs.declared.machine.Act.{Act}
 use Rattle.sync_machine.specs.Statements.{safety}
 use Rattle.sync_machine.specs.Views.{act_tree}

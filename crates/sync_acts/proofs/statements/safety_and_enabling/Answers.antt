@@ -1,7 +1,7 @@
 use Rattle.std.proofs.Common.{◌∙◌}
 use Rattle.sync_terms.proofs.Extending.{Extends-refl, Extends-trans}
 use Rattle.sync_terms.specs.Stored.{tree}
-use Rattle.sync_machine.specs.Statements.{both, enabling, safety}
+use Rattle.sync_machine.specs.Statements.{both, safety}
 use Rattle.sync_machine.specs.Views.{act_tree}
 use Rattle.sync_acts.proofs.Lasting.{act-ids, enabling-stays}
 use Rattle.sync_acts.proofs.Making.{BuildsCondition-condition, BuildsCondition-same, condition-value, condition-stored}
