@@ -1,0 +1,4 @@
+pub mod Making
+pub mod Lasting
+pub mod Choices
+pub mod Otherwise
