@@ -1,2 +1,3 @@
 pub mod MapLaws
 pub mod Truths
+pub mod Making

@@ -78,11 +78,11 @@ module _ (v : Valuation) where
   any_true m k = elim (has_cases (mapped v m) (num v k)) [
     | inl h ↦ and_from (int_le (pos 0) (num v (Has m k)) && int_le (num v (Has m k)) (pos 1)) (int_eq (num v (Has m k)) (pos 1) || int_eq (num v (Get m k)) (pos 0))
         (and_from (int_le (pos 0) (num v (Has m k))) (int_le (num v (Has m k)) (pos 1))
-          (int_le_true (pos 0) (num v (Has m k)) (le_same (pos 0) (num v (Has m k)) (pos 1) h zero_le_one)) (int_le_true (num v (Has m k)) (pos 1) (same_le (num v (Has m k)) (pos 1) (pos 1) h (le_self (pos 1)))))
+        (int_le_true (pos 0) (num v (Has m k)) (le_same (pos 0) (num v (Has m k)) (pos 1) h zero_le_one)) (int_le_true (num v (Has m k)) (pos 1) (same_le (num v (Has m k)) (pos 1) (pos 1) h (le_self (pos 1)))))
         (or_left (int_eq (num v (Has m k)) (pos 1)) (int_eq (num v (Get m k)) (pos 0)) (eq_true (num v (Has m k)) (pos 1) h))
     | inr h ↦ and_from (int_le (pos 0) (num v (Has m k)) && int_le (num v (Has m k)) (pos 1)) (int_eq (num v (Has m k)) (pos 1) || int_eq (num v (Get m k)) (pos 0))
         (and_from (int_le (pos 0) (num v (Has m k))) (int_le (num v (Has m k)) (pos 1))
-          (int_le_true (pos 0) (num v (Has m k)) (le_same (pos 0) (num v (Has m k)) (pos 0) h.1 (le_self (pos 0)))) (int_le_true (num v (Has m k)) (pos 1) (same_le (num v (Has m k)) (pos 0) (pos 1) h.1 zero_le_one)))
+        (int_le_true (pos 0) (num v (Has m k)) (le_same (pos 0) (num v (Has m k)) (pos 0) h.1 (le_self (pos 0)))) (int_le_true (num v (Has m k)) (pos 1) (same_le (num v (Has m k)) (pos 0) (pos 1) h.1 zero_le_one)))
         (or_right (int_eq (num v (Has m k)) (pos 1)) (int_eq (num v (Get m k)) (pos 0)) (eq_true (num v (Get m k)) (pos 0) h.0))
   ]
 
@@ -173,10 +173,10 @@ module _ (v : Valuation) where
   small_true m k =
       and_from (truth v (Imp (Eq (Size m) zero) (Eq (Sum m) zero))) (truth v (Imp (And (Eq (Size m) one) (Eq (Has m k) one)) (Eq (Sum m) (Get m k))))
       (implied (int_eq (num v (Size m)) (pos 0)) (int_eq (num v (Sum m)) (pos 0))
-        (λ t. eq_true (num v (Sum m)) (pos 0) (sum_empty (mapped v m) ((Decides-int_eq (num v (Size m)) (pos 0)).0 t))))
+      (λ t. eq_true (num v (Sum m)) (pos 0) (sum_empty (mapped v m) ((Decides-int_eq (num v (Size m)) (pos 0)).0 t))))
       (implied (int_eq (num v (Size m)) (pos 1) && int_eq (num v (Has m k)) (pos 1)) (int_eq (num v (Sum m)) (num v (Get m k)))
-        (λ t. (let p = and_parts (int_eq (num v (Size m)) (pos 1)) (int_eq (num v (Has m k)) (pos 1)) t in
-          eq_true (num v (Sum m)) (num v (Get m k)) (sum_alone (mapped v m) (num v k) ((Decides-int_eq (num v (Size m)) (pos 1)).0 p.0) ((Decides-int_eq (num v (Has m k)) (pos 1)).0 p.1)))))
+      (λ t. (let p = and_parts (int_eq (num v (Size m)) (pos 1)) (int_eq (num v (Has m k)) (pos 1)) t in
+      eq_true (num v (Sum m)) (num v (Get m k)) (sum_alone (mapped v m) (num v k) ((Decides-int_eq (num v (Size m)) (pos 1)).0 p.0) ((Decides-int_eq (num v (Has m k)) (pos 1)).0 p.1)))))
 
   pub total_true : (m k : Tree) → Holds v (total_fact m k)
   unfolding truth

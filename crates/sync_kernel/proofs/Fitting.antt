@@ -102,9 +102,9 @@ pub still_not_fitting : (fs : List Fact) (left right : ℕ) (f g : Formula) → 
 still_not_fitting fs left right f g h =
     cond-true (nat_lt limit (facts_size (with_fact (with_fact fs left f) right g))) (Err K8) (Ok (with_fact (with_fact fs left f) right g))
     (lt-ltb limit (facts_size (with_fact (with_fact fs left f) right g))
-      (let less : limit < facts_size (with_fact fs left f) = ltb-true limit (facts_size (with_fact fs left f)) h in
-        let more = size-push (with_fact fs left f) (named right g) in
-        omega (arith, less, more)))
+    (let less : limit < facts_size (with_fact fs left f) = ltb-true limit (facts_size (with_fact fs left f)) h in
+    let more = size-push (with_fact fs left f) (named right g) in
+    omega (arith, less, more)))
 
 -- two branches
 pub both_not_fitting : (fs : List Fact) (name : ℕ) (forms : Two) → limit < formula_size forms.left → both_fitting fs name forms ≡ Err K8

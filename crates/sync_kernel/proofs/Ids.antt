@@ -54,7 +54,7 @@ at-last : (ns : List Node) (k : ℕ) → get_or (trees (longer ns k)) (length ns
 at-last ns k =
     ap (λ (ts : List Tree). get_or ts (length ns + k) Nil) (trees-longer ns k ∙ sym (append_assoc (trees ns) (replicate k (Lit (pos 0))) (Nil ∷ [])))
     ∙ get_or_at (trees ns ++ replicate k (Lit (pos 0))) Nil [] Nil (length ns + k)
-      (omega (arith, length-append (trees ns) (replicate k (Lit (pos 0))), length-trees ns, length-replicate k (Lit (pos 0))))
+    (omega (arith, length-append (trees ns) (replicate k (Lit (pos 0))), length-trees ns, length-replicate k (Lit (pos 0))))
 
 -- ---- formulas whose terms stay: what is behind the old terms is aimed at `nil`
 
@@ -146,9 +146,11 @@ extends_forms : (s : Stored) (k : ℕ) → Extends s (with_forms s k)
 unfolding tree formula
 extends_forms s k = record {
   terms = λ id h. (h, refl);
-  forms = λ id h. (omega (arith, length-append s.forms (replicate k no_form), h),
-      ap (λ (gs : List Formula). get_or gs id.0 (Eq Nil Nil)) (formulas-more (trees s.nodes) s.forms k)
-      ∙ get_or_append_left (formulas (trees s.nodes) s.forms) (replicate k (no_formula (trees s.nodes))) (Eq Nil Nil) id.0 (omega (arith, length-formulas (trees s.nodes) s.forms, h)));
+  forms = λ id h. (
+    omega (arith, length-append s.forms (replicate k no_form), h),
+    ap (λ (gs : List Formula). get_or gs id.0 (Eq Nil Nil)) (formulas-more (trees s.nodes) s.forms k)
+        ∙ get_or_append_left (formulas (trees s.nodes) s.forms) (replicate k (no_formula (trees s.nodes))) (Eq Nil Nil) id.0 (omega (arith, length-formulas (trees s.nodes) s.forms, h)),
+  );
 }
 
 le_not_eq : (t u : Tree) → Le t u ≡ Eq Nil Nil → ⊥
@@ -160,8 +162,8 @@ stays_form s id stays = elim (cases_lt id.0 (length s.forms)) [
   | inl h ↦ h
   | inr h ↦ absurd (le_not_eq (get_or (trees s.nodes) 0 Nil) (get_or (trees s.nodes) 0 Nil) (
       sym (ap (λ (gs : List Formula). get_or gs id.0 (Eq Nil Nil)) (formulas-more (trees s.nodes) s.forms (suc (id.0 - length s.forms)))
-        ∙ get_or-append_right (formulas (trees s.nodes) s.forms) (replicate (suc (id.0 - length s.forms)) (no_formula (trees s.nodes))) (length s.forms) id.0 (Eq Nil Nil) (length-formulas (trees s.nodes) s.forms) h
-        ∙ get_or-replicate (suc (id.0 - length s.forms)) (id.0 - length s.forms) (no_formula (trees s.nodes)) (Eq Nil Nil) (omega (arith, h)))
+      ∙ get_or-append_right (formulas (trees s.nodes) s.forms) (replicate (suc (id.0 - length s.forms)) (no_formula (trees s.nodes))) (length s.forms) id.0 (Eq Nil Nil) (length-formulas (trees s.nodes) s.forms) h
+      ∙ get_or-replicate (suc (id.0 - length s.forms)) (id.0 - length s.forms) (no_formula (trees s.nodes)) (Eq Nil Nil) (omega (arith, h)))
       ∙ stays (with_forms s (suc (id.0 - length s.forms))) (extends_forms s (suc (id.0 - length s.forms)))
       ∙ get_or_past (formulas (trees s.nodes) s.forms) id.0 (Eq Nil Nil) (omega (arith, length-formulas (trees s.nodes) s.forms, h))))
 ]

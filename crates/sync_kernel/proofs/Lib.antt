@@ -10,6 +10,7 @@ pub mod Refuting
 pub mod Names
 pub mod Fitting
 pub mod Stacking
+pub mod Stepping
 pub mod Parts
 pub mod LineRows
 pub mod SameSteps

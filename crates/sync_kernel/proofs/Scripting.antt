@@ -188,6 +188,8 @@ module _ (s : Stored) (x : ScriptStep) (h : IsStepOf s x) where
   total_ids m k name is = (stays_term s m (λ t e. stays_in s x h (StepKind-F.Total m k name) is map_in t e), stays_term s k (λ t e. stays_in s x h (StepKind-F.Total m k name) is key_in t e))
 
   pub cong_ids : (m j k : TermId) (name : ℕ) → kind_of x ≡ StepKind-F.Cong m j k name → IsTerm s m × IsTerm s j × IsTerm s k
-  cong_ids m j k name is =
-      (stays_term s m (λ t e. stays_in s x h (StepKind-F.Cong m j k name) is map_in t e), stays_term s j (λ t e. stays_in s x h (StepKind-F.Cong m j k name) is left_in t e),
-      stays_term s k (λ t e. stays_in s x h (StepKind-F.Cong m j k name) is key_in t e))
+  cong_ids m j k name is = (
+    stays_term s m (λ t e. stays_in s x h (StepKind-F.Cong m j k name) is map_in t e),
+    stays_term s j (λ t e. stays_in s x h (StepKind-F.Cong m j k name) is left_in t e),
+    stays_term s k (λ t e. stays_in s x h (StepKind-F.Cong m j k name) is key_in t e),
+  )

@@ -57,7 +57,7 @@ later name n x xs p h =
       low = omega (arith, low);
       high = omega (arith, high);
       there = λ d. (let at : get_or (x ∷ xs) (p - n) d ≡ get_or xs (p - suc n) d = ap (λ (i : ℕ). get_or (x ∷ xs) i d) (let e : p - n ≡ suc (p - suc n) = omega (arith, low) in e) in
-        ap (λ (o : Option Said). first o (if same_name x.name name then Some x else None)) (h.there d) ∙ ap Some (sym at));
+          ap (λ (o : Option Said). first o (if same_name x.name name then Some x else None)) (h.there d) ∙ ap Some (sym at));
     }
 
 here : (name : HypName) (n : ℕ) (x : Said) (xs : List Said) (b : Bool) → same_name x.name name ≡ b → newest_said name xs ≡ None → Places name n (x ∷ xs) (if b then Some n else None)
@@ -147,7 +147,7 @@ longer : (hs : List Held) (h x : Held) (i : ℕ) → i < length hs → IsHeldAt 
 longer hs h x i lt k =
     let len : length (saids hs) ≡ length hs = length-map hs (λ (y : Held). y.said) in
     let at : (n : ℕ) → n ≤ length hs → take n (saids (hs ++ h ∷ [])) ≡ take n (saids hs) =
-      λ n le. ap (take n) (saids_push hs h) ∙ take-append-le n (saids hs) (h.said ∷ []) (omega (arith, len, le)) in
+    λ n le. ap (take n) (saids_push hs h) ∙ take-append-le n (saids hs) (h.said ∷ []) (omega (arith, len, le)) in
     record {
       hides = k.hides ∙ ap (place_from 0 x.said.name) (sym (at i (omega (arith, lt))));
       total = k.total ∙ ap (λ (xs : List Said). capped (said_size xs)) (sym (at (i + 1) (omega (arith, lt))));
@@ -157,7 +157,7 @@ shorter : (hs : List Held) (h x : Held) (i : ℕ) → i < length hs → IsHeldAt
 shorter hs h x i lt k =
     let len : length (saids hs) ≡ length hs = length-map hs (λ (y : Held). y.said) in
     let at : (n : ℕ) → n ≤ length hs → take n (saids (hs ++ h ∷ [])) ≡ take n (saids hs) =
-      λ n le. ap (take n) (saids_push hs h) ∙ take-append-le n (saids hs) (h.said ∷ []) (omega (arith, len, le)) in
+    λ n le. ap (take n) (saids_push hs h) ∙ take-append-le n (saids hs) (h.said ∷ []) (omega (arith, len, le)) in
     record {
       hides = k.hides ∙ ap (place_from 0 x.said.name) (at i (omega (arith, lt)));
       total = k.total ∙ ap (λ (xs : List Said). capped (said_size xs)) (at (i + 1) (omega (arith, lt)));

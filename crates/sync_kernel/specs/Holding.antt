@@ -57,13 +57,22 @@ StepGives s line (Err Memory) wanted = Unit {0}
 StepGives s line (Err (Refused f)) (Ok n) = ⊥
 StepGives s line (Err (Refused f)) (Err r) = f ≡ record { line = line; rule = r }
 
+-- a stop is for want of memory, or it is the rule that is wanted, at its line
+abbrev pub StopsFor : {X : Type 0} → ℕ → Stop → Result X Rule → Type 0
+StopsFor line Memory wanted = Unit {0}
+StopsFor line (Refused f) (Ok x) = ⊥
+StopsFor line (Refused f) (Err r) = f ≡ record { line = line; rule = r }
+
 -- unless memory was wanting, what is there behind a step is what is wanted, or the rule that it breaks is
 abbrev pub Leaves : {A X : Type 0} → ℕ → Result A Stop → (A → X → Type 0) → Result X Rule → Type 0
 Leaves line (Ok a) P (Ok x) = P a x
 Leaves line (Ok a) P (Err r) = ⊥
-Leaves line (Err Memory) P wanted = Unit {0}
-Leaves line (Err (Refused f)) P (Ok x) = ⊥
-Leaves line (Err (Refused f)) P (Err r) = f ≡ record { line = line; rule = r }
+Leaves line (Err e) P wanted = StopsFor line e wanted
+
+-- a stop is for want of memory, or it is the refusal that is wanted
+abbrev pub Refuses : Stop → Option Refusal → Type 0
+Refuses Memory fault = Unit {0}
+Refuses (Refused r) fault = fault ≡ Some r
 
 -- unless memory was wanting, what was made says the formula that is wanted, or the rule is; K8 where the formula alone is too large
 abbrev pub Makes : Stored → ℕ → Result Literal Stop → Result Formula Rule → Type 0
@@ -77,5 +86,4 @@ Makes s line (Err (Refused x)) (Err r) = x ≡ record { line = line; rule = r }
 abbrev pub StepPasses : Result Left Stop → (fault open closed : Option Refusal) → Type 0
 StepPasses (Ok Open) fault open closed = fault ≡ open
 StepPasses (Ok Closed) fault open closed = fault ≡ closed
-StepPasses (Err Memory) fault open closed = Unit {0}
-StepPasses (Err (Refused r)) fault open closed = fault ≡ Some r
+StepPasses (Err e) fault open closed = Refuses e fault

@@ -28,20 +28,10 @@ fn started(alloc: Global, terms: &Terms, q: &Sequent) -> Result<Branch, AllocErr
     let mut branch = Branch::new(alloc);
     for hyp in q.hyps.as_slice() {
         let params = Items::from_slice(alloc, hyp.params.as_slice())?;
-        branch.push(Said::new(
-            terms,
-            hyp.name,
-            params,
-            Literal::plain(hyp.form),
-        ))?;
+        branch.push(Said::new(terms, hyp.name, params, Literal::plain(hyp.form)))?;
     }
     let denied = Literal::denial(terms, q.claim);
-    branch.push(Said::new(
-        terms,
-        HypName::Denied,
-        Items::new(alloc),
-        denied,
-    ))?;
+    branch.push(Said::new(terms, HypName::Denied, Items::new(alloc), denied))?;
     Ok(branch)
 }
 

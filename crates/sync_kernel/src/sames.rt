@@ -25,11 +25,7 @@ use sync_linear::{Linear, LinearStop};
 use sync_terms::Terms;
 
 /// What the facts without parameters say.
-fn literals_of(
-    alloc: Global,
-    terms: &Terms,
-    facts: &[Held],
-) -> Result<HashSet<Literal>, AllocError>
+fn literals_of(alloc: Global, terms: &Terms, facts: &[Held]) -> Result<HashSet<Literal>, AllocError>
     requires { AreSaid terms.now (saids facts.now) }
     ensures { IfOk result (λ literals. (l : Literal) → IsShared terms.now → IsLiteral terms.now l → IsBare terms.now l → contains same_literal literals l ≡ is_fact (facts_in terms.now (saids facts.now)) (literal_form terms.now l)) }
 {
@@ -104,7 +100,9 @@ pub(crate) fn same(alloc: Global, terms: &Terms, branch: &Branch, line: u32) -> 
     let facts = branch.held();
     let literals = literals_of(alloc, terms, facts)?;
     for held in facts {
-        if held.said.params.is_empty() && is_closing(alloc, terms, facts, &literals, held.said.says)? {
+        if held.said.params.is_empty()
+            && is_closing(alloc, terms, facts, &literals, held.said.says)?
+        {
             return Ok(());
         }
     }

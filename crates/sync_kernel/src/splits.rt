@@ -124,9 +124,8 @@ pub(crate) fn cases_of(terms: &mut Terms, says: Literal) -> Result<Option<Pair>,
             let node = terms.form(inner);
             cases_of_not(terms, node)
         }
-        FormNode::Le(_, _)
-        | FormNode::Lt(_, _)
-        | FormNode::Eq(_, _)
-        | FormNode::And(_, _) => Ok(None),
+        FormNode::Le(_, _) | FormNode::Lt(_, _) | FormNode::Eq(_, _) | FormNode::And(_, _) => Ok(
+            None,
+        ),
     }
 }

@@ -71,11 +71,7 @@ fn built(form: Result<FormId, TermStop>, line: u32) -> Result<Literal, Stop>
 }
 
 /// Each parameter with the term at its place.
-fn paired(
-    alloc: Global,
-    params: &[Sym],
-    list: &[TermId],
-) -> Result<Vec<(Sym, TermId)>, AllocError>
+fn paired(alloc: Global, params: &[Sym], list: &[TermId]) -> Result<Vec<(Sym, TermId)>, AllocError>
     requires { length params.now ≡ length list.now }
     ensures { IfOk result (λ v. v.items ≡ zip params.now list.now) }
 {
