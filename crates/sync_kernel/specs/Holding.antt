@@ -83,7 +83,7 @@ Makes s line (Err (Refused x)) (Ok f) = (x ≡ record { line = line; rule = K8 }
 Makes s line (Err (Refused x)) (Err r) = x ≡ record { line = line; rule = r }
 
 -- unless memory was wanting: what a step and the rest of its block break is what the rest breaks in the branch that the step leaves open, what may not stand behind a step that closes the branch, or the refusal
-abbrev pub StepPasses : Result Left Stop → (fault open closed : Option Refusal) → Type 0
-StepPasses (Ok Open) fault open closed = fault ≡ open
-StepPasses (Ok Closed) fault open closed = fault ≡ closed
-StepPasses (Err e) fault open closed = Refuses e fault
+abbrev pub StepPasses : Result Left Stop → (fault goes closed : Option Refusal) → Type 0
+StepPasses (Ok Open) fault goes closed = fault ≡ goes
+StepPasses (Ok Closed) fault goes closed = fault ≡ closed
+StepPasses (Err e) fault goes closed = Refuses e fault
