@@ -125,7 +125,8 @@ pub fn strategy(words: &[Word], left: u32) -> Read<'_, Strategy>
 /// A value that was read, where this sign follows.
 #[tactic(auto, unfolding(crate::specs::Lexemes::followed))]
 pub fn followed<'a, T: Drop>(value: T, words: &'a [Word], left: u32, symbol: Sign) -> Read<'a, T>
-    ensures { Reads (λ x. (x.0, x.1.now)) result (followed value left symbol words.now) }
+    ensures reads { Reads (λ x. (x.0, x.1.now)) result (followed value left symbol words.now) }
+    ensures shallow { IfOk result (λ x. 0 < left) }
 {
     let (_, rest) = sign(words, left, symbol)?;
     Ok((value, rest))
