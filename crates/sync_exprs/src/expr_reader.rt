@@ -183,12 +183,7 @@ fn operand<'a>(alloc: Global, words: &'a [Word], left: u32) -> Read<'a, ExprKind
 
 /// An operand behind at most `run` prefix signs, as an expression.
 #[cycle(expr)]
-fn whole_unary<'a>(
-    alloc: Global,
-    words: &'a [Word],
-    left: u32,
-    run: u32,
-) -> Read<'a, Boxed<Expr>>
+fn whole_unary<'a>(alloc: Global, words: &'a [Word], left: u32, run: u32) -> Read<'a, Boxed<Expr>>
     ensures { Reads (λ x. (x.0, x.1.now)) result (whole (unary (inside left) left run) words.now) }
 {
     let line = first_line(words);

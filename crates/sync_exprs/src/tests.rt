@@ -35,13 +35,25 @@ fn levels(rt: HostRuntime) {
     let minus = Some(Operator::Minus);
     let or = Some(Operator::Or);
     let plus = Some(Operator::Plus);
-    assert_eq!(rt; operators(&rt, b"a ==> b ==> c"), Some([none, implies, implies]));
+    assert_eq!(rt;
+        operators(&rt, b"a ==> b ==> c"),
+        Some([none, implies, implies])
+    );
     assert_eq!(rt; operators(&rt, b"a || b ==> c"), Some([or, implies, none]));
     assert_eq!(rt; operators(&rt, b"a || b && c"), Some([none, or, and]));
     assert_eq!(rt; operators(&rt, b"!a && b < c"), Some([none, and, below]));
-    assert_eq!(rt; operators(&rt, b"a - b < 2 * -c"), Some([minus, below, none]));
-    assert_eq!(rt; operators(&rt, b"a - b + get(m, $k)"), Some([minus, plus, none]));
-    assert_eq!(rt; operators(&rt, b"nil - (b + old)"), Some([none, minus, plus]));
+    assert_eq!(rt;
+        operators(&rt, b"a - b < 2 * -c"),
+        Some([minus, below, none])
+    );
+    assert_eq!(rt;
+        operators(&rt, b"a - b + get(m, $k)"),
+        Some([minus, plus, none])
+    );
+    assert_eq!(rt;
+        operators(&rt, b"nil - (b + old)"),
+        Some([none, minus, plus])
+    );
 }
 
 fn fault(rt: &HostRuntime, text: &[u8]) -> Option<Fault> {

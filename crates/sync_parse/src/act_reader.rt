@@ -108,12 +108,7 @@ fn assert_act<'a>(alloc: Global, words: &'a [Word], left: u32) -> Read<'a, RawAc
 
 /// A word, the name of a field and a sign.
 #[tactic(auto, unfolding(crate::specs::Machines::field_before))]
-fn field_before<'a>(
-    words: &'a [Word],
-    left: u32,
-    word: Sign,
-    symbol: Sign,
-) -> Read<'a, Named>
+fn field_before<'a>(words: &'a [Word], left: u32, word: Sign, symbol: Sign) -> Read<'a, Named>
     ensures { Reads (λ x. (x.0, x.1.now)) result (field_before word symbol left words.now) }
 {
     let (_, rest) = sign(words, left, word)?;
