@@ -181,16 +181,6 @@ fn operand<'a>(alloc: Global, words: &'a [Word], left: u32) -> Read<'a, ExprKind
     }
 }
 
-/// An operand behind at most `run` prefix signs, as an expression.
-#[cycle(expr)]
-fn whole_unary<'a>(alloc: Global, words: &'a [Word], left: u32, run: u32) -> Read<'a, Boxed<Expr>>
-    ensures { Reads (λ x. (x.0, x.1.now)) result (whole (unary (inside left) left run) words.now) }
-{
-    let line = first_line(words);
-    let (what, rest) = unary(alloc, words, left, run)?;
-    Ok((placed(alloc, what, line)?, rest))
-}
-
 /// An operand behind at most `run` prefix signs.
 #[cycle(expr)]
 #[tactic(auto, unfolding(crate::specs::Expressions::unary))]
@@ -204,7 +194,9 @@ fn unary<'a>(alloc: Global, words: &'a [Word], left: u32, run: u32) -> Read<'a, 
     if left == 0 || run == 0 {
         return Err(deep(word.line));
     }
-    let (inner, rest) = whole_unary(alloc, rest, left, run - 1)?;
+    let line = first_line(rest);
+    let (what, rest) = unary(alloc, rest, left, run - 1)?;
+    let inner = placed(alloc, what, line)?;
     Ok((prefixed(word, inner), rest))
 }
 
@@ -218,7 +210,9 @@ fn product<'a>(alloc: Global, words: &'a [Word], left: u32) -> Read<'a, ExprKind
     }
     let (factor, rest) = number(words, left)?;
     let (_, rest) = sign(rest, left, Sign::Star)?;
-    let (operand, rest) = whole_unary(alloc, rest, left, CHAIN)?;
+    let line = first_line(rest);
+    let (what, rest) = unary(alloc, rest, left, CHAIN)?;
+    let operand = placed(alloc, what, line)?;
     Ok((ExprKind::Times(signed(factor), operand), rest))
 }
 

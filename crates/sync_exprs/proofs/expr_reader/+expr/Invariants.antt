@@ -26,10 +26,7 @@ abbrev pub decreases-operand : goal.decreases-operand
 decreases-operand l = l.left * 1000 + 5
 
 abbrev pub decreases-unary : goal.decreases-unary
-decreases-unary l = l.left * 1000 + 6 + 2 * l.run
-
-abbrev pub decreases-whole_unary : goal.decreases-whole_unary
-decreases-whole_unary l = l.left * 1000 + 7 + 2 * l.run
+decreases-unary l = l.left * 1000 + 6 + l.run
 
 abbrev pub decreases-product : goal.decreases-product
 decreases-product l = l.left * 1000 + 200
