@@ -75,8 +75,8 @@ go_on : {X Y Raw : Type 0} (from : List Y → Scope → List Raw → Result (Lis
 go_on from make opens old new scope next raw i o held more x want below item kept made is so_far =
     ap (λ ys. from ys next (drop (i + 1) raw)) (seen old new held more x is kept)
     ∙ sym (opens (map old held) scope o (drop (i + 1) raw)
-        ∙ behind (make (length (map old held)) scope o) (λ y. from (map old held ++ y.0 ∷ []) y.1 (drop (i + 1) raw)) (new x, next)
-            (ap (λ n. make n scope o) (length-map held old) ∙ made))
+    ∙ behind (make (length (map old held)) scope o) (λ y. from (map old held ++ y.0 ∷ []) y.1 (drop (i + 1) raw)) (new x, next)
+    (ap (λ n. make n scope o) (length-map held old) ∙ made))
     ∙ ap (from (map old held) scope) (sym (front raw i o below item))
     ∙ so_far
 
@@ -93,7 +93,7 @@ unfolding steps_from
 steps_go s t scope next raw i a held more x n want below item grows ids few acts line is so_far =
     let rest : List RawAct = drop (i + 1) raw in
     let trees : steps_tree t more ≡ steps_tree s held ++ record { act = act_tree t x.act; line = a.line } ∷ [] =
-        seen (step_tree s) (step_tree t) held more x is (steps_kept s t held grows ids) ∙ ap (λ (l : ℕ). steps_tree s held ++ record { act = act_tree t x.act; line = l } ∷ []) line in
+    seen (step_tree s) (step_tree t) held more x is (steps_kept s t held grows ids) ∙ ap (λ (l : ℕ). steps_tree s held ++ record { act = act_tree t x.act; line = l } ∷ []) line in
     let few_trees : within 64 (length (steps_tree s held)) a.line ≡ Ok n = ap (λ (k : ℕ). within 64 k a.line) (length-map held (step_tree s)) ∙ few in
     ap (λ (ys : List StepTree). steps_from ys next rest) trees
     ∙ sym (behind_two (within 64 (length (steps_tree s held)) a.line) (λ k. act_in a.what scope) (steps_rest (steps_tree s held) a rest) n (act_tree t x.act, next) few_trees acts)
@@ -112,7 +112,7 @@ pub operations_go : (s t : Stored) (fs : List Field) (scope next : Scope) (raw :
     → operations_from fs (map (operation_tree s) held) scope (drop i raw) ≡ want → operations_from fs (map (operation_tree t) more) next (drop (i + 1) raw) ≡ want
 operations_go s t fs scope next raw i o held more x want below item grows ids made is so_far =
     go_on (operations_from fs) (λ n. operation_in n fs) (operations_open fs) (operation_tree s) (operation_tree t) scope next raw i o held more x want below item
-      (operations_kept s t held grows ids) made is so_far
+    (operations_kept s t held grows ids) made is so_far
 
 invariants_open : (held : List InvariantTree) (s : Scope) (o : RawInvariant) (rest : List RawInvariant) → invariants_from held s (o ∷ rest) ≡ (invariant_in (length held) s o >>= (λ y. invariants_from (held ++ y.0 ∷ []) y.1 rest))
 unfolding invariants_from
@@ -124,7 +124,7 @@ pub invariants_go : (s t : Stored) (scope next : Scope) (raw : List RawInvariant
     → invariants_from (map (invariant_tree s) held) scope (drop i raw) ≡ want → invariants_from (map (invariant_tree t) more) next (drop (i + 1) raw) ≡ want
 invariants_go s t scope next raw i o held more x want below item grows ids made is so_far =
     go_on invariants_from invariant_in invariants_open (invariant_tree s) (invariant_tree t) scope next raw i o held more x want below item
-      (invariants_kept s t held grows ids) made is so_far
+    (invariants_kept s t held grows ids) made is so_far
 
 -- ---- scripts
 

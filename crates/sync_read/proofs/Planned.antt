@@ -61,7 +61,7 @@ unfolding thens_from
 block_made s t b items i steps past are so_far =
     let line = (out-RawBlock b).end_line in
     let all : thens_from [] (map (step_of s) (out-RawBlock b).steps) ≡ Ok (map (then_of t) steps) =
-        ap (λ xs. thens_from [] (map (step_of s) xs)) (sym are) ∙ sym so_far ∙ at_drop_all (λ xs. thens_from (map (then_of t) steps) (map (step_of s) xs)) items i past in
+    ap (λ xs. thens_from [] (map (step_of s) xs)) (sym are) ∙ sym so_far ∙ at_drop_all (λ xs. thens_from (map (then_of t) steps) (map (step_of s) xs)) items i past in
     block_is s b ∙ ap (λ r. r >>= (λ xs. Ok (steps_before xs (End line)))) all ∙ ap Ok (sym (plan_is t steps line))
 
 -- a block one of whose steps is not made
@@ -72,9 +72,9 @@ block_stops Memory s b items i x held below item are so_far h = tt
 block_stops (Refused r) s b items i x held below item are so_far h =
     let rest = map (step_of s) (drop (i + 1) items) in
     let all : thens_from [] (map (step_of s) (out-RawBlock b).steps) ≡ Err r =
-        ap (λ xs. thens_from [] (map (step_of s) xs)) (sym are) ∙ sym so_far
-        ∙ ap (λ xs. thens_from held (map (step_of s) xs)) (front items i x below item)
-        ∙ ap (λ y. y >>= (λ z. thens_from (held ++ z ∷ []) rest)) h in
+    ap (λ xs. thens_from [] (map (step_of s) xs)) (sym are) ∙ sym so_far
+    ∙ ap (λ xs. thens_from held (map (step_of s) xs)) (front items i x below item)
+    ∙ ap (λ y. y >>= (λ z. thens_from (held ++ z ∷ []) rest)) h in
     block_is s b ∙ ap (λ y. y >>= (λ xs. Ok (steps_before xs (End (out-RawBlock b).end_line)))) all
 
 -- ---- kinds of steps
@@ -84,13 +84,13 @@ pub sum_made : (s : Scope) (t : Stored) (x : RawStep) (parts : List RawPart) (ps
 sum_made s t x parts ps is h =
     let line = (out-RawStep x).line in
     let said : raw_kind s (out-RawStep x).what line ≡ Ok (Sum line ps) =
-        ap (λ k. raw_kind s k line) (is ∙ sym (rolls-Sum parts))
-        ∙ ap (λ (f : Kind). f line) (fold-roll-RawStepKind Kind (Result Plan Refusal) (Result Then Refusal) (kind_in s) block_in step_in (RawStepKind-F.Sum parts))
-        ∙ ap (λ r. r >>= (λ ps. Ok (Sum line ps))) h in
+    ap (λ k. raw_kind s k line) (is ∙ sym (rolls-Sum parts))
+    ∙ ap (λ (f : Kind). f line) (fold-roll-RawStepKind Kind (Result Plan Refusal) (Result Then Refusal) (kind_in s) block_in step_in (RawStepKind-F.Sum parts))
+    ∙ ap (λ r. r >>= (λ ps. Ok (Sum line ps))) h in
     let meant : then_of t (roll-ScriptStep (record { what = made.Sum ps; line = line })) ≡ Sum line ps =
-        made_is t (made.Sum ps) line
-        ∙ ap (λ k. made_kind t k line) (sym (made-Sum ps))
-        ∙ ap (λ (f : ℕ → Then). f line) (fold-roll-StepKind (ℕ → Then) Plan Then (kind_plan t) block_plan step_plan (StepKind-F.Sum ps)) in
+    made_is t (made.Sum ps) line
+    ∙ ap (λ k. made_kind t k line) (sym (made-Sum ps))
+    ∙ ap (λ (f : ℕ → Then). f line) (fold-roll-StepKind (ℕ → Then) Plan Then (kind_plan t) block_plan step_plan (StepKind-F.Sum ps)) in
     step_is s x ∙ said ∙ ap Ok (sym meant)
 
 pub inst_made : (s : Scope) (t : Stored) (x : RawStep) (h : RawHyp) (es : List Expr) (n : Named) (y : HypName) (ids : List TermId) → (out-RawStep x).what ≡ raw.Inst h es n
@@ -99,14 +99,14 @@ pub inst_made : (s : Scope) (t : Stored) (x : RawStep) (h : RawHyp) (es : List E
 inst_made s t x h es n y ids is hyps terms =
     let line = (out-RawStep x).line in
     let said : raw_kind s (out-RawStep x).what line ≡ Ok (Inst line y (map (tree t) ids) n.name) =
-        ap (λ k. raw_kind s k line) (is ∙ sym (rolls-Inst h es n))
-        ∙ ap (λ (f : Kind). f line) (fold-roll-RawStepKind Kind (Result Plan Refusal) (Result Then Refusal) (kind_in s) block_in step_in (RawStepKind-F.Inst h es n))
-        ∙ ap (λ r. r >>= (λ x. numbers_from [] s es >>= (λ ts. Ok (Inst line x ts n.name)))) hyps
-        ∙ ap (λ r. r >>= (λ ts. Ok (Inst line y ts n.name))) terms in
+    ap (λ k. raw_kind s k line) (is ∙ sym (rolls-Inst h es n))
+    ∙ ap (λ (f : Kind). f line) (fold-roll-RawStepKind Kind (Result Plan Refusal) (Result Then Refusal) (kind_in s) block_in step_in (RawStepKind-F.Inst h es n))
+    ∙ ap (λ r. r >>= (λ x. numbers_from [] s es >>= (λ ts. Ok (Inst line x ts n.name)))) hyps
+    ∙ ap (λ r. r >>= (λ ts. Ok (Inst line y ts n.name))) terms in
     let meant : then_of t (roll-ScriptStep (record { what = made.Inst y ids n.name; line = line })) ≡ Inst line y (map (tree t) ids) n.name =
-        made_is t (made.Inst y ids n.name) line
-        ∙ ap (λ k. made_kind t k line) (sym (made-Inst y ids n.name))
-        ∙ ap (λ (f : ℕ → Then). f line) (fold-roll-StepKind (ℕ → Then) Plan Then (kind_plan t) block_plan step_plan (StepKind-F.Inst y ids n.name)) in
+    made_is t (made.Inst y ids n.name) line
+    ∙ ap (λ k. made_kind t k line) (sym (made-Inst y ids n.name))
+    ∙ ap (λ (f : ℕ → Then). f line) (fold-roll-StepKind (ℕ → Then) Plan Then (kind_plan t) block_plan step_plan (StepKind-F.Inst y ids n.name)) in
     step_is s x ∙ said ∙ ap Ok (sym meant)
 
 pub parts_made : (s : Scope) (t : Stored) (x : RawStep) (h : RawHyp) (a b : Named) (y : HypName) → (out-RawStep x).what ≡ raw.Parts h a b → hyp_in h ≡ Ok y
@@ -114,13 +114,13 @@ pub parts_made : (s : Scope) (t : Stored) (x : RawStep) (h : RawHyp) (a b : Name
 parts_made s t x h a b y is hyps =
     let line = (out-RawStep x).line in
     let said : raw_kind s (out-RawStep x).what line ≡ Ok (Parts line y a.name b.name) =
-        ap (λ k. raw_kind s k line) (is ∙ sym (rolls-Parts h a b))
-        ∙ ap (λ (f : Kind). f line) (fold-roll-RawStepKind Kind (Result Plan Refusal) (Result Then Refusal) (kind_in s) block_in step_in (RawStepKind-F.Parts h a b))
-        ∙ ap (λ r. r >>= (λ x. Ok (Parts line x a.name b.name))) hyps in
+    ap (λ k. raw_kind s k line) (is ∙ sym (rolls-Parts h a b))
+    ∙ ap (λ (f : Kind). f line) (fold-roll-RawStepKind Kind (Result Plan Refusal) (Result Then Refusal) (kind_in s) block_in step_in (RawStepKind-F.Parts h a b))
+    ∙ ap (λ r. r >>= (λ x. Ok (Parts line x a.name b.name))) hyps in
     let meant : then_of t (roll-ScriptStep (record { what = made.Parts y a.name b.name; line = line })) ≡ Parts line y a.name b.name =
-        made_is t (made.Parts y a.name b.name) line
-        ∙ ap (λ k. made_kind t k line) (sym (made-Parts y a.name b.name))
-        ∙ ap (λ (f : ℕ → Then). f line) (fold-roll-StepKind (ℕ → Then) Plan Then (kind_plan t) block_plan step_plan (StepKind-F.Parts y a.name b.name)) in
+    made_is t (made.Parts y a.name b.name) line
+    ∙ ap (λ k. made_kind t k line) (sym (made-Parts y a.name b.name))
+    ∙ ap (λ (f : ℕ → Then). f line) (fold-roll-StepKind (ℕ → Then) Plan Then (kind_plan t) block_plan step_plan (StepKind-F.Parts y a.name b.name)) in
     step_is s x ∙ said ∙ ap Ok (sym meant)
 
 pub split_made : (s : Scope) (t : Stored) (x : RawStep) (h : RawHyp) (n : Named) (b c : RawBlock) (y : HypName) (p q : Block) → (out-RawStep x).what ≡ raw.Split h n b c
@@ -129,15 +129,15 @@ pub split_made : (s : Scope) (t : Stored) (x : RawStep) (h : RawHyp) (n : Named)
 split_made s t x h n b c y p q is hyps one two =
     let line = (out-RawStep x).line in
     let said : raw_kind s (out-RawStep x).what line ≡ Ok (Split line y n.name (plan_of t p) (plan_of t q)) =
-        ap (λ k. raw_kind s k line) (is ∙ sym (rolls-Split h n b c))
-        ∙ ap (λ (f : Kind). f line) (fold-roll-RawStepKind Kind (Result Plan Refusal) (Result Then Refusal) (kind_in s) block_in step_in (RawStepKind-F.Split h n b c))
-        ∙ ap (λ r. r >>= (λ x. block_of s b >>= (λ p. block_of s c >>= (λ q. Ok (Split line x n.name p q))))) hyps
-        ∙ ap (λ r. r >>= (λ p. block_of s c >>= (λ q. Ok (Split line y n.name p q)))) one
-        ∙ ap (λ r. r >>= (λ q. Ok (Split line y n.name (plan_of t p) q))) two in
+    ap (λ k. raw_kind s k line) (is ∙ sym (rolls-Split h n b c))
+    ∙ ap (λ (f : Kind). f line) (fold-roll-RawStepKind Kind (Result Plan Refusal) (Result Then Refusal) (kind_in s) block_in step_in (RawStepKind-F.Split h n b c))
+    ∙ ap (λ r. r >>= (λ x. block_of s b >>= (λ p. block_of s c >>= (λ q. Ok (Split line x n.name p q))))) hyps
+    ∙ ap (λ r. r >>= (λ p. block_of s c >>= (λ q. Ok (Split line y n.name p q)))) one
+    ∙ ap (λ r. r >>= (λ q. Ok (Split line y n.name (plan_of t p) q))) two in
     let meant : then_of t (roll-ScriptStep (record { what = made.Split y n.name p q; line = line })) ≡ Split line y n.name (plan_of t p) (plan_of t q) =
-        made_is t (made.Split y n.name p q) line
-        ∙ ap (λ k. made_kind t k line) (sym (made-Split y n.name p q))
-        ∙ ap (λ (f : ℕ → Then). f line) (fold-roll-StepKind (ℕ → Then) Plan Then (kind_plan t) block_plan step_plan (StepKind-F.Split y n.name p q)) in
+    made_is t (made.Split y n.name p q) line
+    ∙ ap (λ k. made_kind t k line) (sym (made-Split y n.name p q))
+    ∙ ap (λ (f : ℕ → Then). f line) (fold-roll-StepKind (ℕ → Then) Plan Then (kind_plan t) block_plan step_plan (StepKind-F.Split y n.name p q)) in
     step_is s x ∙ said ∙ ap Ok (sym meant)
 
 pub cut_made : (s : Scope) (t : Stored) (x : RawStep) (e : Expr) (n : Named) (b : RawBlock) (f : FormId) (p : Block) → (out-RawStep x).what ≡ raw.Cut e n b
@@ -146,12 +146,12 @@ pub cut_made : (s : Scope) (t : Stored) (x : RawStep) (e : Expr) (n : Named) (b 
 cut_made s t x e n b f p is forms one =
     let line = (out-RawStep x).line in
     let said : raw_kind s (out-RawStep x).what line ≡ Ok (Cut line (formula t f) n.name (plan_of t p)) =
-        ap (λ k. raw_kind s k line) (is ∙ sym (rolls-Cut e n b))
-        ∙ ap (λ (f : Kind). f line) (fold-roll-RawStepKind Kind (Result Plan Refusal) (Result Then Refusal) (kind_in s) block_in step_in (RawStepKind-F.Cut e n b))
-        ∙ ap (λ r. r >>= (λ f. block_of s b >>= (λ p. Ok (Cut line f n.name p)))) forms
-        ∙ ap (λ r. r >>= (λ p. Ok (Cut line (formula t f) n.name p))) one in
+    ap (λ k. raw_kind s k line) (is ∙ sym (rolls-Cut e n b))
+    ∙ ap (λ (f : Kind). f line) (fold-roll-RawStepKind Kind (Result Plan Refusal) (Result Then Refusal) (kind_in s) block_in step_in (RawStepKind-F.Cut e n b))
+    ∙ ap (λ r. r >>= (λ f. block_of s b >>= (λ p. Ok (Cut line f n.name p)))) forms
+    ∙ ap (λ r. r >>= (λ p. Ok (Cut line (formula t f) n.name p))) one in
     let meant : then_of t (roll-ScriptStep (record { what = made.Cut f n.name p; line = line })) ≡ Cut line (formula t f) n.name (plan_of t p) =
-        made_is t (made.Cut f n.name p) line
-        ∙ ap (λ k. made_kind t k line) (sym (made-Cut f n.name p))
-        ∙ ap (λ (f : ℕ → Then). f line) (fold-roll-StepKind (ℕ → Then) Plan Then (kind_plan t) block_plan step_plan (StepKind-F.Cut f n.name p)) in
+    made_is t (made.Cut f n.name p) line
+    ∙ ap (λ k. made_kind t k line) (sym (made-Cut f n.name p))
+    ∙ ap (λ (f : ℕ → Then). f line) (fold-roll-StepKind (ℕ → Then) Plan Then (kind_plan t) block_plan step_plan (StepKind-F.Cut f n.name p)) in
     step_is s x ∙ said ∙ ap Ok (sym meant)

@@ -57,7 +57,7 @@ unfolding params_from
 params_are limited held s [] h = h
 params_are limited held s (n ∷ ns) h =
     after Symbols (add_param limited (length held) s n) (λ s2. params_from limited (held ++ symbol_of n.name ∷ []) s2 ns)
-      (λ s2. params_are limited (held ++ symbol_of n.name ∷ []) s2 ns (one_more IsTextName held (symbol_of n.name) h (symbol_is n.name)))
+    (λ s2. params_are limited (held ++ symbol_of n.name ∷ []) s2 ns (one_more IsTextName held (symbol_of n.name) h (symbol_is n.name)))
 
 -- ---- statements
 
@@ -84,7 +84,7 @@ place_is (place.Value p) s = after_ok Placed Patterned (pattern_in p s) _ (patte
 place_is (place.Key e) s = after Placed (term_of sort.Number e s) _ (λ t. tt)
 place_is (place.Entry e p) s =
     after Placed (term_of sort.Number e s) _ (λ k.
-      after_ok Placed Patterned (pattern_in p s) _ (pattern_is p s) (λ x h. bound_value (Some k) x.0 h))
+    after_ok Placed Patterned (pattern_in p s) _ (pattern_is p s) (λ x h. bound_value (Some k) x.0 h))
 
 abbrev Acted : ActTree × Scope → Type 0
 Acted x = BindsTextName (bound_by x.0)
@@ -95,7 +95,7 @@ FieldPlaced x = BindsTextName (binds x.1)
 field_place_is : (named : Named) (p : RawPlace) (s : Scope) → IfOk (field_place named p s) FieldPlaced
 field_place_is named p s =
     after FieldPlaced (field_in s named) _ (λ f.
-      after_ok FieldPlaced Placed (place_in p s) _ (place_is p s) (λ x h. h))
+    after_ok FieldPlaced Placed (place_in p s) _ (place_is p s) (λ x h. h))
 
 act_is : (a : RawActKind) (s : Scope) → IfOk (act_in a s) Acted
 unfolding bound_by
@@ -122,8 +122,8 @@ unfolding steps_from
 steps_are held s [] h = h
 steps_are held s (a ∷ more) h =
     after Stepped (within 64 (length held) a.line) _ (λ n.
-      after_ok Stepped Acted (act_in a.what s) _ (act_is a.what s) (λ x b.
-        steps_are (held ++ record { act = x.0; line = a.line } ∷ []) x.1 more (one_more StepBinds held (record { act = x.0; line = a.line }) h b)))
+    after_ok Stepped Acted (act_in a.what s) _ (act_is a.what s) (λ x b.
+    steps_are (held ++ record { act = x.0; line = a.line } ∷ []) x.1 more (one_more StepBinds held (record { act = x.0; line = a.line }) h b)))
 
 -- ---- operations and invariants
 
@@ -134,9 +134,9 @@ operation_is : (number : ℕ) (fs : List Field) (s : Scope) (o : RawOperation) �
 unfolding operation_in
 operation_is number fs s o =
     after Operated (begin_operation number fs s o) _ (λ s2.
-      after_ok Operated Symbols (params_from true [] s2 o.params) _ (params_are true [] s2 o.params tt) (λ ps p.
-        after_ok Operated Stepped (steps_from [] ps.1 o.acts) _ (steps_are [] ps.1 o.acts tt) (λ xs b.
-          record { params = p; bound = b })))
+    after_ok Operated Symbols (params_from true [] s2 o.params) _ (params_are true [] s2 o.params tt) (λ ps p.
+    after_ok Operated Stepped (steps_from [] ps.1 o.acts) _ (steps_are [] ps.1 o.acts tt) (λ xs b.
+    record { params = p; bound = b })))
 
 abbrev AllOperated : List OperationTree × Scope → Type 0
 AllOperated x = AllByRecursion HasTextNames x.0
@@ -146,7 +146,7 @@ unfolding operations_from
 operations_are fs held s [] h = h
 operations_are fs held s (o ∷ more) h =
     after_ok AllOperated Operated (operation_in (length held) fs s o) _ (operation_is (length held) fs s o) (λ x p.
-      operations_are fs (held ++ x.0 ∷ []) x.1 more (one_more HasTextNames held x.0 h p))
+    operations_are fs (held ++ x.0 ∷ []) x.1 more (one_more HasTextNames held x.0 h p))
 
 abbrev HasSymbols : InvariantTree → Type 0
 HasSymbols i = AllByRecursion IsTextName i.params
@@ -158,8 +158,8 @@ invariant_is : (number : ℕ) (s : Scope) (i : RawInvariant) → IfOk (invariant
 unfolding invariant_in
 invariant_is number s i =
     after Invariant (begin_invariant number s i) _ (λ s2.
-      after_ok Invariant Symbols (params_from false [] s2 i.params) _ (params_are false [] s2 i.params tt) (λ ps p.
-        after Invariant (form_of i.form ps.1) _ (λ f. p)))
+    after_ok Invariant Symbols (params_from false [] s2 i.params) _ (params_are false [] s2 i.params tt) (λ ps p.
+    after Invariant (form_of i.form ps.1) _ (λ f. p)))
 
 abbrev AllInvariant : List InvariantTree × Scope → Type 0
 AllInvariant x = AllByRecursion HasSymbols x.0
@@ -169,7 +169,7 @@ unfolding invariants_from
 invariants_are held s [] h = h
 invariants_are held s (i ∷ more) h =
     after_ok AllInvariant Invariant (invariant_in (length held) s i) _ (invariant_is (length held) s i) (λ x p.
-      invariants_are (held ++ x.0 ∷ []) x.1 more (one_more HasSymbols held x.0 h p))
+    invariants_are (held ++ x.0 ∷ []) x.1 more (one_more HasSymbols held x.0 h p))
 
 -- ---- machines
 
@@ -180,9 +180,9 @@ machine_is : (s : Scope) (m : RawMachine) → IfOk (machine_in s m) Made
 unfolding machine_in
 machine_is s m =
     after Made (fields_from [] s m.fields) _ (λ fs.
-      after_ok Made AllOperated (operations_from fs.0 [] fs.1 m.operations) _ (operations_are fs.0 [] fs.1 m.operations tt) (λ os p.
-        after_ok Made AllInvariant (invariants_from [] os.1 m.invariants) _ (invariants_are [] os.1 m.invariants tt) (λ is q.
-          record { ops = p; invariants = q })))
+    after_ok Made AllOperated (operations_from fs.0 [] fs.1 m.operations) _ (operations_are fs.0 [] fs.1 m.operations tt) (λ os p.
+    after_ok Made AllInvariant (invariants_from [] os.1 m.invariants) _ (invariants_are [] os.1 m.invariants tt) (λ is q.
+    record { ops = p; invariants = q })))
 
 pub machine_names : (s : Scope) (m : RawMachine) (x : MachineTree × Scope) → machine_in s m ≡ Ok x → AreTextNames x.0
 machine_names s m x e = IfOk-at_ok Made e (machine_is s m)

@@ -41,7 +41,7 @@ proof_is before s p o n c operation claim few =
     ap (λ r. r >>= (λ o. claim_in s p.claim >>= behind_claim before s p o)) operation
     ∙ ap (λ r. r >>= behind_claim before s p o) claim
     ∙ ap (λ r. r >>= (λ n. block_of (script_scope o c s) p.script.block >>= (λ b.
-        Ok (record { op = o; claim = c; plan = b; by_line = p.script.line; line = p.operation.line }, script_scope o c s)))) few
+    Ok (record { op = o; claim = c; plan = b; by_line = p.script.line; line = p.operation.line }, script_scope o c s)))) few
 
 pub proof_made : (before : ℕ) (s next : Scope) (p : RawProof) (o n : ℕ) (c : Claim) (plan : Plan) → operation_meaning (meaning_of s p.operation.name) p.operation.line ≡ Ok o → claim_in s p.claim ≡ Ok c
     → within 65536 before p.script.line ≡ Ok n → next ≡ script_scope o c s → block_of next p.script.block ≡ Ok plan

@@ -53,9 +53,9 @@ is_started mode.Property fs acts = true
 -- the scope of the operation with this number
 unfoldable pub begin_operation : ℕ → List Field → Scope → RawOperation → Result Scope Refusal
 begin_operation number fs s o = if is_started o.mode fs o.acts then (do
-    n ← within 64 number o.line
-    s2 ← declare s o.name (meaning.Operation number)
-    Ok (record s2 { owner = owner.Operation number })) else refuse N4 o.line
+  n ← within 64 number o.line
+  s2 ← declare s o.name (meaning.Operation number)
+  Ok (record s2 { owner = owner.Operation number })) else refuse N4 o.line
 
 unfoldable pub operation_in : ℕ → List Field → Scope → RawOperation → Result (OperationTree × Scope) Refusal
 operation_in number fs s o = do

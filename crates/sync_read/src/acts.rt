@@ -80,12 +80,7 @@ pub(crate) fn fields(
 }
 
 /// Makes a name the owner's parameter.
-fn add_param(
-    limited: bool,
-    before: usize,
-    scope: &mut Scope,
-    named: Named,
-) -> Result<(), Stop>
+fn add_param(limited: bool, before: usize, scope: &mut Scope, named: Named) -> Result<(), Stop>
     ensures { Gives (λ _. scope.new) result (add_param limited before scope.old named) }
 {
     scope.own(named)?;

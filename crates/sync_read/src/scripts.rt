@@ -13,9 +13,7 @@ use sync_base::{Rule, Stop};
 use sync_exprs::{Expr, Named};
 use sync_induct::Proof;
 use sync_names::{Meaning, Owner, Scope, Sort, form_of, refused, term_of};
-use sync_parse::{
-    RawBlock, RawClaim, RawHyp, RawPart, RawProof, RawStep, RawStepKind, Subject,
-};
+use sync_parse::{RawBlock, RawClaim, RawHyp, RawPart, RawProof, RawStep, RawStepKind, Subject};
 use sync_rules::Claim;
 use sync_terms::{Block, HypName, Part, Script, ScriptStep, StepKind, TermId, Terms};
 
@@ -135,40 +133,70 @@ fn step_of(
 {
     let line = raw.line;
     match &raw.what {
-        RawStepKind::Same => Ok(ScriptStep { what: StepKind::Same, line }),
-        RawStepKind::Sum(list) => Ok(ScriptStep { what: StepKind::Sum(parts(alloc, list.as_slice())?), line }),
+        RawStepKind::Same => Ok(ScriptStep {
+            what: StepKind::Same,
+            line,
+        }),
+        RawStepKind::Sum(list) => Ok(ScriptStep {
+            what: StepKind::Sum(parts(alloc, list.as_slice())?),
+            line,
+        }),
         RawStepKind::Inst(h, es, n) => {
             let h = hyp(*h)?;
             let es = numbers(alloc, terms, scope, es.as_slice())?;
-            Ok(ScriptStep { what: StepKind::Inst(h, es, n.name), line })
+            Ok(ScriptStep {
+                what: StepKind::Inst(h, es, n.name),
+                line,
+            })
         }
-        RawStepKind::Parts(h, a, b) => Ok(ScriptStep { what: StepKind::Parts(hyp(*h)?, a.name, b.name), line }),
+        RawStepKind::Parts(h, a, b) => Ok(ScriptStep {
+            what: StepKind::Parts(hyp(*h)?, a.name, b.name),
+            line,
+        }),
         RawStepKind::Split(h, n, b, c) => {
             let h = hyp(*h)?;
             let b = block(alloc, terms, scope, b)?;
             let c = block(alloc, terms, scope, c)?;
-            Ok(ScriptStep { what: StepKind::Split(h, n.name, b, c), line })
+            Ok(ScriptStep {
+                what: StepKind::Split(h, n.name, b, c),
+                line,
+            })
         }
         RawStepKind::Cut(e, n, b) => {
             let f = form_of(terms, scope, e)?;
             let b = block(alloc, terms, scope, b)?;
-            Ok(ScriptStep { what: StepKind::Cut(f, n.name, b), line })
+            Ok(ScriptStep {
+                what: StepKind::Cut(f, n.name, b),
+                line,
+            })
         }
         RawStepKind::Read(m, k, n) => {
             let (m, k) = map_and_number(terms, scope, m, k)?;
-            Ok(ScriptStep { what: StepKind::Read(m, k, n.name), line })
+            Ok(ScriptStep {
+                what: StepKind::Read(m, k, n.name),
+                line,
+            })
         }
         RawStepKind::Size(m, k, n) => {
             let (m, k) = map_and_number(terms, scope, m, k)?;
-            Ok(ScriptStep { what: StepKind::Size(m, k, n.name), line })
+            Ok(ScriptStep {
+                what: StepKind::Size(m, k, n.name),
+                line,
+            })
         }
         RawStepKind::Total(m, k, n) => {
             let (m, k) = map_and_number(terms, scope, m, k)?;
-            Ok(ScriptStep { what: StepKind::Total(m, k, n.name), line })
+            Ok(ScriptStep {
+                what: StepKind::Total(m, k, n.name),
+                line,
+            })
         }
         RawStepKind::Cong(m, j, k, n) => {
             let (m, j, k) = map_and_numbers(terms, scope, m, j, k)?;
-            Ok(ScriptStep { what: StepKind::Cong(m, j, k, n.name), line })
+            Ok(ScriptStep {
+                what: StepKind::Cong(m, j, k, n.name),
+                line,
+            })
         }
     }
 }

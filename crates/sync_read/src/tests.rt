@@ -123,7 +123,11 @@ fn refused_statements(rt: HostRuntime) -> Result<(), Fail> {
     ];
     for (act, line, rule) in wanted {
         let text = with_act(&rt, act)?;
-        assert_eq!(rt; refusal(rt.alloc(), text.as_slice()), Some((line, rule)), "at {rule:?} {line}");
+        assert_eq!(rt;
+            refusal(rt.alloc(), text.as_slice()),
+            Some((line, rule)),
+            "at {rule:?} {line}"
+        );
     }
     Ok(())
 }
@@ -131,21 +135,73 @@ fn refused_statements(rt: HostRuntime) -> Result<(), Fail> {
 #[test]
 fn refused_texts(rt: HostRuntime) {
     let wanted: [(&[u8], u32, Rule); 12] = [
-        (b"version 1; machine M { field f: map; field\nf: set; }", 2, Rule::N2),
-        (b"version 1; machine M { field f: map; transition\nf() { } }", 2, Rule::N2),
-        (b"version 1; machine M { property p() { } invariant\np(): 0 = 0; }", 2, Rule::N2),
-        (b"version 1; machine M { field f: map; invariant i(\nf): 0 = 0; }", 2, Rule::N2),
-        (b"version 1; machine M { field f: variable;\ninit a() {\ninit g = x; } }", 2, Rule::N4),
-        (b"version 1; machine M { field f: variable;\ninit a() { init f = 0; init f = 0; } }", 2, Rule::N4),
-        (b"version 1; machine M { transition t(a, b, c, d, e, f, g, h,\ni) { } }", 2, Rule::N5),
-        (b"version 1; machine M { transition t() { } } proofs {\nu keeps i by { same; } }", 2, Rule::N1),
-        (b"version 1; machine M { transition t() { } } proofs { t keeps\nt by { same; } }", 2, Rule::N1),
-        (b"version 1; machine M { transition t(p) { } } proofs { t at 1 by { cut p =\n$p as a { same; } same; } }", 2, Rule::N1),
-        (b"version 1; machine M { transition t() { } invariant i(p): 0 = p; } proofs { t keeps i by { cut $p = $\nq as a { same; } same; } }", 2, Rule::N1),
-        (b"version 1; machine M { transition t() { } invariant i(p): 0 = p; } proofs { t keeps i by { cut $p = 0 as a { sum 1 low\np; } same; } }", 2, Rule::N1),
+        (
+            b"version 1; machine M { field f: map; field\nf: set; }",
+            2,
+            Rule::N2,
+        ),
+        (
+            b"version 1; machine M { field f: map; transition\nf() { } }",
+            2,
+            Rule::N2,
+        ),
+        (
+            b"version 1; machine M { property p() { } invariant\np(): 0 = 0; }",
+            2,
+            Rule::N2,
+        ),
+        (
+            b"version 1; machine M { field f: map; invariant i(\nf): 0 = 0; }",
+            2,
+            Rule::N2,
+        ),
+        (
+            b"version 1; machine M { field f: variable;\ninit a() {\ninit g = x; } }",
+            2,
+            Rule::N4,
+        ),
+        (
+            b"version 1; machine M { field f: variable;\ninit a() { init f = 0; init f = 0; } }",
+            2,
+            Rule::N4,
+        ),
+        (
+            b"version 1; machine M { transition t(a, b, c, d, e, f, g, h,\ni) { } }",
+            2,
+            Rule::N5,
+        ),
+        (
+            b"version 1; machine M { transition t() { } } proofs {\nu keeps i by { same; } }",
+            2,
+            Rule::N1,
+        ),
+        (
+            b"version 1; machine M { transition t() { } } proofs { t keeps\nt by { same; } }",
+            2,
+            Rule::N1,
+        ),
+        (
+            b"version 1; machine M { transition t(p) { } } proofs { t at 1 by { cut p =\n$p as a { same; } same; } }",
+            2,
+            Rule::N1,
+        ),
+        (
+            b"version 1; machine M { transition t() { } invariant i(p): 0 = p; } proofs { t keeps i by { cut $p = $\nq as a { same; } same; } }",
+            2,
+            Rule::N1,
+        ),
+        (
+            b"version 1; machine M { transition t() { } invariant i(p): 0 = p; } proofs { t keeps i by { cut $p = 0 as a { sum 1 low\np; } same; } }",
+            2,
+            Rule::N1,
+        ),
     ];
     for (text, line, rule) in wanted {
-        assert_eq!(rt; refusal(rt.alloc(), text), Some((line, rule)), "at {rule:?} {line}");
+        assert_eq!(rt;
+            refusal(rt.alloc(), text),
+            Some((line, rule)),
+            "at {rule:?} {line}"
+        );
     }
 }
 
@@ -178,5 +234,42 @@ fn a_large_formula(rt: HostRuntime) -> Result<(), Fail> {
     text.extend_from_slice(half.as_slice())?;
     text.extend_from_slice(b"; }")?;
     assert_eq!(rt; refusal(rt.alloc(), text.as_slice()), Some((2, Rule::N5)));
+    Ok(())
+}
+
+/// A formula in so many brackets, with runs of 64 `!` before each, and chains of 64 `&&` and of 64 `||` behind it.
+fn nested(rt: &HostRuntime, brackets: u32) -> Result<Vec<u8>, Fail> {
+    let mut text = Vec::new(rt.alloc());
+    text.extend_from_slice(b"version 1; machine M { invariant i(p): ")?;
+    for _ in 0..brackets {
+        for _ in 0..64 {
+            text.push(b'!')?;
+        }
+        text.push(b'(')?;
+    }
+    text.extend_from_slice(b"p = 0")?;
+    for _ in 0..brackets {
+        text.push(b')')?;
+        for _ in 0..64 {
+            text.extend_from_slice(b"&&0=0")?;
+        }
+        for _ in 0..64 {
+            text.extend_from_slice(b"||0=0")?;
+        }
+    }
+    text.extend_from_slice(b"; }")?;
+    Ok(text)
+}
+
+#[test]
+fn deep_nesting(rt: HostRuntime) -> Result<(), Fail> {
+    let text = nested(&rt, 63)?;
+    let raw = parse(rt.alloc(), text.as_slice())
+        .ok()
+        .ok_or("the text keeps the grammar")?;
+    let text = resolve(rt.alloc(), raw)
+        .ok()
+        .ok_or("the text keeps the rules of names")?;
+    assert_eq!(rt; text.machine.invariants.len(), 1);
     Ok(())
 }

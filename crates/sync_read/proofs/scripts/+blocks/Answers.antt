@@ -10,21 +10,22 @@ use Rattle.sync_read.proofs.scripts.+blocks.Goals as goal
 pub block-loop-step-preserved : goal.block-loop-step-preserved
 block-loop-step-preserved t c =
     let l = c.loop-step in
-    let grows = c.step_of.ensures.keeps in
-    (λ s more. thens_go (step_of c.args.scope.now) (then_of s) c.as_slice-step-items.result.now l.step-index c.step-item.result l.steps c.push.new.self c.in_ok-made.made _
-        c.loop-step-test.true c.step-item.is (c.in_ok-made.ensures.exact s more) c.in_ok-push.ensures.ok (l.invariant.0 s (along _ _ s grows more))
-    , along _ _ _ l.invariant.1 grows)
+    let grows = c.step_of.ensures.keeps in (
+      λ s more. thens_go (step_of c.args.scope.now) (then_of s) c.as_slice-step-items.result.now l.step-index c.step-item.result l.steps c.push.new.self c.in_ok-made.made _
+          c.loop-step-test.true c.step-item.is (c.in_ok-made.ensures.exact s more) c.in_ok-push.ensures.ok (l.invariant.0 s (along _ _ s grows more)),
+      along _ _ _ l.invariant.1 grows,
+    )
 
 pub block-returns-in_err-made-clause-exact : goal.block-returns-in_err-made-clause-exact
 block-returns-in_err-made-clause-exact t c s more =
     let p = err_from_is_err_and c.from_residual.result c.from_residual.ensures.1 in
     rw (p.1, p.2) (block_stops c.in_err-made.field-0.0 c.args.scope.now c.args.raw.now c.as_slice-step-items.result.now c.loop-step.step-index c.step-item.result _
-      c.loop-step-test.true c.step-item.is c.as_slice-step-items.ensures (c.loop-step.invariant.0 s (along _ _ s c.step_of.ensures.keeps more)) (c.in_err-made.ensures.exact s more))
+    c.loop-step-test.true c.step-item.is c.as_slice-step-items.ensures (c.loop-step.invariant.0 s (along _ _ s c.step_of.ensures.keeps more)) (c.in_err-made.ensures.exact s more))
 
 pub block-returns-clause-exact : goal.block-returns-clause-exact
 block-returns-clause-exact t c s more =
     block_made c.args.scope.now s c.args.raw.now c.as_slice-step-items.result.now c.loop-step.step-index c.loop-step.steps
-      c.loop-step-test.false c.as_slice-step-items.ensures (c.loop-step.invariant.0 s more)
+    c.loop-step-test.false c.as_slice-step-items.ensures (c.loop-step.invariant.0 s more)
 
 pub step_of-returns-in_ok-parts-in-Sum-clause-exact : goal.step_of-returns-in_ok-parts-in-Sum-clause-exact
 step_of-returns-in_ok-parts-in-Sum-clause-exact t c s more =
@@ -33,7 +34,7 @@ step_of-returns-in_ok-parts-in-Sum-clause-exact t c s more =
 pub step_of-returns-in_ok-es-in-Inst-clause-exact : goal.step_of-returns-in_ok-es-in-Inst-clause-exact
 step_of-returns-in_ok-es-in-Inst-clause-exact t c s more =
     inst_made c.args.scope.now s c.args.raw.now c.in-Inst.h c.in-Inst.es c.in-Inst.n c.in_ok-h-in-Inst.h c.in_ok-es-in-Inst.es c.in-Inst.is c.in_ok-h-in-Inst.ensures
-      (ap (numbers_from [] c.args.scope.now) (sym c.as_slice-in-Inst.ensures) ∙ c.in_ok-es-in-Inst.ensures.exact s more)
+    (ap (numbers_from [] c.args.scope.now) (sym c.as_slice-in-Inst.ensures) ∙ c.in_ok-es-in-Inst.ensures.exact s more)
 
 pub step_of-returns-in_ok-hyp-in-Parts-clause-exact : goal.step_of-returns-in_ok-hyp-in-Parts-clause-exact
 step_of-returns-in_ok-hyp-in-Parts-clause-exact t c s more =
@@ -42,10 +43,10 @@ step_of-returns-in_ok-hyp-in-Parts-clause-exact t c s more =
 pub step_of-returns-in_ok-c-in-Split-clause-exact : goal.step_of-returns-in_ok-c-in-Split-clause-exact
 step_of-returns-in_ok-c-in-Split-clause-exact t c s more =
     split_made c.args.scope.now s c.args.raw.now c.in-Split.h c.in-Split.n c.in-Split.b c.in-Split.c c.in_ok-h-in-Split.h c.in_ok-b-in-Split.b c.in_ok-c-in-Split.c c.in-Split.is
-      c.in_ok-h-in-Split.ensures (c.in_ok-b-in-Split.ensures.exact s (along _ _ s c.block-in-Split.ensures.keeps more)) (c.in_ok-c-in-Split.ensures.exact s more)
+    c.in_ok-h-in-Split.ensures (c.in_ok-b-in-Split.ensures.exact s (along _ _ s c.block-in-Split.ensures.keeps more)) (c.in_ok-c-in-Split.ensures.exact s more)
 
 pub step_of-returns-in_ok-b-in-Cut-clause-exact : goal.step_of-returns-in_ok-b-in-Cut-clause-exact
 step_of-returns-in_ok-b-in-Cut-clause-exact t c s more =
     let kept = kept_formula c.form_of.new.terms s c.in_ok-f-in-Cut.f (along _ _ s c.block-in-Cut.ensures.keeps more) c.in_ok-f-in-Cut.ensures.id in
     cut_made c.args.scope.now s c.args.raw.now c.in-Cut.e c.in-Cut.n c.in-Cut.b c.in_ok-f-in-Cut.f c.in_ok-b-in-Cut.b c.in-Cut.is
-      (c.in_ok-f-in-Cut.ensures.exact ∙ ap Ok (sym kept)) (c.in_ok-b-in-Cut.ensures.exact s more)
+    (c.in_ok-f-in-Cut.ensures.exact ∙ ap Ok (sym kept)) (c.in_ok-b-in-Cut.ensures.exact s more)

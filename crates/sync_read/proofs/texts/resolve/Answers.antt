@@ -15,7 +15,7 @@ returns-in_err-list-clause-exact c =
     let after = c.machine.new.scope in
     let stopped = subst (λ raw. Stops e (proofs_from [] after raw)) c.as_slice.ensures (c.in_err-list.ensures.exact c.proofs.new.terms (stays c.proofs.new.terms)) in
     gives_stop _ c.from_residual-in_err-list.result e _ (cc)
-      (text_stops e c.in_ok-scope.scope c.args.raw (machine_tree c.in_ok-name.field-0, after) (c.in_ok-scope.ensures ∙ ap first_scope c.len.ensures) c.in_ok-name.ensures.exact stopped)
+    (text_stops e c.in_ok-scope.scope c.args.raw (machine_tree c.in_ok-name.field-0, after) (c.in_ok-scope.ensures ∙ ap first_scope c.len.ensures) c.in_ok-name.ensures.exact stopped)
 
 pub returns-clause-ids : goal.returns-clause-ids
 returns-clause-ids c = machine_stays c.proofs.new.terms c.in_ok-name.field-0 c.proofs.ensures.keeps c.in_ok-name.ensures.ids
