@@ -1,9 +1,8 @@
 -- Each parameter and bound name of a machine that was made is the symbol of a name.
-use Rattle.std.proofs.Common.{◌≡◌, ℕ, ◌+◌, ◌*◌, ◌<◌, min, Bool, true, false, List, [], ◌∷◌, ◌++◌, length, Option, Some, None, Result, Ok, Err, refl, arith}
+use Rattle.std.proofs.Common.{◌≡◌, ℕ, min, Bool, true, false, List, [], ◌∷◌, ◌++◌, length, Option, Some, None, Result, Ok, Err, refl, arith}
 use Rattle.std.specs.List.{AllByRecursion}
 use Rattle.std.specs.Result.{IfOk}
 use Rattle.std.proofs.lemmas.Result.{IfOk-at_ok}
-use Rattle.sync_base.specs.declared.stops.Refusal.{Refusal}
 use Rattle.sync_base.specs.Outcome.{◌>>=◌}
 use Rattle.sync_terms.specs.Trees.{Tree}
 use Rattle.sync_machine.specs.declared.fields.Field.{Field}
@@ -11,7 +10,6 @@ use Rattle.sync_machine.specs.Machines.{PatternTree, PlaceTree, ActTree, StepTre
 use Rattle.sync_machine.specs.Machines as machines
 use Rattle.sync_machine.specs.Statements.{binds}
 use Rattle.sync_machine.specs.Naming.{IsTextName, BindsTextName, bound_by, HasTextNames, AreTextNames}
-use Rattle.sync_exprs.specs.declared.expressions.Expr.{Expr}
 use Rattle.sync_exprs.specs.declared.naming.Named.{Named}
 use Rattle.sync_parse.specs.declared.trees.RawPattern.{RawPattern}
 use Rattle.sync_parse.specs.declared.trees.RawPattern.TheVariants as pattern

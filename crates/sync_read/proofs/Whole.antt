@@ -1,11 +1,10 @@
 -- Proofs, machines and texts: what they are once their parts are made.
-use Rattle.std.proofs.Common.{◌≡◌, ℕ, List, [], length, map, Result, Ok, Err, refl, sym, ap, subst, ◌∙◌}
-use Rattle.std.specs.List.{AllByRecursion}
+use Rattle.std.proofs.Common.{◌≡◌, ℕ, List, [], length, map, Result, Ok, Err, sym, ap, subst, ◌∙◌}
 use Rattle.sync_base.specs.declared.stops.Refusal.{Refusal}
 use Rattle.sync_base.specs.declared.stops.Stop.{Stop}
 use Rattle.sync_base.specs.declared.stops.Stop.TheVariants.{Refused, Memory}
 use Rattle.sync_base.specs.Outcome.{◌>>=◌, Stops, Gives}
-use Rattle.sync_terms.specs.Stored.{Stored, Extends, IsForm}
+use Rattle.sync_terms.specs.Stored.{Stored, Extends}
 use Rattle.sync_terms.specs.Plans.{Plan}
 use Rattle.sync_machine.specs.declared.machine.Machine.{Machine}
 use Rattle.sync_machine.specs.Machines.{MachineTree, OperationTree, InvariantTree}
@@ -19,7 +18,7 @@ use Rattle.sync_names.specs.Scopes.{meaning_of}
 use Rattle.sync_read.specs.Acts.{within}
 use Rattle.sync_read.specs.Resolving.{machine_in}
 use Rattle.sync_read.specs.Scripts.{ProofTree, operation_meaning, claim_in, script_scope, block_of, proof_in, proofs_from}
-use Rattle.sync_read.specs.Texts.{TextTree, first_scope, resolved}
+use Rattle.sync_read.specs.Texts.{first_scope, resolved}
 use Rattle.sync_read.proofs.Growing.{operations_kept, operations_stay, invariants_kept, invariants_stay}
 use Rattle.sync_read.proofs.Symbols.{machine_names}
 
