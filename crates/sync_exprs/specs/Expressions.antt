@@ -17,9 +17,11 @@ use Rattle.sync_exprs.specs.declared.expressions.Special.{Special}
 use Rattle.sync_exprs.specs.declared.expressions.Special.TheVariants as special
 use Rattle.sync_exprs.specs.declared.expressions.Function.{Function}
 use Rattle.sync_exprs.specs.declared.expressions.Function.TheVariants as function
+use Rattle.sync_exprs.specs.declared.expressions.Level.{Level}
+use Rattle.sync_exprs.specs.declared.expressions.Level.TheVariants as level
 use Rattle.sync_exprs.specs.declared.expressions.Operator.{Operator}
 use Rattle.sync_exprs.specs.declared.expressions.Operator.TheVariants as operator
-use Rattle.sync_exprs.specs.Lexemes.{Read, Reader, within, first_line, sign_at, name_at, number_at, listed, in_round}
+use Rattle.sync_exprs.specs.Lexemes.{Read, Reader, within, first_line, sign_at, name_at, number_at, listed, followed, in_round}
 
 -- a number of the text, which is at most 2 ^ 127 - 1
 abbrev pub signed : ℕ → ℤ
@@ -51,25 +53,34 @@ function_of s =
     else if is_same s sign.Held then Some function.Held
     else None
 
+abbrev pub operator_if : Sign → Operator → Word → Option Operator
+operator_if s o w = if is_sign w s then Some o else None
+
 unfoldable pub relation_of : Word → Option Operator
 relation_of w =
     if is_sign w sign.Equal then Some operator.Equal
     else if is_sign w sign.NotEqual then Some operator.NotEqual
     else if is_sign w sign.AtMost then Some operator.AtMost
-    else if is_sign w sign.Below then Some operator.Below
-    else None
+    else operator_if sign.Below operator.Below w
 
 unfoldable pub sum_of : Word → Option Operator
-sum_of w =
-    if is_sign w sign.Plus then Some operator.Plus
-    else if is_sign w sign.Minus then Some operator.Minus
-    else None
+sum_of w = if is_sign w sign.Plus then Some operator.Plus else operator_if sign.Minus operator.Minus w
 
-abbrev pub and_of : Word → Option Operator
-and_of w = if is_sign w sign.And then Some operator.And else None
+-- the operator of a level that a word is
+unfoldable pub operator_of : Level → Word → Option Operator
+operator_of level.Implies w = operator_if sign.Implies operator.Implies w
+operator_of level.Or w = operator_if sign.Or operator.Or w
+operator_of level.And w = operator_if sign.And operator.And w
+operator_of level.Relation w = relation_of w
+operator_of level.Sum w = sum_of w
 
-abbrev pub or_of : Word → Option Operator
-or_of w = if is_sign w sign.Or then Some operator.Or else None
+-- the operator of a level that the words begin with, and the words behind it
+unfoldable pub operator_in : Level → List Word → Option (Operator × List Word)
+operator_in level [] = None
+operator_in level (w ∷ ws) = elim (operator_of level w) [
+  | None ↦ None
+  | Some o ↦ Some (o, ws)
+]
 
 -- the number of a product that begins here
 abbrev pub number_in : What → Option ℕ
@@ -94,20 +105,26 @@ whole read ts = do
 unfoldable pub begins_operand : Sign → Bool
 begins_operand s = is_same s sign.Nil || is_same s sign.Dollar || is_same s sign.OpenRound || is_some (special_of s) || is_some (function_of s)
 
-abbrev pub word_operand : Reader ExprKind → ℕ → ℕ → Option Special → Option Function → Reader ExprKind
-word_operand inner left line (Some word) f ws = Ok (kind.Special word line, ws)
-word_operand inner left line None (Some f) ws = do
-  x ← in_round left (listed (whole inner) sign.CloseRound) ws
-  Ok (kind.Call f line x.0, x.1)
-word_operand inner left line None None ws = Err (Wanted line)
+-- an operand that begins with a word: a value, or a function with its arguments
+unfoldable pub word_operand : Reader ExprKind → ℕ → Sign → ℕ → Reader ExprKind
+word_operand inner left s line ws = elim (special_of s) [
+  | Some word ↦ Ok (kind.Special word line, ws)
+  | None ↦ elim (function_of s) [
+    | Some f ↦ (do
+      x ← in_round left (listed (whole inner) sign.CloseRound) ws
+      Ok (kind.Call f line x.0, x.1))
+    | None ↦ Err (Wanted line)
+  ]
+]
 
-abbrev pub bracketed : Reader ExprKind → ℕ → Reader ExprKind
+-- the rest of an operand in brackets
+unfoldable pub bracketed : Reader ExprKind → ℕ → Reader ExprKind
 bracketed inner left ws = do
   x ← inner ws
-  e ← sign_at (left - 1) sign.CloseRound x.1
-  Ok (x.0, e.1)
+  followed x.0 (left - 1) sign.CloseRound x.1
 
-abbrev pub param : ℕ → ℕ → Reader ExprKind
+-- the name behind `$`
+unfoldable pub param : ℕ → ℕ → Reader ExprKind
 param left line ws = do
   x ← name_at left ws
   Ok (kind.Param line x.0, x.1)
@@ -118,7 +135,7 @@ sign_operand inner left s line ws = if begins_operand s then within left line (
     if is_same s sign.Nil then Ok (kind.Nil, ws)
     else if is_same s sign.Dollar then param left line ws
     else if is_same s sign.OpenRound then bracketed inner left ws
-    else word_operand inner left line (special_of s) (function_of s) ws) else Err (Wanted line)
+    else word_operand inner left s line ws) else Err (Wanted line)
 
 abbrev pub operand_said : Reader ExprKind → ℕ → ℕ → List Word → What → Read ExprKind
 operand_said inner left line ws (what.Number n) = within left line (Ok (kind.Number (signed n), ws))
@@ -131,18 +148,19 @@ operand inner left (w ∷ ws) = operand_said inner left w.line ws w.what
 
 -- ---- prefix signs
 
--- a prefix sign before what `again` reads, where it is not one too many
-abbrev pub prefixed : ℕ → Bool → Reader ExprKind → (Expr → ExprKind) → ℕ → Reader ExprKind
-prefixed left many again make line ws = if (left == 0) || many then Err (Deep line) else (do
-  x ← whole again ws
-  Ok (make x.0, x.1))
+unfoldable pub is_prefix : Word → Bool
+is_prefix w = is_sign w sign.Bang || is_sign w sign.Minus
 
+-- an expression behind a prefix sign
+unfoldable pub prefixed : Word → Expr → ExprKind
+prefixed w e = if is_sign w sign.Bang then kind.Not e else kind.Minus e
+
+-- an operand, or a prefix sign, where it is not one too many, before what `again` reads
 abbrev pub unary_with : Reader ExprKind → ℕ → Bool → Reader ExprKind → Reader ExprKind
 unary_with inner left many again [] = Err Ended
-unary_with inner left many again (w ∷ ws) =
-    if is_sign w sign.Bang then prefixed left many again kind.Not w.line ws
-    else if is_sign w sign.Minus then prefixed left many again kind.Minus w.line ws
-    else operand inner left (w ∷ ws)
+unary_with inner left many again (w ∷ ws) = if is_prefix w then (if (left == 0) || many then Err (Deep w.line) else (do
+  x ← whole again ws
+  Ok (prefixed w x.0, x.1))) else operand inner left (w ∷ ws)
 
 -- an operand behind a run of at most so many prefix signs
 unfoldable pub unary : Reader ExprKind → ℕ → ℕ → Reader ExprKind
@@ -161,36 +179,41 @@ times inner left (Some factor) ts = do
 unfoldable pub product : Reader ExprKind → ℕ → Reader ExprKind
 product inner left ts = times inner left (factor_of ts) ts
 
--- ---- chains
+-- ---- operators
+
+-- the side behind an operator, and what stands before it
+abbrev pub joined : Reader ExprKind → Operator → Expr → Reader ExprKind
+joined side o first ts = do
+  x ← whole side ts
+  Ok (kind.Two o first x.0, x.1)
 
 -- the rest of a chain from the left: what was read stands at a line, and at most so many operators may come
-unfoldable pub chain : (Word → Option Operator) → Reader ExprKind → ℕ → ℕ → ExprKind → Reader ExprKind
-chain op item line more held [] = Ok (held, [])
-chain op item line zero held (w ∷ ws) = if is_some (op w) then Err (Deep w.line) else Ok (held, w ∷ ws)
-chain op item line (suc more) held (w ∷ ws) = elim (op w) [
-  | None ↦ Ok (held, w ∷ ws)
+unfoldable pub chain : Level → Reader ExprKind → ℕ → ℕ → ExprKind → Reader ExprKind
+chain level side line zero held ts = elim (operator_in level ts) [
+  | None ↦ Ok (held, ts)
+  | Some o ↦ Err (Deep (first_line ts))
+]
+chain level side line (suc more) held ts = elim (operator_in level ts) [
+  | None ↦ Ok (held, ts)
   | Some o ↦ (do
-    x ← whole item ws
-    chain op item line more (kind.Two o (placed held line) x.0) x.1)
+    x ← joined side o.0 (placed held line) o.1
+    chain level side line more x.0 x.1)
 ]
 
--- items with at most 64 operators between, from the left
-abbrev pub chained : (Word → Option Operator) → Reader ExprKind → Reader ExprKind
-chained op item ts = do
-  x ← item ts
-  chain op item (first_line ts) 64 x.0 x.1
+-- sides with at most 64 operators of a level between, from the left
+abbrev pub chained : Level → Reader ExprKind → Reader ExprKind
+chained level side ts = do
+  x ← side ts
+  chain level side (first_line ts) 64 x.0 x.1
 
 unfoldable pub sums : Reader ExprKind → ℕ → Reader ExprKind
-sums inner left ts = chained sum_of (product inner left) ts
+sums inner left ts = chained level.Sum (product inner left) ts
 
 -- a second side where a relation comes
 abbrev pub related : Reader ExprKind → ℕ → ExprKind → Reader ExprKind
-related item line held [] = Ok (held, [])
-related item line held (w ∷ ws) = elim (relation_of w) [
-  | None ↦ Ok (held, w ∷ ws)
-  | Some o ↦ (do
-    x ← whole item ws
-    Ok (kind.Two o (placed held line) x.0, x.1))
+related side line held ts = elim (operator_in level.Relation ts) [
+  | None ↦ Ok (held, ts)
+  | Some o ↦ joined side o.0 (placed held line) o.1
 ]
 
 unfoldable pub relation : Reader ExprKind → ℕ → Reader ExprKind
@@ -199,21 +222,19 @@ relation inner left ts = do
   related (sums inner left) (first_line ts) x.0 x.1
 
 unfoldable pub ands : Reader ExprKind → ℕ → Reader ExprKind
-ands inner left ts = chained and_of (relation inner left) ts
+ands inner left ts = chained level.And (relation inner left) ts
 
 unfoldable pub ors : Reader ExprKind → ℕ → Reader ExprKind
-ors inner left ts = chained or_of (ands inner left) ts
+ors inner left ts = chained level.Or (ands inner left) ts
 
 -- what follows from it, where `==>` comes and is not one too many
 abbrev pub implied : Bool → Reader ExprKind → ℕ → ExprKind → Reader ExprKind
-implied many right line held [] = Ok (held, [])
-implied many right line held (w ∷ ws) =
-    if is_sign w sign.Implies then (if many then Err (Deep w.line) else (do
-      x ← whole right ws
-      Ok (kind.Two operator.Implies (placed held line) x.0, x.1)))
-    else Ok (held, w ∷ ws)
+implied many right line held ts = elim (operator_in level.Implies ts) [
+  | None ↦ Ok (held, ts)
+  | Some o ↦ (if many then Err (Deep (first_line ts)) else joined right o.0 (placed held line) o.1)
+]
 
--- items with at most so many `==>` between, from the right
+-- disjunctions with at most so many `==>` between, from the right
 unfoldable pub implies : Reader ExprKind → ℕ → ℕ → Reader ExprKind
 implies inner left zero ts = do
   x ← ors inner left ts
@@ -221,6 +242,14 @@ implies inner left zero ts = do
 implies inner left (suc run) ts = do
   x ← ors inner left ts
   implied false (implies inner left run) (first_line ts) x.0 x.1
+
+-- what stands beside the operators of a level
+abbrev pub side : Level → Reader ExprKind → ℕ → Reader ExprKind
+side level.Implies inner left = ors inner left
+side level.Or inner left = ands inner left
+side level.And inner left = relation inner left
+side level.Relation inner left = sums inner left
+side level.Sum inner left = product inner left
 
 -- ---- expressions
 

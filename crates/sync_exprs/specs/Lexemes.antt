@@ -97,13 +97,18 @@ series item ts = do
 unfoldable pub listed : {A : Type 0} → Reader A → Sign → Reader (List A)
 listed item close ts = if begins_with close ts then Ok ([], ts) else series item ts
 
+-- a value that was read, where this sign follows
+unfoldable pub followed : {A : Type 0} → A → ℕ → Sign → Reader A
+followed x left s ts = do
+  e ← sign_at left s ts
+  Ok (x, e.1)
+
 -- what stands in round brackets
 unfoldable pub in_round : {A : Type 0} → ℕ → Reader A → Reader A
 in_round left item ts = do
   o ← sign_at left sign.OpenRound ts
   x ← item o.1
-  e ← sign_at (left - 1) sign.CloseRound x.1
-  Ok (x.0, e.1)
+  followed x.0 (left - 1) sign.CloseRound x.1
 
 -- names with commas between, in round brackets
 unfoldable pub names_at : ℕ → Reader (List Named)

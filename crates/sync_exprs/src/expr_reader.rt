@@ -1,13 +1,19 @@
 //! Reading expressions. `left` is 65 less the number of brackets that are open.
 ghost use Rattle.std.specs.Prelude.{◌≡◌, ◌<◌, IfOk};
+ghost use Rattle.sync_tokens.specs.declared.signs.Sign.TheVariants as sign;
 ghost use Rattle.sync_exprs.specs.Faults.{Reads};
-ghost use Rattle.sync_exprs.specs.Lexemes.{series};
-ghost use Rattle.sync_exprs.specs.Expressions.{signed, placed, special_of, function_of, begins_operand, relation_of, sum_of, factor_of, whole, sign_operand, operand, unary, product, sums, relation, ands, ors, implies, inside, expr_at, exprs_at};
+ghost use Rattle.sync_exprs.specs.Lexemes.{listed};
+ghost use Rattle.sync_exprs.specs.Expressions.{signed, placed, prefixed, param, bracketed, whole, word_operand, sign_operand, operand, unary, product, joined, side, chained, relation, implies, inside, expr_at, exprs_at};
 
-use crate::expressions::{Expr, ExprKind, Function, Operator, Special};
+use crate::expressions::{Expr, ExprKind, Level, Operator};
 use crate::faults::{Fault, Halt};
-use crate::lexemes::{Read, begins_with, deep, first_line, name, next, number, sign, wanted};
+use crate::lexemes::{
+    Read, begins_with, deep, first_line, followed, name, next, number, sign, wanted,
+};
 use crate::naming::Named;
+use crate::operators::{
+    begins_operand, factor_of, function_of, is_prefix, operator_in, special_of,
+};
 use sqlite_items::{Boxed, Items};
 use std::alloc::{AllocError, Global};
 use sync_tokens::{LARGEST, Sign, What, Word};
@@ -28,119 +34,25 @@ fn placed(alloc: Global, what: ExprKind, line: u32) -> Result<Boxed<Expr>, Alloc
     Boxed::new(alloc, Expr { what, line })
 }
 
-/// Two expressions with an operator between, each with its line.
-fn two(
-    alloc: Global,
-    operator: Operator,
-    first: ExprKind,
-    line: u32,
-    second: ExprKind,
-    second_line: u32,
-) -> Result<ExprKind, AllocError>
-    ensures { IfOk result (λ e. e ≡ ExprKind.Two operator (placed first line) (placed second second_line)) }
+/// An expression behind a prefix sign.
+#[tactic(auto, unfolding(crate::specs::Expressions::prefixed))]
+fn prefixed(sign: Word, inner: Boxed<Expr>) -> ExprKind
+    ensures { result ≡ prefixed sign inner }
 {
-    let first = placed(alloc, first, line)?;
-    let second = placed(alloc, second, second_line)?;
-    Ok(ExprKind::Two(operator, first, second))
-}
-
-/// The word that has a value at some places.
-#[tactic(auto, unfolding(crate::specs::Expressions::special_of))]
-pub fn special_of(sign: Sign) -> Option<Special>
-    ensures { result ≡ special_of sign }
-{
-    if sign == Sign::Value {
-        Some(Special::Value)
-    } else if sign == Sign::Index {
-        Some(Special::Index)
-    } else if sign == Sign::Old {
-        Some(Special::Old)
-    } else if sign == Sign::New {
-        Some(Special::New)
-    } else if sign == Sign::Wrap {
-        Some(Special::Wrap)
+    if sign.is(Sign::Bang) {
+        ExprKind::Not(inner)
     } else {
-        None
+        ExprKind::Minus(inner)
     }
 }
 
-#[tactic(auto, unfolding(crate::specs::Expressions::function_of))]
-fn function_of(sign: Sign) -> Option<Function>
-    ensures { result ≡ function_of sign }
+/// The name behind `$`, which stands at a line.
+#[tactic(auto, unfolding(crate::specs::Expressions::param))]
+fn param<'a>(words: &'a [Word], left: u32, line: u32) -> Read<'a, ExprKind>
+    ensures { Reads (λ x. (x.0, x.1.now)) result (param left line words.now) }
 {
-    if sign == Sign::Get {
-        Some(Function::Get)
-    } else if sign == Sign::Has {
-        Some(Function::Has)
-    } else if sign == Sign::Size {
-        Some(Function::Size)
-    } else if sign == Sign::Sum {
-        Some(Function::Sum)
-    } else if sign == Sign::Put {
-        Some(Function::Put)
-    } else if sign == Sign::Del {
-        Some(Function::Del)
-    } else if sign == Sign::Bump {
-        Some(Function::Bump)
-    } else if sign == Sign::Held {
-        Some(Function::Held)
-    } else {
-        None
-    }
-}
-
-#[tactic(auto, unfolding(crate::specs::Expressions::relation_of))]
-fn relation_of(word: Word) -> Option<Operator>
-    ensures { result ≡ relation_of word }
-{
-    if word.is(Sign::Equal) {
-        Some(Operator::Equal)
-    } else if word.is(Sign::NotEqual) {
-        Some(Operator::NotEqual)
-    } else if word.is(Sign::AtMost) {
-        Some(Operator::AtMost)
-    } else if word.is(Sign::Below) {
-        Some(Operator::Below)
-    } else {
-        None
-    }
-}
-
-#[tactic(auto, unfolding(crate::specs::Expressions::sum_of))]
-fn sum_of(word: Word) -> Option<Operator>
-    ensures { result ≡ sum_of word }
-{
-    if word.is(Sign::Plus) {
-        Some(Operator::Plus)
-    } else if word.is(Sign::Minus) {
-        Some(Operator::Minus)
-    } else {
-        None
-    }
-}
-
-#[tactic(auto, unfolding(crate::specs::Expressions::begins_operand))]
-fn begins_operand(sign: Sign) -> bool
-    ensures { result ≡ begins_operand sign }
-{
-    sign == Sign::Nil
-        || sign == Sign::Dollar
-        || sign == Sign::OpenRound
-        || special_of(sign).is_some()
-        || function_of(sign).is_some()
-}
-
-/// The number of a product that begins here.
-#[tactic(auto, unfolding(crate::specs::Expressions::factor_of))]
-fn factor_of(words: &[Word]) -> Option<u128>
-    ensures { result ≡ factor_of words.now }
-{
-    let (word, rest) = next(words)?;
-    let (star, _) = next(rest)?;
-    match word.what {
-        What::Number(number) if star.is(Sign::Star) => Some(number),
-        _ => None,
-    }
+    let (name, rest) = name(words, left)?;
+    Ok((ExprKind::Param(line, name), rest))
 }
 
 /// An expression inside of brackets that open at a level.
@@ -155,13 +67,16 @@ fn expr_inside<'a>(alloc: Global, words: &'a [Word], left: u32) -> Read<'a, Expr
     Ok((Expr { what, line }, rest))
 }
 
-/// Expressions with commas between, at least one, inside of brackets that open at a level.
+/// Expressions with commas between, or nothing where a bracket closes, inside of brackets that open at a level.
 #[cycle(expr)]
-#[tactic(auto, unfolding(crate::specs::Lexemes::series, crate::specs::Lexemes::behind_commas))]
-fn expr_series<'a>(alloc: Global, words: &'a [Word], left: u32) -> Read<'a, Items<Expr>>
+#[tactic(auto, unfolding(crate::specs::Lexemes::listed, crate::specs::Lexemes::series, crate::specs::Lexemes::behind_commas))]
+fn expr_list<'a>(alloc: Global, words: &'a [Word], left: u32) -> Read<'a, Items<Expr>>
     requires { 0 < left }
-    ensures { Reads (λ x. (x.0, x.1.now)) result (series (whole (inside left)) words.now) }
+    ensures { Reads (λ x. (x.0, x.1.now)) result (listed (whole (inside left)) sign.CloseRound words.now) }
 {
+    if begins_with(words, Sign::CloseRound) {
+        return Ok((Items::new(alloc), words));
+    }
     let (first, mut rest) = expr_inside(alloc, words, left)?;
     let mut held = Items::new(alloc);
     held.push(first)?;
@@ -178,9 +93,53 @@ fn expr_series<'a>(alloc: Global, words: &'a [Word], left: u32) -> Read<'a, Item
     Ok((held, rest))
 }
 
+/// Expressions with commas between, or nothing, in round brackets.
+#[cycle(expr)]
+#[tactic(auto, unfolding(crate::specs::Lexemes::in_round))]
+pub fn exprs<'a>(alloc: Global, words: &'a [Word], left: u32) -> Read<'a, Items<Expr>>
+    ensures { Reads (λ x. (x.0, x.1.now)) result (exprs_at left words.now) }
+{
+    let (_, rest) = sign(words, left, Sign::OpenRound)?;
+    let (list, rest) = expr_list(alloc, rest, left)?;
+    followed(list, rest, left - 1, Sign::CloseRound)
+}
+
+/// The rest of an operand in brackets.
+#[cycle(expr)]
+#[tactic(auto, using(crate::proofs::Inside::inside_is), unfolding(crate::specs::Expressions::bracketed))]
+fn bracketed<'a>(alloc: Global, words: &'a [Word], left: u32) -> Read<'a, ExprKind>
+    requires { 0 < left }
+    ensures { Reads (λ x. (x.0, x.1.now)) result (bracketed (inside left) left words.now) }
+{
+    let (what, rest) = implies(alloc, words, left - 1, CHAIN)?;
+    followed(what, rest, left - 1, Sign::CloseRound)
+}
+
+/// An operand that begins with this word: a value, or a function with its arguments.
+#[cycle(expr)]
+#[tactic(auto, unfolding(crate::specs::Expressions::word_operand))]
+fn word_operand<'a>(
+    alloc: Global,
+    first: Sign,
+    line: u32,
+    words: &'a [Word],
+    left: u32,
+) -> Read<'a, ExprKind>
+    ensures { Reads (λ x. (x.0, x.1.now)) result (word_operand (inside left) left first line words.now) }
+{
+    if let Some(word) = special_of(first) {
+        return Ok((ExprKind::Special(word, line), words));
+    }
+    let Some(function) = function_of(first) else {
+        return Err(wanted(line));
+    };
+    let (list, rest) = exprs(alloc, words, left)?;
+    Ok((ExprKind::Call(function, line, list), rest))
+}
+
 /// An operand that begins with this sign or reserved word; the words are those behind it.
 #[cycle(expr)]
-#[tactic(auto, using(crate::proofs::Inside::inside_is), unfolding(crate::specs::Expressions::sign_operand, crate::specs::Lexemes::in_round, crate::specs::Lexemes::listed))]
+#[tactic(auto, unfolding(crate::specs::Expressions::sign_operand))]
 fn sign_operand<'a>(
     alloc: Global,
     first: Sign,
@@ -197,32 +156,13 @@ fn sign_operand<'a>(
         return Err(deep(line));
     }
     if first == Sign::Nil {
-        return Ok((ExprKind::Nil, words));
-    }
-    if first == Sign::Dollar {
-        let (param, rest) = name(words, left)?;
-        return Ok((ExprKind::Param(line, param), rest));
-    }
-    if first == Sign::OpenRound {
-        let (what, rest) = implies(alloc, words, left - 1, CHAIN)?;
-        let (_, rest) = sign(rest, left - 1, Sign::CloseRound)?;
-        return Ok((what, rest));
-    }
-    if let Some(word) = special_of(first) {
-        return Ok((ExprKind::Special(word, line), words));
-    }
-    match function_of(first) {
-        Some(function) => {
-            let (_, rest) = sign(words, left, Sign::OpenRound)?;
-            let (list, rest) = if begins_with(rest, Sign::CloseRound) {
-                (Items::new(alloc), rest)
-            } else {
-                expr_series(alloc, rest, left)?
-            };
-            let (_, rest) = sign(rest, left - 1, Sign::CloseRound)?;
-            Ok((ExprKind::Call(function, line, list), rest))
-        }
-        None => Err(wanted(line)),
+        Ok((ExprKind::Nil, words))
+    } else if first == Sign::Dollar {
+        param(words, left, line)
+    } else if first == Sign::OpenRound {
+        bracketed(alloc, words, left)
+    } else {
+        word_operand(alloc, first, line, words, left)
     }
 }
 
@@ -241,6 +181,16 @@ fn operand<'a>(alloc: Global, words: &'a [Word], left: u32) -> Read<'a, ExprKind
     }
 }
 
+/// An operand behind at most `run` prefix signs, as an expression.
+#[cycle(expr)]
+fn whole_unary<'a>(alloc: Global, words: &'a [Word], left: u32, run: u32) -> Read<'a, Boxed<Expr>>
+    ensures { Reads (λ x. (x.0, x.1.now)) result (whole (unary (inside left) left run) words.now) }
+{
+    let line = first_line(words);
+    let (what, rest) = unary(alloc, words, left, run)?;
+    Ok((placed(alloc, what, line)?, rest))
+}
+
 /// An operand behind at most `run` prefix signs.
 #[cycle(expr)]
 #[tactic(auto, unfolding(crate::specs::Expressions::unary))]
@@ -248,23 +198,14 @@ fn unary<'a>(alloc: Global, words: &'a [Word], left: u32, run: u32) -> Read<'a, 
     ensures { Reads (λ x. (x.0, x.1.now)) result (unary (inside left) left run words.now) }
 {
     let (word, rest) = next(words).ok_or(Halt::Fault(Fault::Ended))?;
-    if word.is(Sign::Bang) {
-        if left == 0 || run == 0 {
-            return Err(deep(word.line));
-        }
-        let line = first_line(rest);
-        let (what, rest) = unary(alloc, rest, left, run - 1)?;
-        return Ok((ExprKind::Not(placed(alloc, what, line)?), rest));
+    if !is_prefix(word) {
+        return operand(alloc, words, left);
     }
-    if word.is(Sign::Minus) {
-        if left == 0 || run == 0 {
-            return Err(deep(word.line));
-        }
-        let line = first_line(rest);
-        let (what, rest) = unary(alloc, rest, left, run - 1)?;
-        return Ok((ExprKind::Minus(placed(alloc, what, line)?), rest));
+    if left == 0 || run == 0 {
+        return Err(deep(word.line));
     }
-    operand(alloc, words, left)
+    let (inner, rest) = whole_unary(alloc, rest, left, run - 1)?;
+    Ok((prefixed(word, inner), rest))
 }
 
 #[cycle(expr)]
@@ -277,134 +218,96 @@ fn product<'a>(alloc: Global, words: &'a [Word], left: u32) -> Read<'a, ExprKind
     }
     let (factor, rest) = number(words, left)?;
     let (_, rest) = sign(rest, left, Sign::Star)?;
-    let line = first_line(rest);
-    let (what, rest) = unary(alloc, rest, left, CHAIN)?;
-    let operand = placed(alloc, what, line)?;
+    let (operand, rest) = whole_unary(alloc, rest, left, CHAIN)?;
     Ok((ExprKind::Times(signed(factor), operand), rest))
 }
 
+/// What stands beside the operators of a level.
 #[cycle(expr)]
-#[tactic(auto, unfolding(crate::specs::Expressions::sums, crate::specs::Expressions::chain))]
-fn sums<'a>(alloc: Global, words: &'a [Word], left: u32) -> Read<'a, ExprKind>
-    ensures { Reads (λ x. (x.0, x.1.now)) result (sums (inside left) left words.now) }
+#[tactic(auto, unfolding(crate::specs::Expressions::sums, crate::specs::Expressions::ands, crate::specs::Expressions::ors))]
+fn side<'a>(alloc: Global, words: &'a [Word], left: u32, level: Level) -> Read<'a, ExprKind>
+    ensures { Reads (λ x. (x.0, x.1.now)) result (side level (inside left) left words.now) }
 {
-    let line = first_line(words);
-    let (mut held, mut rest) = product(alloc, words, left)?;
-    let mut more = CHAIN;
-    loop {
-        let Some((word, after)) = next(rest) else {
-            return Ok((held, rest));
-        };
-        let Some(operator) = sum_of(word) else {
-            return Ok((held, rest));
-        };
-        if more == 0 {
-            return Err(deep(word.line));
-        }
-        more -= 1;
-        let second_line = first_line(after);
-        let (second, after) = product(alloc, after, left)?;
-        held = two(alloc, operator, held, line, second, second_line)?;
-        rest = after;
+    match level {
+        Level::Implies => chain(alloc, words, left, Level::Or),
+        Level::Or => chain(alloc, words, left, Level::And),
+        Level::And => relation(alloc, words, left),
+        Level::Relation => chain(alloc, words, left, Level::Sum),
+        Level::Sum => product(alloc, words, left),
     }
 }
 
+/// The side behind an operator of a level, and what stands before it.
 #[cycle(expr)]
-#[tactic(auto, unfolding(crate::specs::Expressions::relation))]
+fn joined<'a>(
+    alloc: Global,
+    words: &'a [Word],
+    left: u32,
+    level: Level,
+    operator: Operator,
+    first: Boxed<Expr>,
+) -> Read<'a, ExprKind>
+    ensures { Reads (λ x. (x.0, x.1.now)) result (joined (side level (inside left) left) operator first words.now) }
+{
+    let line = first_line(words);
+    let (second, rest) = side(alloc, words, left, level)?;
+    let second = placed(alloc, second, line)?;
+    Ok((ExprKind::Two(operator, first, second), rest))
+}
+
+/// Sides with at most 64 operators of a level between, from the left.
+#[cycle(expr)]
+#[tactic(auto, unfolding(crate::specs::Expressions::chain))]
+fn chain<'a>(alloc: Global, words: &'a [Word], left: u32, level: Level) -> Read<'a, ExprKind>
+    ensures { Reads (λ x. (x.0, x.1.now)) result (chained level (side level (inside left) left) words.now) }
+{
+    let line = first_line(words);
+    let (mut held, mut rest) = side(alloc, words, left, level)?;
+    let mut more = CHAIN;
+    while let Some((operator, after)) = operator_in(rest, level) {
+        if more == 0 {
+            return Err(deep(first_line(rest)));
+        }
+        more -= 1;
+        let first = placed(alloc, held, line)?;
+        (held, rest) = joined(alloc, after, left, level, operator, first)?;
+    }
+    Ok((held, rest))
+}
+
+#[cycle(expr)]
+#[tactic(auto, unfolding(crate::specs::Expressions::relation, crate::specs::Expressions::sums))]
 fn relation<'a>(alloc: Global, words: &'a [Word], left: u32) -> Read<'a, ExprKind>
     ensures { Reads (λ x. (x.0, x.1.now)) result (relation (inside left) left words.now) }
 {
     let line = first_line(words);
-    let (first, rest) = sums(alloc, words, left)?;
-    let Some((word, after)) = next(rest) else {
+    let (first, rest) = chain(alloc, words, left, Level::Sum)?;
+    let Some((operator, after)) = operator_in(rest, Level::Relation) else {
         return Ok((first, rest));
     };
-    let Some(operator) = relation_of(word) else {
-        return Ok((first, rest));
-    };
-    let second_line = first_line(after);
-    let (second, rest) = sums(alloc, after, left)?;
-    Ok((
-        two(alloc, operator, first, line, second, second_line)?,
-        rest,
-    ))
-}
-
-#[cycle(expr)]
-#[tactic(auto, unfolding(crate::specs::Expressions::ands, crate::specs::Expressions::chain))]
-fn ands<'a>(alloc: Global, words: &'a [Word], left: u32) -> Read<'a, ExprKind>
-    ensures { Reads (λ x. (x.0, x.1.now)) result (ands (inside left) left words.now) }
-{
-    let line = first_line(words);
-    let (mut held, mut rest) = relation(alloc, words, left)?;
-    let mut more = CHAIN;
-    loop {
-        let Some((word, after)) = next(rest) else {
-            return Ok((held, rest));
-        };
-        if !word.is(Sign::And) {
-            return Ok((held, rest));
-        }
-        if more == 0 {
-            return Err(deep(word.line));
-        }
-        more -= 1;
-        let second_line = first_line(after);
-        let (second, after) = relation(alloc, after, left)?;
-        held = two(alloc, Operator::And, held, line, second, second_line)?;
-        rest = after;
-    }
-}
-
-#[cycle(expr)]
-#[tactic(auto, unfolding(crate::specs::Expressions::ors, crate::specs::Expressions::chain))]
-fn ors<'a>(alloc: Global, words: &'a [Word], left: u32) -> Read<'a, ExprKind>
-    ensures { Reads (λ x. (x.0, x.1.now)) result (ors (inside left) left words.now) }
-{
-    let line = first_line(words);
-    let (mut held, mut rest) = ands(alloc, words, left)?;
-    let mut more = CHAIN;
-    loop {
-        let Some((word, after)) = next(rest) else {
-            return Ok((held, rest));
-        };
-        if !word.is(Sign::Or) {
-            return Ok((held, rest));
-        }
-        if more == 0 {
-            return Err(deep(word.line));
-        }
-        more -= 1;
-        let second_line = first_line(after);
-        let (second, after) = ands(alloc, after, left)?;
-        held = two(alloc, Operator::Or, held, line, second, second_line)?;
-        rest = after;
-    }
+    let first = placed(alloc, first, line)?;
+    joined(alloc, after, left, Level::Relation, operator, first)
 }
 
 /// Disjunctions with at most `run` times `==>` between, from the right.
 #[cycle(expr)]
-#[tactic(auto, unfolding(crate::specs::Expressions::implies))]
+#[tactic(auto, unfolding(crate::specs::Expressions::implies, crate::specs::Expressions::ors))]
 fn implies<'a>(alloc: Global, words: &'a [Word], left: u32, run: u32) -> Read<'a, ExprKind>
     ensures { Reads (λ x. (x.0, x.1.now)) result (implies (inside left) left run words.now) }
 {
     let line = first_line(words);
-    let (first, rest) = ors(alloc, words, left)?;
-    let Some((word, after)) = next(rest) else {
+    let (first, rest) = chain(alloc, words, left, Level::Or)?;
+    let Some((operator, after)) = operator_in(rest, Level::Implies) else {
         return Ok((first, rest));
     };
-    if !word.is(Sign::Implies) {
-        return Ok((first, rest));
-    }
     if run == 0 {
-        return Err(deep(word.line));
+        return Err(deep(first_line(rest)));
     }
-    let second_line = first_line(after);
+    let first = placed(alloc, first, line)?;
+    let line = first_line(after);
     let (second, rest) = implies(alloc, after, left, run - 1)?;
-    Ok((
-        two(alloc, Operator::Implies, first, line, second, second_line)?,
-        rest,
-    ))
+    let second = placed(alloc, second, line)?;
+    Ok((ExprKind::Two(operator, first, second), rest))
 }
 
 /// An expression with the line of its first lexeme.
@@ -415,19 +318,4 @@ pub fn expr<'a>(alloc: Global, words: &'a [Word], left: u32) -> Read<'a, Expr>
     let line = first_line(words);
     let (what, rest) = implies(alloc, words, left, CHAIN)?;
     Ok((Expr { what, line }, rest))
-}
-
-/// Expressions with commas between, or nothing, in round brackets.
-#[tactic(auto, unfolding(crate::specs::Lexemes::in_round, crate::specs::Lexemes::listed))]
-pub fn exprs<'a>(alloc: Global, words: &'a [Word], left: u32) -> Read<'a, Items<Expr>>
-    ensures { Reads (λ x. (x.0, x.1.now)) result (exprs_at left words.now) }
-{
-    let (_, rest) = sign(words, left, Sign::OpenRound)?;
-    let (list, rest) = if begins_with(rest, Sign::CloseRound) {
-        (Items::new(alloc), rest)
-    } else {
-        expr_series(alloc, rest, left)?
-    };
-    let (_, rest) = sign(rest, left - 1, Sign::CloseRound)?;
-    Ok((list, rest))
 }

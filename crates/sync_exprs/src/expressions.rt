@@ -76,3 +76,13 @@ pub enum Operator {
     /// `-`
     Minus,
 }
+
+/// How an operator binds, from the loosest.
+#[derive(Clone, Copy)]
+pub enum Level {
+    Implies,
+    Or,
+    And,
+    Relation,
+    Sum,
+}

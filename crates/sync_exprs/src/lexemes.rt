@@ -1,7 +1,8 @@
 //! Reading one lexeme. `left` is 65 less the number of brackets that are open before it: at 0 it is too deep.
 ghost use Rattle.std.specs.Prelude.{◌≡◌, ◌<◌, [], ◌∷◌, IfOk, MatchOption};
+ghost use Rattle.sync_tokens.specs.declared.signs.Sign.TheVariants as sign;
 ghost use Rattle.sync_exprs.specs.Faults.{Reads};
-ghost use Rattle.sync_exprs.specs.Lexemes.{first_line, begins_with, goes_on, sign_at, name_at, number_at, strategy_at, series, names_at};
+ghost use Rattle.sync_exprs.specs.Lexemes.{first_line, begins_with, goes_on, sign_at, name_at, number_at, strategy_at, followed, listed, names_at};
 
 use crate::faults::{Fault, Halt};
 use crate::naming::Named;
@@ -121,11 +122,24 @@ pub fn strategy(words: &[Word], left: u32) -> Read<'_, Strategy>
     }
 }
 
-/// Names with commas between, at least one.
-#[tactic(auto, unfolding(crate::specs::Lexemes::series, crate::specs::Lexemes::behind_commas))]
-fn name_series(alloc: Global, words: &[Word], left: u32) -> Read<'_, Items<Named>>
-    ensures { Reads (λ x. (x.0, x.1.now)) result (series (name_at left) words.now) }
+/// A value that was read, where this sign follows.
+#[tactic(auto, unfolding(crate::specs::Lexemes::followed))]
+pub fn followed<'a, T: Drop>(value: T, words: &'a [Word], left: u32, symbol: Sign) -> Read<'a, T>
+    ensures reads { Reads (λ x. (x.0, x.1.now)) result (followed value left symbol words.now) }
+    ensures shallow { IfOk result (λ x. 0 < left) }
 {
+    let (_, rest) = sign(words, left, symbol)?;
+    Ok((value, rest))
+}
+
+/// Names with commas between, or nothing where a bracket closes.
+#[tactic(auto, unfolding(crate::specs::Lexemes::listed, crate::specs::Lexemes::series, crate::specs::Lexemes::behind_commas))]
+fn name_list(alloc: Global, words: &[Word], left: u32) -> Read<'_, Items<Named>>
+    ensures { Reads (λ x. (x.0, x.1.now)) result (listed (name_at left) sign.CloseRound words.now) }
+{
+    if begins_with(words, Sign::CloseRound) {
+        return Ok((Items::new(alloc), words));
+    }
     let (first, mut rest) = name(words, left)?;
     let mut held = Items::new(alloc);
     held.push(first)?;
@@ -142,17 +156,12 @@ fn name_series(alloc: Global, words: &[Word], left: u32) -> Read<'_, Items<Named
     Ok((held, rest))
 }
 
-/// Names with commas between, in round brackets.
-#[tactic(auto, unfolding(crate::specs::Lexemes::names_at, crate::specs::Lexemes::in_round, crate::specs::Lexemes::listed))]
+/// Names with commas between, or nothing, in round brackets.
+#[tactic(auto, unfolding(crate::specs::Lexemes::names_at, crate::specs::Lexemes::in_round))]
 pub fn names(alloc: Global, words: &[Word], left: u32) -> Read<'_, Items<Named>>
     ensures { Reads (λ x. (x.0, x.1.now)) result (names_at left words.now) }
 {
     let (_, rest) = sign(words, left, Sign::OpenRound)?;
-    let (names, rest) = if begins_with(rest, Sign::CloseRound) {
-        (Items::new(alloc), rest)
-    } else {
-        name_series(alloc, rest, left - 1)?
-    };
-    let (_, rest) = sign(rest, left - 1, Sign::CloseRound)?;
-    Ok((names, rest))
+    let (names, rest) = name_list(alloc, rest, left - 1)?;
+    followed(names, rest, left - 1, Sign::CloseRound)
 }

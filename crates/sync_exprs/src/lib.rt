@@ -6,11 +6,16 @@ mod expressions;
 mod faults;
 mod lexemes;
 mod naming;
+mod operators;
 
 pub use expr_reader::{expr, exprs, signed};
 pub use expressions::{Expr, ExprKind, Function, Operator, Special};
 pub use faults::{Fault, Halt};
 pub use lexemes::{
-    Read, begins_with, deep, first_line, goes_on, name, names, next, number, sign, strategy, wanted,
+    Read, begins_with, deep, first_line, followed, goes_on, name, names, next, number, sign,
+    strategy, wanted,
 };
 pub use naming::Named;
+
+#[cfg(test)]
+mod tests;

@@ -28,9 +28,9 @@ use Rattle.sync_parse.specs.declared.trees.RawProof.{RawProof}
 use Rattle.sync_parse.specs.declared.trees.RawClaim.{RawClaim}
 use Rattle.sync_parse.specs.declared.trees.RawClaim.TheVariants as claim
 use Rattle.sync_parse.specs.Faults.{refused}
-use Rattle.sync_exprs.specs.Lexemes.{Read, Reader, within, first_line, begins_with, sign_at, name_at, number_at, strategy_at, row, goes_on, names_at}
+use Rattle.sync_exprs.specs.Lexemes.{Read, Reader, within, first_line, begins_with, sign_at, name_at, number_at, strategy_at, followed, row, goes_on, names_at}
 use Rattle.sync_exprs.specs.Expressions.{expr_at}
-use Rattle.sync_parse.specs.Scripts.{place_of, refuse, script_at}
+use Rattle.sync_parse.specs.Scripts.{numbered, refuse, script_at}
 
 -- ---- places
 
@@ -49,17 +49,21 @@ keyed left key ts = if begins_with sign.MapsTo ts then (do
   p ← pattern_at left m.1
   Ok (place.Entry key p.0, p.1)) else Ok (place.Key key, ts)
 
-unfoldable pub place_at : ℕ → Reader RawPlace
-place_at left ts = if begins_with sign.OpenRound ts then (do
+unfoldable pub round_place : ℕ → Reader RawPlace
+round_place left ts = do
   o ← sign_at left sign.OpenRound ts
   p ← pattern_at (left - 1) o.1
-  e ← sign_at (left - 1) sign.CloseRound p.1
-  Ok (place.Value p.0, e.1)) else (do
-    o ← sign_at left sign.OpenSquare ts
-    k ← expr_at (left - 1) o.1
-    p ← keyed (left - 1) k.0 k.1
-    e ← sign_at (left - 1) sign.CloseSquare p.1
-    Ok (p.0, e.1))
+  followed (place.Value p.0) (left - 1) sign.CloseRound p.1
+
+unfoldable pub square_place : ℕ → Reader RawPlace
+square_place left ts = do
+  o ← sign_at left sign.OpenSquare ts
+  k ← expr_at (left - 1) o.1
+  p ← keyed (left - 1) k.0 k.1
+  followed p.0 (left - 1) sign.CloseSquare p.1
+
+unfoldable pub place_at : ℕ → Reader RawPlace
+place_at left ts = if begins_with sign.OpenRound ts then round_place left ts else square_place left ts
 
 -- ---- statements of operations
 
@@ -67,15 +71,13 @@ place_at left ts = if begins_with sign.OpenRound ts then (do
 unfoldable pub closed_expr : ℕ → Reader Expr
 closed_expr left ts = do
   e ← expr_at left ts
-  s ← sign_at left sign.Semicolon e.1
-  Ok (e.0, s.1)
+  followed e.0 left sign.Semicolon e.1
 
 -- a place, and `;`
 unfoldable pub closed_place : ℕ → Reader RawPlace
 closed_place left ts = do
   p ← place_at left ts
-  s ← sign_at left sign.Semicolon p.1
-  Ok (p.0, s.1)
+  followed p.0 left sign.Semicolon p.1
 
 -- `require` and `assert`
 unfoldable pub formula_act : Sign → (Expr → RawActKind) → ℕ → Reader RawActKind
@@ -84,40 +86,36 @@ formula_act word made left ts = do
   e ← closed_expr left w.1
   Ok (made e.0, e.1)
 
+-- a word, the name of a field and a sign
+unfoldable pub field_before : Sign → Sign → ℕ → Reader Named
+field_before word symbol left ts = do
+  w ← sign_at left word ts
+  n ← name_at left w.1
+  followed n.0 left symbol n.1
+
 -- `init` and `update`
 unfoldable pub value_act : Sign → (Named → Expr → RawActKind) → ℕ → Reader RawActKind
 value_act word made left ts = do
-  w ← sign_at left word ts
-  n ← name_at left w.1
-  q ← sign_at left sign.Equal n.1
-  e ← closed_expr left q.1
+  n ← field_before word sign.Equal left ts
+  e ← closed_expr left n.1
   Ok (made n.0 e.0, e.1)
 
--- a word, the name of a field, a sign and a place
-unfoldable pub field_place : Sign → Sign → ℕ → Reader (Named × RawPlace)
-field_place word symbol left ts = do
-  w ← sign_at left word ts
-  n ← name_at left w.1
-  q ← sign_at left symbol n.1
-  p ← closed_place left q.1
-  Ok ((n.0, p.0), p.1)
-
+-- `guard`, `add` and the like
 unfoldable pub place_act : Sign → Sign → (Named → RawPlace → RawActKind) → ℕ → Reader RawActKind
 place_act word symbol made left ts = do
-  x ← field_place word symbol left ts
-  Ok (made x.0.0 x.0.1, x.1)
+  n ← field_before word symbol left ts
+  p ← closed_place left n.1
+  Ok (made n.0 p.0, p.1)
 
 -- `;` after the name, or a place
 unfoldable pub have_act : ℕ → Reader RawActKind
 have_act left ts = do
   w ← sign_at left sign.Have ts
   n ← name_at left w.1
-  if begins_with sign.Semicolon n.1 then (do
-    s ← sign_at left sign.Semicolon n.1
-    Ok (act.HaveVariable n.0, s.1)) else (do
-      q ← sign_at left sign.AtLeast n.1
-      p ← closed_place left q.1
-      Ok (act.Have n.0 p.0, p.1))
+  if begins_with sign.Semicolon n.1 then followed (act.HaveVariable n.0) left sign.Semicolon n.1 else (do
+    q ← sign_at left sign.AtLeast n.1
+    p ← closed_place left q.1
+    Ok (act.Have n.0 p.0, p.1))
 
 unfoldable pub act_kind : ℕ → Reader RawActKind
 act_kind left ts =
@@ -149,8 +147,7 @@ field_at left ts = do
   n ← name_at left f.1
   c ← sign_at left sign.Colon n.1
   s ← strategy_at left c.1
-  e ← sign_at left sign.Semicolon s.1
-  Ok (record { name = n.0; strategy = s.0; line = f.0 }, e.1)
+  followed (record { name = n.0; strategy = s.0; line = f.0 }) left sign.Semicolon s.1
 
 unfoldable pub fields : ℕ → Reader (List RawField)
 fields left ts = row (begins_with sign.Field) (field_at left) (length ts) [] ts
@@ -170,15 +167,19 @@ unfoldable pub mode_at : ℕ → Reader OpMode
 mode_at left [] = Err Ended
 mode_at left (w ∷ ws) = mode_said left w ws (mode_of w)
 
+-- names in round brackets, and a sign
+unfoldable pub names_before : Sign → ℕ → Reader (List Named)
+names_before symbol left ts = do
+  ns ← names_at left ts
+  followed ns.0 left symbol ns.1
+
 unfoldable pub operation_at : ℕ → Reader RawOperation
 operation_at left ts = do
   m ← mode_at left ts
   n ← name_at left m.1
-  ps ← names_at left n.1
-  o ← sign_at left sign.OpenBrace ps.1
-  xs ← acts (left - 1) o.1
-  e ← sign_at (left - 1) sign.CloseBrace xs.1
-  Ok (record { mode = m.0; name = n.0; params = ps.0; acts = xs.0; line = first_line ts }, e.1)
+  ps ← names_before sign.OpenBrace left n.1
+  xs ← acts (left - 1) ps.1
+  followed (record { mode = m.0; name = n.0; params = ps.0; acts = xs.0; line = first_line ts }) (left - 1) sign.CloseBrace xs.1
 
 abbrev pub begins_operation : List Word → Bool
 begins_operation [] = false
@@ -191,32 +192,34 @@ unfoldable pub invariant_at : ℕ → Reader RawInvariant
 invariant_at left ts = do
   i ← sign_at left sign.Invariant ts
   n ← name_at left i.1
-  ps ← names_at left n.1
-  c ← sign_at left sign.Colon ps.1
-  e ← closed_expr left c.1
+  ps ← names_before sign.Colon left n.1
+  e ← closed_expr left ps.1
   Ok (record { name = n.0; params = ps.0; form = e.0; line = i.0 }, e.1)
 
 unfoldable pub invariants : ℕ → Reader (List RawInvariant)
 invariants left ts = row (begins_with sign.Invariant) (invariant_at left) (length ts) [] ts
 
-unfoldable pub machine_at : ℕ → Reader RawMachine
-machine_at left ts = do
+-- the line of `machine` and the name of the machine, and its brace
+unfoldable pub machine_head : ℕ → Reader (ℕ × Named)
+machine_head left ts = do
   m ← sign_at left sign.Machine ts
   n ← name_at left m.1
-  o ← sign_at left sign.OpenBrace n.1
-  fs ← fields (left - 1) o.1
+  followed (m.0, n.0) left sign.OpenBrace n.1
+
+unfoldable pub machine_at : ℕ → Reader RawMachine
+machine_at left ts = do
+  h ← machine_head left ts
+  fs ← fields (left - 1) h.1
   ops ← operations (left - 1) fs.1
   is ← invariants (left - 1) ops.1
-  e ← sign_at (left - 1) sign.CloseBrace is.1
-  Ok (record { name = n.0; fields = fs.0; operations = ops.0; invariants = is.0; line = m.0 }, e.1)
+  followed (record { name = h.0.1; fields = fs.0; operations = ops.0; invariants = is.0; line = h.0.0 }) (left - 1) sign.CloseBrace is.1
 
 -- ---- proofs
 
 unfoldable pub claim_at : ℕ → Reader RawClaim
 claim_at left ts = if begins_with sign.At ts then (do
-  a ← sign_at left sign.At ts
-  n ← number_at left a.1
-  Ok (claim.At (place_of n.0), n.1)) else (do
+  n ← numbered left ts
+  Ok (claim.At n.0, n.1)) else (do
     k ← sign_at left sign.Keeps ts
     n ← name_at left k.1
     Ok (claim.Keeps n.0, n.1))
@@ -237,20 +240,19 @@ proofs_at left ts = if begins_with sign.Proofs ts then (do
   p ← sign_at left sign.Proofs ts
   o ← sign_at left sign.OpenBrace p.1
   xs ← proof_row (left - 1) o.1
-  e ← sign_at (left - 1) sign.CloseBrace xs.1
-  Ok (xs.0, e.1)) else Ok ([], ts)
+  followed xs.0 (left - 1) sign.CloseBrace xs.1) else Ok ([], ts)
 
 -- ---- texts
 
--- version 1 at its number, whatever follows
+-- version 1, at its number whatever follows, and `;`
 unfoldable pub version_at : ℕ → Reader ℕ
 version_at left ts = do
   v ← sign_at left sign.Version ts
   n ← number_at left v.1
-  if n.0 == 1 then Ok (v.0, n.1) else Err (Version (first_line v.1))
+  if n.0 == 1 then sign_at left sign.Semicolon n.1 else Err (Version (first_line v.1))
 
 -- the end of the text; a program is not read yet
-abbrev pub at_end : {A : Type 0} → A → List Word → Result A Fault
+unfoldable pub at_end : {A : Type 0} → A → List Word → Result A Fault
 at_end x [] = Ok x
 at_end x (w ∷ ws) = if is_sign w sign.Program then Err (Unbuilt w.line) else Err (Wanted w.line)
 
@@ -258,8 +260,7 @@ at_end x (w ∷ ws) = if is_sign w sign.Program then Err (Unbuilt w.line) else E
 unfoldable pub text_of : List Word → Result (RawMachine × List RawProof) Fault
 text_of ts = do
   v ← version_at 65 ts
-  s ← sign_at 65 sign.Semicolon v.1
-  m ← machine_at 65 s.1
+  m ← machine_at 65 v.1
   ps ← proofs_at 65 m.1
   at_end (m.0, ps.0) ps.1
 
@@ -269,7 +270,3 @@ parsed text = do
   w ← worded text
   t ← refused w.last_line (text_of w.list)
   Ok (record { machine = t.0; proofs = t.1; names = w.names })
-
--- the number of scripts of the whole proofs, which are one for each
-abbrev pub script_count : RawText → ℕ
-script_count text = length text.proofs

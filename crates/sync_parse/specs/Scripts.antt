@@ -23,7 +23,7 @@ use Rattle.sync_parse.specs.declared.scripts.RawBlock.{RawBlock, roll-RawBlock}
 use Rattle.sync_parse.specs.declared.scripts.RawStep.{RawStep, roll-RawStep}
 use Rattle.sync_parse.specs.declared.scripts.RawStepKind.{RawStepKind}
 use Rattle.sync_parse.specs.declared.scripts.RawStepKind.TheVariants as step
-use Rattle.sync_exprs.specs.Lexemes.{Read, Reader, within, first_line, begins_with, sign_at, name_at, number_at, row, goes_on, series}
+use Rattle.sync_exprs.specs.Lexemes.{Read, Reader, within, first_line, begins_with, sign_at, name_at, number_at, followed, row, goes_on, series}
 use Rattle.sync_exprs.specs.Expressions.{signed, expr_at, exprs_at}
 
 -- a number of a statement; 4,294,967,295 stands for all from there on
@@ -58,32 +58,52 @@ unfoldable pub subject_at : ℕ → Reader Subject
 subject_at left [] = Err Ended
 subject_at left (w ∷ ws) = subject_said left w.line ws w.what
 
+-- the number of a statement, behind `at`
+unfoldable pub numbered : ℕ → Reader ℕ
+numbered left ts = do
+  a ← sign_at left sign.At ts
+  n ← number_at left a.1
+  Ok (place_of n.0, n.1)
+
+-- `low` or `high`, and what it speaks of
+unfoldable pub bound_at : Sign → ℕ → Reader Subject
+bound_at word left ts = do
+  w ← sign_at left word ts
+  subject_at left w.1
+
 unfoldable pub hyp_at : ℕ → Reader RawHyp
 hyp_at left ts =
     if begins_with sign.Denied ts then (do
       d ← sign_at left sign.Denied ts
       Ok (hyp.Denied, d.1))
     else if begins_with sign.At ts then (do
-      a ← sign_at left sign.At ts
-      n ← number_at left a.1
-      Ok (hyp.At (place_of n.0), n.1))
+      n ← numbered left ts
+      Ok (hyp.At n.0, n.1))
     else if begins_with sign.Low ts then (do
-      l ← sign_at left sign.Low ts
-      s ← subject_at left l.1
+      s ← bound_at sign.Low left ts
       Ok (hyp.Low s.0, s.1))
     else if begins_with sign.High ts then (do
-      h ← sign_at left sign.High ts
-      s ← subject_at left h.1
+      s ← bound_at sign.High left ts
       Ok (hyp.High s.0, s.1))
     else (do
       n ← name_at left ts
       Ok (hyp.Label n.0, n.1))
 
--- `as` and the name that a step gives
-unfoldable pub as_name : ℕ → Reader Named
-as_name left ts = do
+-- ---- what follows the parts of a step
+
+-- `as` and the name that a step gives, behind what was read
+unfoldable pub given : {A : Type 0} → A → ℕ → Reader (A × Named)
+given x left ts = do
   a ← sign_at left sign.As ts
-  name_at left a.1
+  n ← name_at left a.1
+  Ok ((x, n.0), n.1)
+
+-- a comma and an expression, behind what was read
+unfoldable pub paired : {A : Type 0} → A → ℕ → Reader (A × Expr)
+paired x left ts = do
+  c ← sign_at left sign.Comma ts
+  e ← expr_at left c.1
+  Ok ((x, e.0), e.1)
 
 -- ---- parts of a sum
 
@@ -108,57 +128,53 @@ part_at left ts = if begins_with sign.Minus ts then (do
 unfoldable pub same_step : ℕ → Reader RawStepKind
 same_step left ts = do
   s ← sign_at left sign.Same ts
-  e ← sign_at left sign.Semicolon s.1
-  Ok (step.Same, e.1)
+  followed step.Same left sign.Semicolon s.1
 
 unfoldable pub sum_step : ℕ → Reader RawStepKind
 sum_step left ts = do
   s ← sign_at left sign.Sum ts
   parts ← series (part_at left) s.1
-  e ← sign_at left sign.Semicolon parts.1
-  Ok (step.Sum parts.0, e.1)
+  followed (step.Sum parts.0) left sign.Semicolon parts.1
 
 unfoldable pub inst_step : ℕ → Reader RawStepKind
 inst_step left ts = do
   s ← sign_at left sign.Inst ts
   h ← hyp_at left s.1
   args ← exprs_at left h.1
-  a ← as_name left args.1
-  e ← sign_at left sign.Semicolon a.1
-  Ok (step.Inst h.0 args.0 a.0, e.1)
+  a ← given args.0 left args.1
+  followed (step.Inst h.0 a.0.0 a.0.1) left sign.Semicolon a.1
 
 unfoldable pub parts_step : ℕ → Reader RawStepKind
 parts_step left ts = do
   s ← sign_at left sign.Parts ts
   h ← hyp_at left s.1
-  a ← as_name left h.1
+  a ← given h.0 left h.1
   c ← sign_at left sign.Comma a.1
   b ← name_at left c.1
-  e ← sign_at left sign.Semicolon b.1
-  Ok (step.Parts h.0 a.0 b.0, e.1)
+  followed (step.Parts a.0.0 a.0.1 b.0) left sign.Semicolon b.1
 
--- a map and a key, as `read`, `size` and `total` take them
-unfoldable pub lookup_step : Sign → (Expr → Expr → Named → RawStepKind) → ℕ → Reader RawStepKind
-lookup_step word made left ts = do
+-- a map, a key and the name that is given, as `read`, `size` and `total` take them
+unfoldable pub lookup : Sign → ℕ → Reader ((Expr × Expr) × Named)
+lookup word left ts = do
   s ← sign_at left word ts
   m ← expr_at left s.1
-  c ← sign_at left sign.Comma m.1
-  k ← expr_at left c.1
-  a ← as_name left k.1
-  e ← sign_at left sign.Semicolon a.1
-  Ok (made m.0 k.0 a.0, e.1)
+  k ← paired m.0 left m.1
+  a ← given k.0 left k.1
+  followed a.0 left sign.Semicolon a.1
+
+unfoldable pub lookup_step : Sign → (Expr → Expr → Named → RawStepKind) → ℕ → Reader RawStepKind
+lookup_step word made left ts = do
+  x ← lookup word left ts
+  Ok (made x.0.0.0 x.0.0.1 x.0.1, x.1)
 
 unfoldable pub cong_step : ℕ → Reader RawStepKind
 cong_step left ts = do
   s ← sign_at left sign.Cong ts
   m ← expr_at left s.1
-  c ← sign_at left sign.Comma m.1
-  j ← expr_at left c.1
-  d ← sign_at left sign.Comma j.1
-  k ← expr_at left d.1
-  a ← as_name left k.1
-  e ← sign_at left sign.Semicolon a.1
-  Ok (step.Cong m.0 j.0 k.0 a.0, e.1)
+  j ← paired m.0 left m.1
+  k ← paired j.0 left j.1
+  a ← given k.0 left k.1
+  followed (step.Cong a.0.0.0.0 a.0.0.0.1 a.0.0.1 a.0.1) left sign.Semicolon a.1
 
 -- a step without a block
 unfoldable pub plain_step : ℕ → Reader RawStepKind
@@ -179,18 +195,18 @@ unfoldable pub split_step : Reader RawBlock → ℕ → Reader RawStepKind
 split_step block left ts = do
   s ← sign_at left sign.Split ts
   h ← hyp_at left s.1
-  a ← as_name left h.1
+  a ← given h.0 left h.1
   b ← block a.1
   c ← block b.1
-  Ok (step.Split h.0 a.0 b.0 c.0, c.1)
+  Ok (step.Split a.0.0 a.0.1 b.0 c.0, c.1)
 
 unfoldable pub cut_step : Reader RawBlock → ℕ → Reader RawStepKind
 cut_step block left ts = do
   s ← sign_at left sign.Cut ts
   f ← expr_at left s.1
-  a ← as_name left f.1
+  a ← given f.0 left f.1
   b ← block a.1
-  Ok (step.Cut f.0 a.0 b.0, b.1)
+  Ok (step.Cut a.0.0 a.0.1 b.0, b.1)
 
 abbrev pub step_kind : Reader RawBlock → ℕ → Reader RawStepKind
 step_kind block left ts =

@@ -3,14 +3,14 @@ ghost use Rattle.std.specs.Prelude.{◌≡◌};
 ghost use Rattle.sync_tokens.specs.declared.signs.Sign.TheVariants as sign;
 ghost use Rattle.sync_parse.specs.declared.trees.RawActKind.TheVariants as act;
 ghost use Rattle.sync_exprs.specs.Faults.{Reads};
-ghost use Rattle.sync_parse.specs.Machines.{pattern_at, keyed, place_at, closed_expr, closed_place, formula_act, value_act, field_place, place_act, have_act, act_kind, act_at, acts};
+ghost use Rattle.sync_parse.specs.Machines.{pattern_at, keyed, round_place, square_place, place_at, closed_expr, closed_place, formula_act, field_before, value_act, place_act, have_act, act_kind, act_at, acts};
 
 use crate::trees::{RawAct, RawActKind, RawPattern, RawPlace};
 use sqlite_items::Items;
 use std::alloc::Global;
 use sync_exprs::{
-    Expr, Fault, Halt, Named, Read, begins_with, expr, first_line, goes_on, name, next, sign,
-    wanted,
+    Expr, Fault, Halt, Named, Read, begins_with, expr, first_line, followed, goes_on, name, next,
+    sign, wanted,
 };
 use sync_tokens::{Sign, Word};
 
@@ -40,21 +40,34 @@ fn keyed<'a>(alloc: Global, words: &'a [Word], left: u32, key: Expr) -> Read<'a,
     Ok((RawPlace::Key(key), words))
 }
 
+#[tactic(auto, unfolding(crate::specs::Machines::round_place))]
+fn round_place<'a>(alloc: Global, words: &'a [Word], left: u32) -> Read<'a, RawPlace>
+    ensures { Reads (λ x. (x.0, x.1.now)) result (round_place left words.now) }
+{
+    let (_, rest) = sign(words, left, Sign::OpenRound)?;
+    let (value, rest) = pattern(alloc, rest, left - 1)?;
+    followed(RawPlace::Value(value), rest, left - 1, Sign::CloseRound)
+}
+
+#[tactic(auto, unfolding(crate::specs::Machines::square_place))]
+fn square_place<'a>(alloc: Global, words: &'a [Word], left: u32) -> Read<'a, RawPlace>
+    ensures { Reads (λ x. (x.0, x.1.now)) result (square_place left words.now) }
+{
+    let (_, rest) = sign(words, left, Sign::OpenSquare)?;
+    let (key, rest) = expr(alloc, rest, left - 1)?;
+    let (place, rest) = keyed(alloc, rest, left - 1, key)?;
+    followed(place, rest, left - 1, Sign::CloseSquare)
+}
+
 #[tactic(auto, unfolding(crate::specs::Machines::place_at))]
 fn place<'a>(alloc: Global, words: &'a [Word], left: u32) -> Read<'a, RawPlace>
     ensures { Reads (λ x. (x.0, x.1.now)) result (place_at left words.now) }
 {
     if begins_with(words, Sign::OpenRound) {
-        let (_, rest) = sign(words, left, Sign::OpenRound)?;
-        let (value, rest) = pattern(alloc, rest, left - 1)?;
-        let (_, rest) = sign(rest, left - 1, Sign::CloseRound)?;
-        return Ok((RawPlace::Value(value), rest));
+        round_place(alloc, words, left)
+    } else {
+        square_place(alloc, words, left)
     }
-    let (_, rest) = sign(words, left, Sign::OpenSquare)?;
-    let (key, rest) = expr(alloc, rest, left - 1)?;
-    let (place, rest) = keyed(alloc, rest, left - 1, key)?;
-    let (_, rest) = sign(rest, left - 1, Sign::CloseSquare)?;
-    Ok((place, rest))
 }
 
 /// An expression and `;`.
@@ -63,8 +76,7 @@ pub(crate) fn closed_expr<'a>(alloc: Global, words: &'a [Word], left: u32) -> Re
     ensures { Reads (λ x. (x.0, x.1.now)) result (closed_expr left words.now) }
 {
     let (value, rest) = expr(alloc, words, left)?;
-    let (_, rest) = sign(rest, left, Sign::Semicolon)?;
-    Ok((value, rest))
+    followed(value, rest, left, Sign::Semicolon)
 }
 
 /// A place and `;`.
@@ -73,8 +85,7 @@ fn closed_place<'a>(alloc: Global, words: &'a [Word], left: u32) -> Read<'a, Raw
     ensures { Reads (λ x. (x.0, x.1.now)) result (closed_place left words.now) }
 {
     let (place, rest) = place(alloc, words, left)?;
-    let (_, rest) = sign(rest, left, Sign::Semicolon)?;
-    Ok((place, rest))
+    followed(place, rest, left, Sign::Semicolon)
 }
 
 #[tactic(auto, unfolding(crate::specs::Machines::formula_act))]
@@ -95,13 +106,21 @@ fn assert_act<'a>(alloc: Global, words: &'a [Word], left: u32) -> Read<'a, RawAc
     Ok((RawActKind::Assert(form), rest))
 }
 
+/// A word, the name of a field and a sign.
+#[tactic(auto, unfolding(crate::specs::Machines::field_before))]
+fn field_before<'a>(words: &'a [Word], left: u32, word: Sign, symbol: Sign) -> Read<'a, Named>
+    ensures { Reads (λ x. (x.0, x.1.now)) result (field_before word symbol left words.now) }
+{
+    let (_, rest) = sign(words, left, word)?;
+    let (field, rest) = name(rest, left)?;
+    followed(field, rest, left, symbol)
+}
+
 #[tactic(auto, unfolding(crate::specs::Machines::value_act))]
 fn init_act<'a>(alloc: Global, words: &'a [Word], left: u32) -> Read<'a, RawActKind>
     ensures { Reads (λ x. (x.0, x.1.now)) result (value_act sign.Init act.Init left words.now) }
 {
-    let (_, rest) = sign(words, left, Sign::Init)?;
-    let (field, rest) = name(rest, left)?;
-    let (_, rest) = sign(rest, left, Sign::Equal)?;
+    let (field, rest) = field_before(words, left, Sign::Init, Sign::Equal)?;
     let (value, rest) = closed_expr(alloc, rest, left)?;
     Ok((RawActKind::Init(field, value), rest))
 }
@@ -110,36 +129,17 @@ fn init_act<'a>(alloc: Global, words: &'a [Word], left: u32) -> Read<'a, RawActK
 fn update_act<'a>(alloc: Global, words: &'a [Word], left: u32) -> Read<'a, RawActKind>
     ensures { Reads (λ x. (x.0, x.1.now)) result (value_act sign.Update act.Update left words.now) }
 {
-    let (_, rest) = sign(words, left, Sign::Update)?;
-    let (field, rest) = name(rest, left)?;
-    let (_, rest) = sign(rest, left, Sign::Equal)?;
+    let (field, rest) = field_before(words, left, Sign::Update, Sign::Equal)?;
     let (value, rest) = closed_expr(alloc, rest, left)?;
     Ok((RawActKind::Update(field, value), rest))
-}
-
-/// A word, the name of a field, a sign and a place.
-#[tactic(auto, unfolding(crate::specs::Machines::field_place))]
-fn field_and_place<'a>(
-    alloc: Global,
-    words: &'a [Word],
-    left: u32,
-    word: Sign,
-    symbol: Sign,
-) -> Read<'a, (Named, RawPlace)>
-    ensures { Reads (λ x. (x.0, x.1.now)) result (field_place word symbol left words.now) }
-{
-    let (_, rest) = sign(words, left, word)?;
-    let (field, rest) = name(rest, left)?;
-    let (_, rest) = sign(rest, left, symbol)?;
-    let (place, rest) = closed_place(alloc, rest, left)?;
-    Ok(((field, place), rest))
 }
 
 #[tactic(auto, unfolding(crate::specs::Machines::place_act))]
 fn guard_act<'a>(alloc: Global, words: &'a [Word], left: u32) -> Read<'a, RawActKind>
     ensures { Reads (λ x. (x.0, x.1.now)) result (place_act sign.Guard sign.AtLeast act.Guard left words.now) }
 {
-    let ((field, place), rest) = field_and_place(alloc, words, left, Sign::Guard, Sign::AtLeast)?;
+    let (field, rest) = field_before(words, left, Sign::Guard, Sign::AtLeast)?;
+    let (place, rest) = closed_place(alloc, rest, left)?;
     Ok((RawActKind::Guard(field, place), rest))
 }
 
@@ -147,7 +147,8 @@ fn guard_act<'a>(alloc: Global, words: &'a [Word], left: u32) -> Read<'a, RawAct
 fn add_act<'a>(alloc: Global, words: &'a [Word], left: u32) -> Read<'a, RawActKind>
     ensures { Reads (λ x. (x.0, x.1.now)) result (place_act sign.Add sign.PlusEqual act.Add left words.now) }
 {
-    let ((field, place), rest) = field_and_place(alloc, words, left, Sign::Add, Sign::PlusEqual)?;
+    let (field, rest) = field_before(words, left, Sign::Add, Sign::PlusEqual)?;
+    let (place, rest) = closed_place(alloc, rest, left)?;
     Ok((RawActKind::Add(field, place), rest))
 }
 
@@ -155,13 +156,8 @@ fn add_act<'a>(alloc: Global, words: &'a [Word], left: u32) -> Read<'a, RawActKi
 fn deposit_act<'a>(alloc: Global, words: &'a [Word], left: u32) -> Read<'a, RawActKind>
     ensures { Reads (λ x. (x.0, x.1.now)) result (place_act sign.Deposit sign.PlusEqual act.Deposit left words.now) }
 {
-    let ((field, place), rest) = field_and_place(
-        alloc,
-        words,
-        left,
-        Sign::Deposit,
-        Sign::PlusEqual,
-    )?;
+    let (field, rest) = field_before(words, left, Sign::Deposit, Sign::PlusEqual)?;
+    let (place, rest) = closed_place(alloc, rest, left)?;
     Ok((RawActKind::Deposit(field, place), rest))
 }
 
@@ -169,13 +165,8 @@ fn deposit_act<'a>(alloc: Global, words: &'a [Word], left: u32) -> Read<'a, RawA
 fn remove_act<'a>(alloc: Global, words: &'a [Word], left: u32) -> Read<'a, RawActKind>
     ensures { Reads (λ x. (x.0, x.1.now)) result (place_act sign.Remove sign.MinusEqual act.Remove left words.now) }
 {
-    let ((field, place), rest) = field_and_place(
-        alloc,
-        words,
-        left,
-        Sign::Remove,
-        Sign::MinusEqual,
-    )?;
+    let (field, rest) = field_before(words, left, Sign::Remove, Sign::MinusEqual)?;
+    let (place, rest) = closed_place(alloc, rest, left)?;
     Ok((RawActKind::Remove(field, place), rest))
 }
 
@@ -183,13 +174,8 @@ fn remove_act<'a>(alloc: Global, words: &'a [Word], left: u32) -> Read<'a, RawAc
 fn withdraw_act<'a>(alloc: Global, words: &'a [Word], left: u32) -> Read<'a, RawActKind>
     ensures { Reads (λ x. (x.0, x.1.now)) result (place_act sign.Withdraw sign.MinusEqual act.Withdraw left words.now) }
 {
-    let ((field, place), rest) = field_and_place(
-        alloc,
-        words,
-        left,
-        Sign::Withdraw,
-        Sign::MinusEqual,
-    )?;
+    let (field, rest) = field_before(words, left, Sign::Withdraw, Sign::MinusEqual)?;
+    let (place, rest) = closed_place(alloc, rest, left)?;
     Ok((RawActKind::Withdraw(field, place), rest))
 }
 
@@ -201,8 +187,7 @@ fn have_act<'a>(alloc: Global, words: &'a [Word], left: u32) -> Read<'a, RawActK
     let (_, rest) = sign(words, left, Sign::Have)?;
     let (field, rest) = name(rest, left)?;
     if begins_with(rest, Sign::Semicolon) {
-        let (_, rest) = sign(rest, left, Sign::Semicolon)?;
-        return Ok((RawActKind::HaveVariable(field), rest));
+        return followed(RawActKind::HaveVariable(field), rest, left, Sign::Semicolon);
     }
     let (_, rest) = sign(rest, left, Sign::AtLeast)?;
     let (place, rest) = closed_place(alloc, rest, left)?;

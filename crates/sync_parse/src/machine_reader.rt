@@ -1,19 +1,19 @@
 //! Reading machines, proofs and texts. `left` is 65 less the number of brackets that are open.
-ghost use Rattle.std.specs.Prelude.{◌≡◌, length, IfOk};
+ghost use Rattle.std.specs.Prelude.{◌≡◌, ◌<◌, IfOk};
 ghost use Rattle.sync_base.specs.Outcome.{Gives};
 ghost use Rattle.sync_exprs.specs.Faults.{Reads};
 ghost use Rattle.sync_parse.specs.Faults.{refusal_of};
-ghost use Rattle.sync_parse.specs.Machines.{field_at, fields, mode_of, mode_at, begins_operation, operation_at, operations, invariant_at, invariants, machine_at, claim_at, proof_at, proof_row, proofs_at, version_at, text_of, parsed};
+ghost use Rattle.sync_parse.specs.Machines.{field_at, fields, mode_of, mode_at, begins_operation, names_before, operation_at, operations, invariant_at, invariants, machine_head, machine_at, claim_at, proof_at, proof_row, proofs_at, version_at, at_end, text_of, parsed};
 
 use crate::act_reader::{acts, closed_expr};
-use crate::script_reader::{place_of, script};
+use crate::script_reader::{numbered, script};
 use crate::trees::{RawClaim, RawField, RawInvariant, RawMachine, RawOperation, RawProof, RawText};
 use sqlite_items::Items;
 use std::alloc::Global;
 use sync_base::{Refusal, Rule, Stop};
 use sync_exprs::{
-    Fault, Halt, Read, begins_with, deep, first_line, goes_on, name, names, next, number, sign,
-    strategy, wanted,
+    Fault, Halt, Named, Read, begins_with, deep, first_line, followed, goes_on, name, names, next,
+    number, sign, strategy, wanted,
 };
 use sync_machine::OpMode;
 use sync_tokens::{Sign, Word, read_words};
@@ -29,15 +29,12 @@ fn field<'a>(words: &'a [Word], left: u32) -> Read<'a, RawField>
     let (name, rest) = name(rest, left)?;
     let (_, rest) = sign(rest, left, Sign::Colon)?;
     let (strategy, rest) = strategy(rest, left)?;
-    let (_, rest) = sign(rest, left, Sign::Semicolon)?;
-    Ok((
-        RawField {
-            name,
-            strategy,
-            line,
-        },
-        rest,
-    ))
+    let field = RawField {
+        name,
+        strategy,
+        line,
+    };
+    followed(field, rest, left, Sign::Semicolon)
 }
 
 #[tactic(auto, unfolding(crate::specs::Machines::fields, sync_exprs::specs::Lexemes::row))]
@@ -96,6 +93,21 @@ fn mode<'a>(words: &'a [Word], left: u32) -> Read<'a, OpMode>
     Ok((mode, rest))
 }
 
+/// Names in round brackets, and a sign.
+#[tactic(auto, unfolding(crate::specs::Machines::names_before))]
+fn names_before<'a>(
+    alloc: Global,
+    words: &'a [Word],
+    left: u32,
+    symbol: Sign,
+) -> Read<'a, Items<Named>>
+    ensures reads { Reads (λ x. (x.0, x.1.now)) result (names_before symbol left words.now) }
+    ensures shallow { IfOk result (λ x. 0 < left) }
+{
+    let (names, rest) = names(alloc, words, left)?;
+    followed(names, rest, left, symbol)
+}
+
 #[tactic(auto, unfolding(crate::specs::Machines::operation_at))]
 fn operation<'a>(alloc: Global, words: &'a [Word], left: u32) -> Read<'a, RawOperation>
     ensures { Reads (λ x. (x.0, x.1.now)) result (operation_at left words.now) }
@@ -103,20 +115,16 @@ fn operation<'a>(alloc: Global, words: &'a [Word], left: u32) -> Read<'a, RawOpe
     let line = first_line(words);
     let (mode, rest) = mode(words, left)?;
     let (name, rest) = name(rest, left)?;
-    let (params, rest) = names(alloc, rest, left)?;
-    let (_, rest) = sign(rest, left, Sign::OpenBrace)?;
+    let (params, rest) = names_before(alloc, rest, left, Sign::OpenBrace)?;
     let (acts, rest) = acts(alloc, rest, left - 1)?;
-    let (_, rest) = sign(rest, left - 1, Sign::CloseBrace)?;
-    Ok((
-        RawOperation {
-            mode,
-            name,
-            params,
-            acts,
-            line,
-        },
-        rest,
-    ))
+    let operation = RawOperation {
+        mode,
+        name,
+        params,
+        acts,
+        line,
+    };
+    followed(operation, rest, left - 1, Sign::CloseBrace)
 }
 
 #[tactic(auto, unfolding(crate::specs::Machines::operations, sync_exprs::specs::Lexemes::row))]
@@ -143,8 +151,7 @@ fn invariant<'a>(alloc: Global, words: &'a [Word], left: u32) -> Read<'a, RawInv
 {
     let (line, rest) = sign(words, left, Sign::Invariant)?;
     let (name, rest) = name(rest, left)?;
-    let (params, rest) = names(alloc, rest, left)?;
-    let (_, rest) = sign(rest, left, Sign::Colon)?;
+    let (params, rest) = names_before(alloc, rest, left, Sign::Colon)?;
     let (form, rest) = closed_expr(alloc, rest, left)?;
     Ok((
         RawInvariant {
@@ -175,27 +182,33 @@ fn invariants<'a>(alloc: Global, words: &'a [Word], left: u32) -> Read<'a, Items
     Ok((held, rest))
 }
 
+/// The line of `machine` and the name of the machine, and its brace.
+#[tactic(auto, unfolding(crate::specs::Machines::machine_head))]
+fn machine_head<'a>(words: &'a [Word], left: u32) -> Read<'a, (u32, Named)>
+    ensures reads { Reads (λ x. (x.0, x.1.now)) result (machine_head left words.now) }
+    ensures shallow { IfOk result (λ x. 0 < left) }
+{
+    let (line, rest) = sign(words, left, Sign::Machine)?;
+    let (name, rest) = name(rest, left)?;
+    followed((line, name), rest, left, Sign::OpenBrace)
+}
+
 #[tactic(auto, unfolding(crate::specs::Machines::machine_at))]
 fn machine<'a>(alloc: Global, words: &'a [Word], left: u32) -> Read<'a, RawMachine>
     ensures { Reads (λ x. (x.0, x.1.now)) result (machine_at left words.now) }
 {
-    let (line, rest) = sign(words, left, Sign::Machine)?;
-    let (name, rest) = name(rest, left)?;
-    let (_, rest) = sign(rest, left, Sign::OpenBrace)?;
+    let ((line, name), rest) = machine_head(words, left)?;
     let (fields, rest) = fields(alloc, rest, left - 1)?;
     let (operations, rest) = operations(alloc, rest, left - 1)?;
     let (invariants, rest) = invariants(alloc, rest, left - 1)?;
-    let (_, rest) = sign(rest, left - 1, Sign::CloseBrace)?;
-    Ok((
-        RawMachine {
-            name,
-            fields,
-            operations,
-            invariants,
-            line,
-        },
-        rest,
-    ))
+    let machine = RawMachine {
+        name,
+        fields,
+        operations,
+        invariants,
+        line,
+    };
+    followed(machine, rest, left - 1, Sign::CloseBrace)
 }
 
 #[tactic(auto, unfolding(crate::specs::Machines::claim_at))]
@@ -203,9 +216,8 @@ fn claim<'a>(words: &'a [Word], left: u32) -> Read<'a, RawClaim>
     ensures { Reads (λ x. (x.0, x.1.now)) result (claim_at left words.now) }
 {
     if begins_with(words, Sign::At) {
-        let (_, rest) = sign(words, left, Sign::At)?;
-        let (at, rest) = number(rest, left)?;
-        return Ok((RawClaim::At(place_of(at)), rest));
+        let (at, rest) = numbered(words, left)?;
+        return Ok((RawClaim::At(at), rest));
     }
     let (_, rest) = sign(words, left, Sign::Keeps)?;
     let (name, rest) = name(rest, left)?;
@@ -258,22 +270,33 @@ fn proofs<'a>(alloc: Global, words: &'a [Word], left: u32) -> Read<'a, Items<Raw
     let (_, rest) = sign(words, left, Sign::Proofs)?;
     let (_, rest) = sign(rest, left, Sign::OpenBrace)?;
     let (proofs, rest) = proof_row(alloc, rest, left - 1)?;
-    let (_, rest) = sign(rest, left - 1, Sign::CloseBrace)?;
-    Ok((proofs, rest))
+    followed(proofs, rest, left - 1, Sign::CloseBrace)
 }
 
-/// `version` and the number 1.
+/// `version`, the number 1 and `;`.
 #[tactic(auto, unfolding(crate::specs::Machines::version_at))]
 fn version<'a>(words: &'a [Word], left: u32) -> Read<'a, u32>
     ensures { Reads (λ x. (x.0, x.1.now)) result (version_at left words.now) }
 {
-    let (line, rest) = sign(words, left, Sign::Version)?;
-    let number_line = first_line(rest);
+    let (_, rest) = sign(words, left, Sign::Version)?;
+    let line = first_line(rest);
     let (version, rest) = number(rest, left)?;
     if version != 1 {
-        return Err(Halt::Fault(Fault::Version(number_line)));
+        return Err(Halt::Fault(Fault::Version(line)));
     }
-    Ok((line, rest))
+    sign(rest, left, Sign::Semicolon)
+}
+
+/// A value that was read, where the text ends.
+#[tactic(auto, unfolding(crate::specs::Machines::at_end))]
+fn at_end<T: Drop>(value: T, words: &[Word]) -> Result<T, Halt>
+    ensures { Reads (λ x. x) result (at_end value words.now) }
+{
+    match next(words) {
+        Some((word, _)) if word.is(Sign::Program) => Err(Halt::Fault(Fault::Unbuilt(word.line))),
+        Some((word, _)) => Err(wanted(word.line)),
+        None => Ok(value),
+    }
 }
 
 /// The machine and the proofs that the words of a text spell.
@@ -282,14 +305,9 @@ fn text_of(alloc: Global, words: &[Word]) -> Result<(RawMachine, Items<RawProof>
     ensures { Reads (λ x. x) result (text_of words.now) }
 {
     let (_, rest) = version(words, LEVELS)?;
-    let (_, rest) = sign(rest, LEVELS, Sign::Semicolon)?;
     let (machine, rest) = machine(alloc, rest, LEVELS)?;
     let (proofs, rest) = proofs(alloc, rest, LEVELS)?;
-    match next(rest) {
-        Some((word, _)) if word.is(Sign::Program) => Err(Halt::Fault(Fault::Unbuilt(word.line))),
-        Some((word, _)) => Err(wanted(word.line)),
-        None => Ok((machine, proofs)),
-    }
+    at_end((machine, proofs), rest)
 }
 
 /// The rule that a fault breaks, in a text whose last line this is.

@@ -4,19 +4,19 @@ ghost use Rattle.sync_tokens.specs.declared.signs.Sign.TheVariants as sign;
 ghost use Rattle.sync_parse.specs.declared.scripts.RawStepKind.TheVariants as step;
 ghost use Rattle.sync_exprs.specs.Faults.{Reads};
 ghost use Rattle.sync_exprs.specs.Lexemes.{series};
-ghost use Rattle.sync_parse.specs.Scripts.{place_of, times_of, bounded_of, subject_at, hyp_at, as_name, scaled, part_at, same_step, sum_step, inst_step, parts_step, lookup_step, cong_step, plain_step, split_step, cut_step, step_at, steps, nested, block_at, script_at};
+ghost use Rattle.sync_parse.specs.Scripts.{place_of, times_of, bounded_of, subject_at, numbered, bound_at, hyp_at, given, paired, scaled, part_at, same_step, sum_step, inst_step, parts_step, lookup, lookup_step, cong_step, plain_step, split_step, cut_step, step_at, steps, nested, block_at, script_at};
 
 use crate::scripts::{RawBlock, RawHyp, RawPart, RawScript, RawStep, RawStepKind, Subject};
 use sqlite_items::Items;
 use std::alloc::Global;
 use sync_exprs::{
-    Fault, Halt, Named, Read, Special, begins_with, deep, expr, exprs, first_line, goes_on, name,
-    next, number, sign, signed, wanted,
+    Expr, Fault, Halt, Named, Read, Special, begins_with, deep, expr, exprs, first_line, followed,
+    goes_on, name, next, number, sign, signed, wanted,
 };
 use sync_tokens::{Sign, What, Word};
 
 /// The number of a statement as it is kept.
-pub(crate) fn place_of(number: u128) -> u32
+fn place_of(number: u128) -> u32
     ensures { result ≡ place_of number }
 {
     number.min(u128::from(u32::MAX)) as u32
@@ -58,6 +58,25 @@ fn subject<'a>(words: &'a [Word], left: u32) -> Read<'a, Subject>
     Ok((subject, rest))
 }
 
+/// The number of a statement, behind `at`.
+#[tactic(auto, unfolding(crate::specs::Scripts::numbered))]
+pub(crate) fn numbered<'a>(words: &'a [Word], left: u32) -> Read<'a, u32>
+    ensures { Reads (λ x. (x.0, x.1.now)) result (numbered left words.now) }
+{
+    let (_, rest) = sign(words, left, Sign::At)?;
+    let (number, rest) = number(rest, left)?;
+    Ok((place_of(number), rest))
+}
+
+/// `low` or `high`, and what it speaks of.
+#[tactic(auto, unfolding(crate::specs::Scripts::bound_at))]
+fn bound<'a>(words: &'a [Word], left: u32, word: Sign) -> Read<'a, Subject>
+    ensures { Reads (λ x. (x.0, x.1.now)) result (bound_at word left words.now) }
+{
+    let (_, rest) = sign(words, left, word)?;
+    subject(rest, left)
+}
+
 #[tactic(auto, unfolding(crate::specs::Scripts::hyp_at))]
 fn hyp<'a>(words: &'a [Word], left: u32) -> Read<'a, RawHyp>
     ensures { Reads (λ x. (x.0, x.1.now)) result (hyp_at left words.now) }
@@ -67,31 +86,39 @@ fn hyp<'a>(words: &'a [Word], left: u32) -> Read<'a, RawHyp>
         return Ok((RawHyp::Denied, rest));
     }
     if begins_with(words, Sign::At) {
-        let (_, rest) = sign(words, left, Sign::At)?;
-        let (at, rest) = number(rest, left)?;
-        return Ok((RawHyp::At(place_of(at)), rest));
+        let (at, rest) = numbered(words, left)?;
+        return Ok((RawHyp::At(at), rest));
     }
     if begins_with(words, Sign::Low) {
-        let (_, rest) = sign(words, left, Sign::Low)?;
-        let (subject, rest) = subject(rest, left)?;
+        let (subject, rest) = bound(words, left, Sign::Low)?;
         return Ok((RawHyp::Low(subject), rest));
     }
     if begins_with(words, Sign::High) {
-        let (_, rest) = sign(words, left, Sign::High)?;
-        let (subject, rest) = subject(rest, left)?;
+        let (subject, rest) = bound(words, left, Sign::High)?;
         return Ok((RawHyp::High(subject), rest));
     }
     let (label, rest) = name(words, left)?;
     Ok((RawHyp::Label(label), rest))
 }
 
-/// `as` and the name that a step gives.
-#[tactic(auto, unfolding(crate::specs::Scripts::as_name))]
-fn as_name<'a>(words: &'a [Word], left: u32) -> Read<'a, Named>
-    ensures { Reads (λ x. (x.0, x.1.now)) result (as_name left words.now) }
+/// `as` and the name that a step gives, behind what was read.
+#[tactic(auto, unfolding(crate::specs::Scripts::given))]
+fn given<'a, T: Drop>(value: T, words: &'a [Word], left: u32) -> Read<'a, (T, Named)>
+    ensures { Reads (λ x. (x.0, x.1.now)) result (given value left words.now) }
 {
     let (_, rest) = sign(words, left, Sign::As)?;
-    name(rest, left)
+    let (name, rest) = name(rest, left)?;
+    Ok(((value, name), rest))
+}
+
+/// A comma and an expression, behind what was read.
+#[tactic(auto, unfolding(crate::specs::Scripts::paired))]
+fn paired<'a, T: Drop>(alloc: Global, value: T, words: &'a [Word], left: u32) -> Read<'a, (T, Expr)>
+    ensures { Reads (λ x. (x.0, x.1.now)) result (paired value left words.now) }
+{
+    let (_, rest) = sign(words, left, Sign::Comma)?;
+    let (behind, rest) = expr(alloc, rest, left)?;
+    Ok(((value, behind), rest))
 }
 
 fn times_of(minus: bool, number: u128) -> i128
@@ -152,8 +179,7 @@ fn same_step<'a>(words: &'a [Word], left: u32) -> Read<'a, RawStepKind>
     ensures { Reads (λ x. (x.0, x.1.now)) result (same_step left words.now) }
 {
     let (_, rest) = sign(words, left, Sign::Same)?;
-    let (_, rest) = sign(rest, left, Sign::Semicolon)?;
-    Ok((RawStepKind::Same, rest))
+    followed(RawStepKind::Same, rest, left, Sign::Semicolon)
 }
 
 #[tactic(auto, unfolding(crate::specs::Scripts::sum_step))]
@@ -162,8 +188,7 @@ fn sum_step<'a>(alloc: Global, words: &'a [Word], left: u32) -> Read<'a, RawStep
 {
     let (_, rest) = sign(words, left, Sign::Sum)?;
     let (parts, rest) = part_series(alloc, rest, left)?;
-    let (_, rest) = sign(rest, left, Sign::Semicolon)?;
-    Ok((RawStepKind::Sum(parts), rest))
+    followed(RawStepKind::Sum(parts), rest, left, Sign::Semicolon)
 }
 
 #[tactic(auto, unfolding(crate::specs::Scripts::inst_step))]
@@ -173,9 +198,9 @@ fn inst_step<'a>(alloc: Global, words: &'a [Word], left: u32) -> Read<'a, RawSte
     let (_, rest) = sign(words, left, Sign::Inst)?;
     let (hyp, rest) = hyp(rest, left)?;
     let (terms, rest) = exprs(alloc, rest, left)?;
-    let (given, rest) = as_name(rest, left)?;
-    let (_, rest) = sign(rest, left, Sign::Semicolon)?;
-    Ok((RawStepKind::Inst(hyp, terms, given), rest))
+    let ((terms, name), rest) = given(terms, rest, left)?;
+    let step = RawStepKind::Inst(hyp, terms, name);
+    followed(step, rest, left, Sign::Semicolon)
 }
 
 #[tactic(auto, unfolding(crate::specs::Scripts::parts_step))]
@@ -184,50 +209,52 @@ fn parts_step<'a>(words: &'a [Word], left: u32) -> Read<'a, RawStepKind>
 {
     let (_, rest) = sign(words, left, Sign::Parts)?;
     let (hyp, rest) = hyp(rest, left)?;
-    let (first, rest) = as_name(rest, left)?;
+    let ((hyp, first), rest) = given(hyp, rest, left)?;
     let (_, rest) = sign(rest, left, Sign::Comma)?;
     let (second, rest) = name(rest, left)?;
-    let (_, rest) = sign(rest, left, Sign::Semicolon)?;
-    Ok((RawStepKind::Parts(hyp, first, second), rest))
+    let step = RawStepKind::Parts(hyp, first, second);
+    followed(step, rest, left, Sign::Semicolon)
+}
+
+/// A map, a key and the name that is given, as `read`, `size` and `total` take them.
+#[tactic(auto, unfolding(crate::specs::Scripts::lookup))]
+fn lookup<'a>(
+    alloc: Global,
+    words: &'a [Word],
+    left: u32,
+    word: Sign,
+) -> Read<'a, ((Expr, Expr), Named)>
+    ensures { Reads (λ x. (x.0, x.1.now)) result (lookup word left words.now) }
+{
+    let (_, rest) = sign(words, left, word)?;
+    let (map, rest) = expr(alloc, rest, left)?;
+    let (operands, rest) = paired(alloc, map, rest, left)?;
+    let (parts, rest) = given(operands, rest, left)?;
+    followed(parts, rest, left, Sign::Semicolon)
 }
 
 #[tactic(auto, unfolding(crate::specs::Scripts::lookup_step))]
 fn read_step<'a>(alloc: Global, words: &'a [Word], left: u32) -> Read<'a, RawStepKind>
     ensures { Reads (λ x. (x.0, x.1.now)) result (lookup_step sign.Read step.Read left words.now) }
 {
-    let (_, rest) = sign(words, left, Sign::Read)?;
-    let (map, rest) = expr(alloc, rest, left)?;
-    let (_, rest) = sign(rest, left, Sign::Comma)?;
-    let (key, rest) = expr(alloc, rest, left)?;
-    let (given, rest) = as_name(rest, left)?;
-    let (_, rest) = sign(rest, left, Sign::Semicolon)?;
-    Ok((RawStepKind::Read(map, key, given), rest))
+    let (((map, key), name), rest) = lookup(alloc, words, left, Sign::Read)?;
+    Ok((RawStepKind::Read(map, key, name), rest))
 }
 
 #[tactic(auto, unfolding(crate::specs::Scripts::lookup_step))]
 fn size_step<'a>(alloc: Global, words: &'a [Word], left: u32) -> Read<'a, RawStepKind>
     ensures { Reads (λ x. (x.0, x.1.now)) result (lookup_step sign.Size step.Size left words.now) }
 {
-    let (_, rest) = sign(words, left, Sign::Size)?;
-    let (map, rest) = expr(alloc, rest, left)?;
-    let (_, rest) = sign(rest, left, Sign::Comma)?;
-    let (key, rest) = expr(alloc, rest, left)?;
-    let (given, rest) = as_name(rest, left)?;
-    let (_, rest) = sign(rest, left, Sign::Semicolon)?;
-    Ok((RawStepKind::Size(map, key, given), rest))
+    let (((map, key), name), rest) = lookup(alloc, words, left, Sign::Size)?;
+    Ok((RawStepKind::Size(map, key, name), rest))
 }
 
 #[tactic(auto, unfolding(crate::specs::Scripts::lookup_step))]
 fn total_step<'a>(alloc: Global, words: &'a [Word], left: u32) -> Read<'a, RawStepKind>
     ensures { Reads (λ x. (x.0, x.1.now)) result (lookup_step sign.Total step.Total left words.now) }
 {
-    let (_, rest) = sign(words, left, Sign::Total)?;
-    let (map, rest) = expr(alloc, rest, left)?;
-    let (_, rest) = sign(rest, left, Sign::Comma)?;
-    let (key, rest) = expr(alloc, rest, left)?;
-    let (given, rest) = as_name(rest, left)?;
-    let (_, rest) = sign(rest, left, Sign::Semicolon)?;
-    Ok((RawStepKind::Total(map, key, given), rest))
+    let (((map, key), name), rest) = lookup(alloc, words, left, Sign::Total)?;
+    Ok((RawStepKind::Total(map, key, name), rest))
 }
 
 #[tactic(auto, unfolding(crate::specs::Scripts::cong_step))]
@@ -236,13 +263,11 @@ fn cong_step<'a>(alloc: Global, words: &'a [Word], left: u32) -> Read<'a, RawSte
 {
     let (_, rest) = sign(words, left, Sign::Cong)?;
     let (map, rest) = expr(alloc, rest, left)?;
-    let (_, rest) = sign(rest, left, Sign::Comma)?;
-    let (first, rest) = expr(alloc, rest, left)?;
-    let (_, rest) = sign(rest, left, Sign::Comma)?;
-    let (second, rest) = expr(alloc, rest, left)?;
-    let (given, rest) = as_name(rest, left)?;
-    let (_, rest) = sign(rest, left, Sign::Semicolon)?;
-    Ok((RawStepKind::Cong(map, first, second, given), rest))
+    let (operands, rest) = paired(alloc, map, rest, left)?;
+    let (operands, rest) = paired(alloc, operands, rest, left)?;
+    let ((((map, first), second), name), rest) = given(operands, rest, left)?;
+    let step = RawStepKind::Cong(map, first, second, name);
+    followed(step, rest, left, Sign::Semicolon)
 }
 
 /// A step without a block.
@@ -279,10 +304,10 @@ fn split_step<'a>(alloc: Global, words: &'a [Word], left: u32) -> Read<'a, RawSt
 {
     let (_, rest) = sign(words, left, Sign::Split)?;
     let (hyp, rest) = hyp(rest, left)?;
-    let (given, rest) = as_name(rest, left)?;
+    let ((hyp, name), rest) = given(hyp, rest, left)?;
     let (first, rest) = block(alloc, rest, left)?;
     let (second, rest) = block(alloc, rest, left)?;
-    Ok((RawStepKind::Split(hyp, given, first, second), rest))
+    Ok((RawStepKind::Split(hyp, name, first, second), rest))
 }
 
 #[cycle(script)]
@@ -292,9 +317,9 @@ fn cut_step<'a>(alloc: Global, words: &'a [Word], left: u32) -> Read<'a, RawStep
 {
     let (_, rest) = sign(words, left, Sign::Cut)?;
     let (form, rest) = expr(alloc, rest, left)?;
-    let (given, rest) = as_name(rest, left)?;
+    let ((form, name), rest) = given(form, rest, left)?;
     let (inner, rest) = block(alloc, rest, left)?;
-    Ok((RawStepKind::Cut(form, given, inner), rest))
+    Ok((RawStepKind::Cut(form, name, inner), rest))
 }
 
 #[cycle(script)]
