@@ -1,3 +1,4 @@
 mod Gains
 mod WordLists
 mod Answering
+mod Accepting

@@ -1,25 +1,54 @@
--- What checking a text gives. So far a text is read into lexemes; what follows is not built yet.
-use Rattle.std.specs.Prelude.{◌≡◌, ℕ, ◌<◌, List, length, Result, Ok, Err}
+-- What checking a text gives, and what an accepted text means.
+use Rattle.std.specs.Prelude.{◌≡◌, ℕ, ◌<◌, List, length, Option, Some, None, Result, Ok, Err}
 use Rattle.std.proofs.Common.{refl}
 use Rattle.std.proofs.lemmas.Bool.{lt-ltb}
 use Rattle.sync_base.specs.declared.stops.Refusal.{Refusal}
-use Rattle.sync_base.specs.declared.stops.Rule.TheVariants.{L1, G9}
-use Rattle.sync_base.specs.Outcome.{◌>>=◌}
+use Rattle.sync_base.specs.declared.stops.Rule.TheVariants.{L1}
+use Rattle.sync_base.specs.Outcome.{first, ◌>>=◌}
 use Rattle.sync_lex.specs.Lexemes.{lexemes_of}
+use Rattle.sync_tokens.specs.Words.{worded}
+use Rattle.sync_parse.specs.Machines.{parsed}
+use Rattle.sync_machine.specs.Machines.{MachineTree}
+use Rattle.sync_machine.specs.Naming.{machine_fault}
+use Rattle.sync_machine.specs.States.{HoldsAlways}
+use Rattle.sync_rules.specs.Faults.{strategy_fault}
+use Rattle.sync_induct.specs.Checks.{unbuilt_fault, proof_fault}
+use Rattle.sync_read.specs.Texts.{TextTree, resolved}
 
 -- the most bytes that a text may have
 abbrev pub most_bytes : ℕ
 most_bytes = 1048576
 
--- The first broken rule: that of the lexemes, and else that nothing further is built yet. No text is accepted so far.
-unfoldable pub verdict_of : List ℕ → Result ℕ Refusal
-verdict_of bytes = lexemes_of bytes >>= λ _. Err (record { line = 1; rule = G9 })
+-- the machine and the proofs that the bytes of a text spell, or the first rule of lexemes, grammar or names that they break
+abbrev pub spelled : List ℕ → Result TextTree Refusal
+spelled bytes = parsed bytes >>= resolved
 
--- the text is accepted, with this many checked scripts
+-- the first rule of names or of strategies that a machine breaks
+abbrev pub form_fault : MachineTree → Option Refusal
+form_fault m = first (machine_fault m) (strategy_fault m)
+
+-- the first rule that a machine's proofs break
+abbrev pub proofs_fault : TextTree → Option Refusal
+proofs_fault t = first (unbuilt_fault t.machine.fields t.machine.ops) (proof_fault t.machine t.proofs)
+
+-- so many scripts, where no rule is broken
+abbrev pub unless : Option Refusal → ℕ → Result ℕ Refusal
+unless None scripts = Ok scripts
+unless (Some refusal) scripts = Err refusal
+
+-- the number of a text's scripts, or the first rule that it breaks
+abbrev pub judged : TextTree → Result ℕ Refusal
+judged t = unless (first (form_fault t.machine) (proofs_fault t)) (length t.proofs)
+
+unfoldable pub verdict_of : List ℕ → Result ℕ Refusal
+verdict_of bytes = spelled bytes >>= judged
+
+-- The bytes spell a machine with so many scripts, and it holds always: each state that it reaches by declared steps meets
+-- all its invariants, and no safety condition and no assertion fails at one.
 unfoldable pub IsAccepted : List ℕ → ℕ → Type 0
-IsAccepted bytes scripts = verdict_of bytes ≡ Ok scripts
+IsAccepted bytes scripts = (t : TextTree) × (spelled bytes ≡ Ok t) × HoldsAlways t.machine × (scripts ≡ length t.proofs)
 
 -- a text that is longer than the limit is refused for that
 pub verdict-too_long : (bytes : List ℕ) → most_bytes < length bytes → verdict_of bytes ≡ Err (record { line = 1; rule = L1 })
-unfolding verdict_of lexemes_of
+unfolding verdict_of parsed worded lexemes_of
 verdict-too_long bytes h = rw (lt-ltb most_bytes (length bytes) h) refl

@@ -10,6 +10,8 @@ mod statuses;
 mod streams;
 #[cfg(test)]
 mod tests;
+#[cfg(test)]
+mod text_tests;
 mod writing;
 
 use answers::USAGE;

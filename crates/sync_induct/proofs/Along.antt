@@ -1,10 +1,10 @@
 -- Facts along the statements of an operation: what holds behind them, what they leave, and what proved duties give.
-use Rattle.std.proofs.Common.{◌≡◌, ◌≢◌, ℕ, zero, suc, ◌+◌, ◌*◌, ◌<◌, ◌≤◌, ℤ, Bool, true, false, ◌||◌, List, [], ◌∷◌, ◌++◌, length, map, get_or, set, Option, Some, None, refl, sym, ap, subst, ◌∙◌, inl, inr, arith, cond, add-zero}
-use Rattle.std.specs.List.{AllByRecursion, list_any, range_with_len}
-use Rattle.std.proofs.lemmas.Bool.{cases_eq, true≢false, false≢true}
+use Rattle.std.proofs.Common.{◌≡◌, ℕ, zero, suc, ◌+◌, ◌<◌, Bool, true, false, ◌||◌, List, [], ◌∷◌, ◌++◌, length, get_or, set, Option, Some, None, refl, sym, ap, subst, ◌∙◌, arith, cond, add-zero}
+use Rattle.std.specs.List.{AllByRecursion}
+use Rattle.std.proofs.lemmas.Bool.{true≢false, false≢true}
 use Rattle.std.proofs.lemmas.List.{get_or-set_other, length-set}
-use Rattle.sync_terms.specs.Trees.{Tree, Name, Nil, Formula, replaced_in}
-use Rattle.sync_terms.specs.Values.{Valuation, num, mapped, truth, Holds, HoldsForAll, with_number, Given, IsValid}
+use Rattle.sync_terms.specs.Trees.{Tree, Nil, Formula, replaced_in}
+use Rattle.sync_terms.specs.Values.{Valuation, HoldsForAll, Given, IsValid}
 use Rattle.sync_machine.specs.declared.fields.Field.{Field}
 use Rattle.sync_machine.specs.Machines.{ActTree, Init, Require, Assert, Update, HaveVariable, Add, Remove, Have, Deposit, Withdraw, Guard, StepTree, OperationTree, InvariantTree, MachineTree}
 use Rattle.sync_machine.specs.Statements.{safety, condition, after, field_of, changed_by}
@@ -12,7 +12,7 @@ use Rattle.sync_machine.specs.States.{State, Value, Number, Mapped, sort_of, val
 use Rattle.sync_machine.specs.Scope.{Known, IsConditionIn, AreConditionsIn}
 use Rattle.sync_rules.specs.Obligations.{form_names, touches, is_touched, has_to_keep}
 use Rattle.sync_kernel.specs.Facts.{Fact}
-use Rattle.sync_induct.specs.Duties.{Duty, condition_facts, step_facts, safety_duties, step_duties, facts_behind, closing, keeps_duties, operation_duties, duties_from, givens_of, AreProved}
+use Rattle.sync_induct.specs.Duties.{Duty, condition_facts, step_facts, safety_duties, step_duties, facts_behind, closing, keeps_duties, operation_duties, duties_from, givens_of, IsProved, AreProved}
 use Rattle.sync_rules.specs.declared.claims.Claim.TheVariants as claims
 use Rattle.sync_induct.proofs.Agreement.{Agree, Agree-part, truth-agree}
 
@@ -52,9 +52,6 @@ behind-holds fs v cur facts n (s ∷ ss) h m =
     behind-holds fs v (advanced fs cur s.act) (facts ++ step_facts fs cur n s) (suc n) ss
     (facts-append v facts (step_facts fs cur n s) h (condition-holds v n (condition (strategy_of fs s.act) (current_of cur s.act) s.act) m.0)) m.1
 
-abbrev pub IsProved : Duty → Type 0
-IsProved d = IsValid (givens_of d.facts) d.claim
-
 duty-met : (v : Valuation) (op n line : ℕ) (facts : List Fact) (c : Option Formula) → AreProved (safety_duties op n line facts c) → FactsHold v facts → IsMet v c
 duty-met v op n line facts None p h = tt
 duty-met v op n line facts (Some f) p h = p.0 v (as_givens v facts h)
@@ -87,13 +84,15 @@ keeps-valid o op facts last j (i ∷ is) p =
 
 -- the duties of each operation, whatever its number, are proved
 abbrev pub IsOperationProved : MachineTree → OperationTree → Type 0
-IsOperationProved m o = (k : ℕ) × AreProved (operation_duties m k o)
+IsOperationProved m o = (k : ℕ) × AreProved (operation_duties m.fields m.invariants k o)
 
-pub operations-proved : (m : MachineTree) (op : ℕ) (os : List OperationTree) → AreProved (duties_from m op os) → AllByRecursion (IsOperationProved m) os
+pub operations-proved : (m : MachineTree) (op : ℕ) (os : List OperationTree) → AreProved (duties_from m.fields m.invariants op os) → AllByRecursion (IsOperationProved m) os
 unfolding duties_from
 operations-proved m op [] p = tt
 operations-proved m op (o ∷ os) p =
-    ((op, all-left IsProved (operation_duties m op o) (duties_from m (suc op) os) p), operations-proved m (suc op) os (all-right IsProved (operation_duties m op o) (duties_from m (suc op) os) p))
+    let own = operation_duties m.fields m.invariants op o in
+    let others = duties_from m.fields m.invariants (suc op) os in
+    ((op, all-left IsProved own others p), operations-proved m (suc op) os (all-right IsProved own others p))
 
 -- ---- conditions under a valuation that agrees
 

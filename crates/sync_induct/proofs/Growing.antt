@@ -1,22 +1,17 @@
 -- A walk that goes on: one more fact, one more value, and a store that grows.
-use Rattle.std.proofs.Common.{◌≡◌, ℕ, zero, suc, ◌+◌, ◌-◌, ◌^◌, ◌<◌, ◌≤◌, min, List, [], ◌∷◌, ◌++◌, length, map, set, refl, sym, ap, subst, ◌∙◌, arith}
+use Rattle.std.proofs.Common.{◌≡◌, ℕ, zero, suc, ◌+◌, ◌-◌, ◌^◌, min, List, [], ◌∷◌, ◌++◌, map, set, sym, ap, subst, ◌∙◌, arith}
 use Rattle.std.specs.Prelude.{slice_set}
 use Rattle.std.specs.List.{AllByRecursion}
 use Rattle.std.proofs.lemmas.List.{map-set, map-append}
-use Rattle.sync_terms.specs.Trees.{Tree, Formula, formula_size}
+use Rattle.sync_terms.specs.Trees.{formula_size}
 use Rattle.sync_terms.specs.declared.nodes.TermId.{TermId}
-use Rattle.sync_terms.specs.declared.nodes.FormId.{FormId}
-use Rattle.sync_terms.specs.declared.scripts.HypName.TheVariants.{At}
 use Rattle.sync_terms.specs.Stored.{Stored, tree, formula, IsTerm, IsForm}
 use Rattle.sync_kernel.specs.declared.sequents.Hyp.{Hyp}
 use Rattle.sync_kernel.specs.Facts.{Fact, fact_of}
 use Rattle.sync_induct.specs.declared.walks.Walk.{Walk}
 use Rattle.sync_induct.specs.Checks.{facts_size, capped}
 use Rattle.sync_induct.specs.Duties.{facts_of, HaveForms}
-use Rattle.sync_induct.specs.Walks.{values_of, known_of, known_at, IsWalk, HasCome}
-
-abbrev pub hyp_at : ℕ → FormId → Hyp
-hyp_at n form = record { name = At n; params = []; form = form }
+use Rattle.sync_induct.specs.Walks.{values_of, known_of, IsWalk, HasCome}
 
 facts_size-append : (xs : List Fact) (f : Fact) → facts_size (xs ++ f ∷ []) ≡ facts_size xs + formula_size f.form
 unfolding facts_size
@@ -31,16 +26,16 @@ capped-more : (a b : ℕ) → min (min a (2 ^ 64 - 1) + b) 18446744073709551615 
 capped-more a b = omega arith
 
 -- one more fact
-pub learned : (s : Stored) (w v : Walk) (n : ℕ) (form : FormId) → IsWalk s w → IsForm s form → v.sequent.hyps ≡ w.sequent.hyps ++ hyp_at n form ∷ [] → v.current ≡ w.current
-    → v.size ≡ min (w.size + formula_size (formula s form)) 18446744073709551615 → HasCome s v (known_of s w ++ known_at n (formula s form) ∷ []) (values_of s w)
-learned s w v n form h one hyps current size =
-    let known : known_of s v ≡ known_of s w ++ known_at n (formula s form) ∷ [] = ap (λ (hs : List Hyp). facts_of s hs) hyps ∙ map-append (fact_of s) w.sequent.hyps (hyp_at n form ∷ []) in
+pub gained : (s : Stored) (w v : Walk) (h : Hyp) → IsWalk s w → IsForm s h.form → v.sequent.hyps ≡ w.sequent.hyps ++ h ∷ [] → v.current ≡ w.current
+    → v.size ≡ min (w.size + formula_size (formula s h.form)) 18446744073709551615 → HasCome s v (known_of s w ++ fact_of s h ∷ []) (values_of s w)
+gained s w v h walk form hyps current size =
+    let known : known_of s v ≡ known_of s w ++ fact_of s h ∷ [] = ap (λ (hs : List Hyp). facts_of s hs) hyps ∙ map-append (fact_of s) w.sequent.hyps (h ∷ []) in
     record {
       walk = record {
-        hyps = subst (λ (hs : List Hyp). HaveForms s hs) (sym hyps) (forms-append s w.sequent.hyps (hyp_at n form) h.hyps one);
-        values = subst (λ c. AllByRecursion (IsTerm s) c.items) (sym current) h.values;
-        size = size ∙ (ap (λ (a : ℕ). min (a + formula_size (formula s form)) 18446744073709551615) h.size
-            ∙ (capped-more (facts_size (known_of s w)) (formula_size (formula s form)) ∙ ap capped (sym (facts_size-append (known_of s w) (known_at n (formula s form))) ∙ ap facts_size (sym known))));
+        hyps = subst (λ (hs : List Hyp). HaveForms s hs) (sym hyps) (forms-append s w.sequent.hyps h walk.hyps form);
+        values = subst (λ c. AllByRecursion (IsTerm s) c.items) (sym current) walk.values;
+        size = size ∙ (ap (λ (a : ℕ). min (a + formula_size (formula s h.form)) 18446744073709551615) walk.size
+            ∙ (capped-more (facts_size (known_of s w)) (formula_size (formula s h.form)) ∙ ap capped (sym (facts_size-append (known_of s w) (fact_of s h)) ∙ ap facts_size (sym known))));
       };
       known = known;
       now = ap (λ c. map (tree s) c.items) current;

@@ -8,3 +8,15 @@ pub mod Judging
 pub mod Plain
 pub mod Growing
 pub mod Passing
+pub mod Lasting
+pub mod Remaining
+pub mod Stepping
+pub mod Walking
+pub mod Starting
+pub mod Substituting
+pub mod Keeping
+pub mod Operating
+pub mod Wanting
+pub mod Ready
+pub mod Law
+pub mod Deciding

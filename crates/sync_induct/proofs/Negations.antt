@@ -1,6 +1,6 @@
 -- The size of a negation.
-use Rattle.std.proofs.Common.{◌≡◌, ℕ, suc, ◌+◌, ◌-◌, ◌<◌, refl, sym, ap, ◌∙◌, arith}
-use Rattle.sync_terms.specs.Trees.{Formula, Le, Lt, Eq, Not, And, Or, Imp, formula_size, neg}
+use Rattle.std.proofs.Common.{◌≡◌, ℕ, ◌+◌, ◌-◌, refl, sym, ap, ◌∙◌, arith}
+use Rattle.sync_terms.specs.Trees.{Formula, formula_size, neg}
 use Rattle.sync_terms.specs.Stored.{Stored, form_shape}
 use Rattle.sync_terms.specs.declared.nodes.FormId.{FormId}
 use Rattle.sync_terms.specs.declared.nodes.FormNode.{FormNode}

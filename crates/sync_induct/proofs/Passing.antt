@@ -1,9 +1,9 @@
 -- A walk behind a statement on numbers.
-use Rattle.std.proofs.Common.{◌≡◌, ◌⊎◌, ℕ, List, [], ◌∷◌, ◌++◌, map, set, Option, Some, None, refl, sym, ap, ◌∙◌, inl, inr, Result, Ok, Err}
+use Rattle.std.proofs.Common.{◌≡◌, ◌⊎◌, ℕ, List, [], ◌∷◌, ◌++◌, Option, Some, None, refl, sym, ap, ◌∙◌, inl, inr, Result, Ok, Err}
 use Rattle.std.specs.Prelude.{slice_set, OnOk}
 use Rattle.std.specs.Option.{option_map}
 use Rattle.std.proofs.lemmas.List.{append-nil}
-use Rattle.sync_base.specs.declared.stops.Stop.{Stop}
+use Rattle.sync_base.specs.declared.stops.NoMemory.{NoMemory}
 use Rattle.sync_terms.specs.Trees.{Tree, Formula}
 use Rattle.sync_terms.specs.declared.nodes.TermId.{TermId}
 use Rattle.sync_terms.specs.declared.nodes.FormId.{FormId}
@@ -29,7 +29,7 @@ as-come s v a b c d h e f = record { walk = h.walk; known = h.known ∙ e; now =
 facts-is : (s : Stored) (fs : List Field) (n : ℕ) (w : Walk) (x : Step) (o : Option FormId) → IsWalkable s fs x → known_from x.act ≡ o → facts_after s fs n w x ≡ known_of s w ++ condition_facts n (option_map (formula s) o)
 facts-is s fs n w x o h e =
     ap (λ (c : Option Formula). known_of s w ++ condition_facts n c)
-    (condition-is s (strategy_of fs (act_tree s x.act)) (current_of (values_of s w) (act_tree s x.act)) x.act h.plain h.built ∙ ap (option_map (formula s)) e)
+    (condition-is s (strategy_of fs (act_tree s x.act)) (current_of (values_of s w) (act_tree s x.act)) x.act h.built ∙ ap (option_map (formula s)) e)
 
 facts-stay : (s : Stored) (fs : List Field) (n : ℕ) (w : Walk) (x : Step) → IsWalkable s fs x → known_from x.act ≡ None → known_of s w ≡ facts_after s fs n w x
 facts-stay s fs n w x h e = sym (facts-is s fs n w x None h e ∙ append-nil (known_of s w))
@@ -46,11 +46,11 @@ known-form : (a : Act) (form : FormId) → (a ≡ Require form) ⊎ (a ≡ Asser
 known-form a form (inl e) = ap known_from e
 known-form a form (inr e) = ap known_from e
 
-on-ok : {A : Type 0} (r : Result A Stop) (P Q : Type 0) → (P → Q) → OnOk r P → OnOk r Q
+on-ok : {A E : Type 0} (r : Result A E) (P Q : Type 0) → (P → Q) → OnOk r P → OnOk r Q
 on-ok (Ok x) P Q f h = f h
 on-ok (Err e) P Q f h = tt
 
-pub passed-form : (s : Stored) (fs : List Field) (n : ℕ) (w v : Walk) (x : Step) (form : FormId) (r : Result (Unit {0}) Stop) → IsWalkable s fs x → (x.act ≡ Require form) ⊎ (x.act ≡ Assert form)
+pub passed-form : (s : Stored) (fs : List Field) (n : ℕ) (w v : Walk) (x : Step) (form : FormId) (r : Result (Unit {0}) NoMemory) → IsWalkable s fs x → (x.act ≡ Require form) ⊎ (x.act ≡ Assert form)
     → OnOk r (HasCome s v (known_of s w ++ known_at n (formula s form) ∷ []) (values_of s w)) → OnOk r (HasCome s v (facts_after s fs n w x) (values_after s fs w x))
 passed-form s fs n w v x form r h e =
     on-ok r (HasCome s v (known_of s w ++ known_at n (formula s form) ∷ []) (values_of s w)) (HasCome s v (facts_after s fs n w x) (values_after s fs w x))

@@ -1,8 +1,7 @@
 -- Statements on numbers: what they promise, and what is known and left behind them, over a store that grows.
-use Rattle.std.proofs.Common.{◌≡◌, ℕ, suc, ◌+◌, ◌<◌, ◌≤◌, Bool, true, false, List, [], ◌∷◌, ◌++◌, length, map, get_or, set, Option, Some, None, Result, Ok, Err, refl, sym, ap, subst, ◌∙◌, inl, inr, arith}
-use Rattle.std.specs.Prelude.{OnOk}
+use Rattle.std.proofs.Common.{◌≡◌, ℕ, true, false, List, [], ◌∷◌, Option, Some, None, Result, Ok, Err, refl, sym, ap, subst, ◌∙◌}
+use Rattle.std.specs.Prelude.{not, OnOk}
 use Rattle.std.specs.Option.{option_map}
-use Rattle.std.specs.List.{AllByRecursion}
 use Rattle.std.proofs.lemmas.Bool.{false≢true}
 use Rattle.sync_base.specs.declared.stops.Refusal.{Refusal}
 use Rattle.sync_base.specs.declared.stops.Stop.{Stop}
@@ -16,18 +15,17 @@ use Rattle.sync_machine.specs.declared.fields.Strategy.TheVariants.{Variable, Co
 use Rattle.sync_machine.specs.declared.machine.Act.{Act}
 use Rattle.sync_machine.specs.declared.machine.Act.TheVariants.{Init, Require, Assert, Update, HaveVariable, Add, Remove, Have, Deposit, Withdraw, Guard}
 use Rattle.sync_machine.specs.declared.machine.Step.{Step}
-use Rattle.sync_machine.specs.Statements.{amount_is_natural, enabling, safety, both, condition, after, field_of}
+use Rattle.sync_machine.specs.Statements.{amount_is_natural, enabling, safety, both, condition}
 use Rattle.sync_machine.specs.States.{strategy_of, current_of}
 use Rattle.sync_machine.specs.Views.{act_tree}
 use Rattle.sync_rules.specs.declared.claims.Claim.TheVariants as claims
 use Rattle.sync_induct.specs.declared.walks.Walk.{Walk}
 use Rattle.sync_induct.specs.Acts.{promise_of, known_from}
-use Rattle.sync_induct.specs.Checks.{ProofTree, duty_fault, duties_fault, is_built}
-use Rattle.sync_induct.specs.Duties.{Duty, safety_duties, AreProved}
-use Rattle.sync_induct.specs.Walks.{values_of, known_of, IsPlain, IsWalkable, owed}
-use Rattle.sync_induct.proofs.Along.{IsProved}
+use Rattle.sync_induct.specs.Checks.{ProofTree, duty_fault, duties_fault, is_built, is_count}
+use Rattle.sync_induct.specs.Duties.{Duty, safety_duties, IsProved, AreProved}
+use Rattle.sync_induct.specs.Walks.{values_of, known_of, IsWalkable, owed}
 
-no-amount : (s : Strategy) (t : Tree) → is_built s ≡ true → amount_is_natural s t ≡ None
+no-amount : (s : Strategy) (t : Tree) → not (is_count s) ≡ true → amount_is_natural s t ≡ None
 unfolding amount_is_natural
 no-amount Variable t e = refl
 no-amount Constant t e = refl
@@ -43,35 +41,35 @@ no-amount PersistentSet t e = refl
 no-amount PersistentCount t e = refl
 no-amount StorageMap t e = refl
 
--- the safety condition of a statement on numbers
-safety-is : (s : Stored) (k : Strategy) (cur : Tree) (a : Act) → IsPlain (act_tree s a) → is_built k ≡ true → safety k cur (act_tree s a) ≡ option_map (formula s) (promise_of a)
+-- the safety condition of a statement on no tokens
+safety-is : (s : Stored) (k : Strategy) (cur : Tree) (a : Act) → is_built k (act_tree s a) ≡ true → safety k cur (act_tree s a) ≡ option_map (formula s) (promise_of a)
 unfolding safety
-safety-is s k cur (Init f t) p e = no-amount k _ e
-safety-is s k cur (Update f t) p e = refl
-safety-is s k cur (Require form) p e = refl
-safety-is s k cur (Assert form) p e = refl
-safety-is s k cur (HaveVariable f) p e = refl
-safety-is s k cur (Add f q) p e = absurd p
-safety-is s k cur (Remove f q) p e = absurd p
-safety-is s k cur (Have f q) p e = absurd p
-safety-is s k cur (Deposit f q) p e = absurd p
-safety-is s k cur (Withdraw f q) p e = absurd p
-safety-is s k cur (Guard f q) p e = absurd p
+safety-is s k cur (Init f t) e = no-amount k _ e
+safety-is s k cur (Update f t) e = refl
+safety-is s k cur (Require form) e = refl
+safety-is s k cur (Assert form) e = refl
+safety-is s k cur (HaveVariable f) e = refl
+safety-is s k cur (Add f q) e = absurd (false≢true e)
+safety-is s k cur (Remove f q) e = absurd (false≢true e)
+safety-is s k cur (Have f q) e = absurd (false≢true e)
+safety-is s k cur (Deposit f q) e = absurd (false≢true e)
+safety-is s k cur (Withdraw f q) e = absurd (false≢true e)
+safety-is s k cur (Guard f q) e = absurd (false≢true e)
 
 -- what is known behind it
-pub condition-is : (s : Stored) (k : Strategy) (cur : Tree) (a : Act) → IsPlain (act_tree s a) → is_built k ≡ true → condition k cur (act_tree s a) ≡ option_map (formula s) (known_from a)
+pub condition-is : (s : Stored) (k : Strategy) (cur : Tree) (a : Act) → is_built k (act_tree s a) ≡ true → condition k cur (act_tree s a) ≡ option_map (formula s) (known_from a)
 unfolding condition safety enabling
-condition-is s k cur (Init f t) p e = ap (λ (x : Option Formula). both x None) (no-amount k _ e)
-condition-is s k cur (Update f t) p e = refl
-condition-is s k cur (Require form) p e = refl
-condition-is s k cur (Assert form) p e = refl
-condition-is s k cur (HaveVariable f) p e = refl
-condition-is s k cur (Add f q) p e = absurd p
-condition-is s k cur (Remove f q) p e = absurd p
-condition-is s k cur (Have f q) p e = absurd p
-condition-is s k cur (Deposit f q) p e = absurd p
-condition-is s k cur (Withdraw f q) p e = absurd p
-condition-is s k cur (Guard f q) p e = absurd p
+condition-is s k cur (Init f t) e = ap (λ (x : Option Formula). both x None) (no-amount k _ e)
+condition-is s k cur (Update f t) e = refl
+condition-is s k cur (Require form) e = refl
+condition-is s k cur (Assert form) e = refl
+condition-is s k cur (HaveVariable f) e = refl
+condition-is s k cur (Add f q) e = absurd (false≢true e)
+condition-is s k cur (Remove f q) e = absurd (false≢true e)
+condition-is s k cur (Have f q) e = absurd (false≢true e)
+condition-is s k cur (Deposit f q) e = absurd (false≢true e)
+condition-is s k cur (Withdraw f q) e = absurd (false≢true e)
+condition-is s k cur (Guard f q) e = absurd (false≢true e)
 
 -- ---- one duty or none
 
@@ -80,7 +78,7 @@ duty_at s op n w x form = record { obligation = record { op = op; claim = claims
 
 owed-is : (s : Stored) (fs : List Field) (op n : ℕ) (w : Walk) (x : Step) (o : Option FormId) → IsWalkable s fs x → promise_of x.act ≡ o → owed s fs op n w x ≡ safety_duties op n x.line (known_of s w) (option_map (formula s) o)
 owed-is s fs op n w x o h e =
-    ap (safety_duties op n x.line (known_of s w)) (safety-is s (strategy_of fs (act_tree s x.act)) (current_of (values_of s w) (act_tree s x.act)) x.act h.plain h.built ∙ ap (option_map (formula s)) e)
+    ap (safety_duties op n x.line (known_of s w)) (safety-is s (strategy_of fs (act_tree s x.act)) (current_of (values_of s w) (act_tree s x.act)) x.act h.built ∙ ap (option_map (formula s)) e)
 
 pub owed-none : (s : Stored) (fs : List Field) (op n : ℕ) (w : Walk) (x : Step) → IsWalkable s fs x → promise_of x.act ≡ None → owed s fs op n w x ≡ []
 owed-none s fs op n w x h e = owed-is s fs op n w x None h e

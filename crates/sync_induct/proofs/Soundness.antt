@@ -1,26 +1,24 @@
 -- A machine whose duties are proved holds always: one induction over reached states.
-use Rattle.std.proofs.Common.{◌≡◌, ◌≢◌, ℕ, zero, suc, ◌+◌, ◌-◌, ◌*◌, ◌<◌, ◌≤◌, ℤ, Bool, true, false, List, [], ◌∷◌, length, map, get_or, Option, Some, None, refl, sym, ap, subst, ◌∙◌, inl, inr, arith, cond, ltb, zero-add}
-use Rattle.std.specs.Prelude.{nat_eq, nat_lt, Contains, ◌⊎◌}
-use Rattle.std.specs.List.{AllByRecursion, list_any, range_with_len}
+use Rattle.std.proofs.Common.{◌≡◌, ℕ, suc, ◌+◌, ◌-◌, ◌*◌, ◌<◌, ◌≤◌, ℤ, Bool, true, false, List, [], ◌∷◌, length, get_or, Some, None, refl, sym, ap, subst, ◌∙◌, inl, inr, arith, cond, ltb, zero-add}
+use Rattle.std.specs.Prelude.{nat_eq, Contains, ◌⊎◌}
+use Rattle.std.specs.List.{AllByRecursion, list_any}
 use Rattle.std.proofs.lemmas.Bool.{cases_Bool, ltb-true, ltb-false, lt-ltb, le-ltb, eqb-true, eq-eqb, ne_eqb, true≢false, false≢true}
 use Rattle.std.proofs.lemmas.List.{length-map}
 use Rattle.std.proofs.lemmas.List.FromFn.{get_or-map-range_with_len, length-map-range_with_len}
 use Rattle.std.proofs.lemmas.List.Elements.{All-contains, All-from_recursion}
 use Rattle.sync_terms.specs.Trees.{Tree, Name, Nil, Formula, replaced_in}
-use Rattle.sync_terms.specs.Maps as maps
-use Rattle.sync_terms.specs.Values.{Valuation, num, mapped, truth, Holds, HoldsForAll, with_number, IsValid}
+use Rattle.sync_terms.specs.Values.{Valuation, num, mapped, Holds, HoldsForAll, with_number, IsValid}
 use Rattle.sync_machine.specs.declared.fields.Field.{Field}
 use Rattle.sync_machine.specs.declared.fields.OpMode.{OpMode}
 use Rattle.sync_machine.specs.declared.fields.OpMode.TheVariants as mode
-use Rattle.sync_machine.specs.Machines.{StepTree, OperationTree, InvariantTree, MachineTree}
-use Rattle.sync_machine.specs.Statements.{changed_by}
-use Rattle.sync_machine.specs.States.{State, Value, Number, Mapped, Sort, Numbers, Maps, sort_of, value_in, StandsFor, IsAtFrom, IsAt, AreGiven, strategy_at, last_values, first_values, blank, AreMet, IsKeptSafe, values_in, IsInit, Steps, Starts, IsReached, starts, steps, MeetsInvariants, IsSafe, StartsSafe, HoldsAlways}
+use Rattle.sync_machine.specs.Machines.{OperationTree, InvariantTree, MachineTree}
+use Rattle.sync_machine.specs.States.{State, Sort, Numbers, Maps, sort_of, value_in, StandsFor, IsAt, strategy_at, last_values, first_values, blank, AreMet, values_in, IsInit, Steps, Starts, IsReached, starts, steps, MeetsInvariants, HoldsAlways}
 use Rattle.sync_machine.specs.Scope.{Known, IsNumber, IsMap, IsFormula, HasSort, knows, IsNameSymbol, IsScopedOperation, IsScopedInvariant, ChangesNothing, IsScoped}
-use Rattle.sync_rules.specs.Obligations.{names, form_names, has_to_keep, is_kept_by}
+use Rattle.sync_rules.specs.Obligations.{names, form_names, is_kept_by}
 use Rattle.sync_kernel.specs.Facts.{Fact}
-use Rattle.sync_induct.specs.Duties.{invariant_facts, facts_behind, step_duties, keeps_duties, closing, base_facts, operation_duties, duties_of, givens_of, AreProved}
+use Rattle.sync_induct.specs.Duties.{invariant_facts, facts_behind, step_duties, keeps_duties, closing, base_facts, duties_of, givens_of, IsProved, AreProved}
 use Rattle.sync_induct.proofs.Agreement.{Agree, Agree-part, num-agree, mapped-agree, truth-agree, composed, truth-replaced}
-use Rattle.sync_induct.proofs.Along.{FactsHold, as_givens, all-left, all-right, behind-holds, IsProved, steps-safe, KeepsIt, keeps-valid, IsOperationProved, operations-proved, met-agree, last-length, Spares, last-spared, untouched, nothing-changed, isat-agree, values-length, values-at}
+use Rattle.sync_induct.proofs.Along.{FactsHold, as_givens, all-left, all-right, behind-holds, steps-safe, KeepsIt, keeps-valid, IsOperationProved, operations-proved, met-agree, last-length, Spares, last-spared, untouched, nothing-changed, isat-agree, values-length, values-at}
 
 cond-true : {A : Type 0} (b : Bool) (x y : A) → b ≡ true → cond b x y ≡ x
 cond-true true x y e = refl

@@ -1,8 +1,7 @@
 -- Titles in maps and lists, as the loop over proofs goes on.
-use Rattle.std.proofs.Common.{◌≡◌, ℕ, zero, suc, ◌+◌, ◌<◌, Bool, true, false, not, ◌||◌, ◌&&◌, cond, eqb, List, [], ◌∷◌, ◌++◌, length, map, take, drop, get_or, Option, Some, None, refl, sym, ap, subst, ◌∙◌, inl, inr, arith, append_assoc, add-one, ◌≤◌}
+use Rattle.std.proofs.Common.{◌≡◌, ℕ, suc, ◌+◌, ◌<◌, Bool, true, false, not, ◌||◌, ◌&&◌, cond, eqb, List, [], ◌∷◌, ◌++◌, length, take, drop, get_or, Option, Some, None, refl, sym, ap, subst, ◌∙◌, inl, inr, add-one, ◌≤◌}
 use Rattle.std.specs.Option.{is_some}
 use Rattle.std.specs.Bool.{beq}
-use Rattle.std.specs.List.{list_any}
 use Rattle.std.proofs.lemmas.Bool.{cases_Bool, eqb-true, true≢false, false≢true, and_parts}
 use Rattle.sync_base.specs.declared.stops.Refusal.{Refusal}
 use Rattle.sync_base.specs.declared.stops.Rule.TheVariants.{I2}

@@ -1,5 +1,5 @@
 -- Whether a machine's proofs prove its obligations: nothing, or the first line and rule that they break.
-use Rattle.std.specs.Prelude.{◌≡◌, ℕ, zero, suc, ◌+◌, ◌-◌, ◌^◌, min, List, [], ◌∷◌, ◌++◌, map, Bool, true, false, not, ◌&&◌, ◌||◌, nat_eq, nat_lt, Option, Some, None, if◌then◌else◌}
+use Rattle.std.specs.Prelude.{ℕ, ◌+◌, ◌-◌, ◌^◌, min, List, [], ◌∷◌, ◌++◌, map, Bool, true, false, not, ◌&&◌, ◌||◌, nat_lt, Option, Some, None, if◌then◌else◌}
 use Rattle.std.specs.List.{list_any}
 use Rattle.sync_base.specs.declared.stops.Refusal.{Refusal}
 use Rattle.sync_base.specs.declared.stops.Rule.TheVariants.{I1, I2, K8, G9}
@@ -10,22 +10,23 @@ use Rattle.sync_terms.specs.Stored.{Stored, formula}
 use Rattle.sync_machine.specs.declared.fields.Field.{Field}
 use Rattle.sync_machine.specs.declared.fields.Strategy.{Strategy}
 use Rattle.sync_machine.specs.declared.fields.Strategy.TheVariants.{Variable, Constant, NotTokenized, Option as OptionField, Map, Set, Multiset, Count, PersistentOption, PersistentMap, PersistentSet, PersistentCount, StorageMap}
-use Rattle.sync_machine.specs.Machines.{MachineTree}
+use Rattle.sync_machine.specs.Machines.{ActTree, Init, Require, Assert, Update, HaveVariable, Add, Remove, Have, Deposit, Withdraw, Guard, StepTree, OperationTree, MachineTree}
+use Rattle.sync_machine.specs.States.{strategy_of}
 use Rattle.sync_rules.specs.declared.claims.Obligation.{Obligation}
 use Rattle.sync_rules.specs.Obligations.{obligations_of}
-use Rattle.sync_terms.specs.declared.scripts.Script.{Script}
 use Rattle.sync_kernel.specs.Facts.{Fact}
-use Rattle.sync_kernel.specs.Scripts.{Plan, plan_of, script_fault}
+use Rattle.sync_terms.specs.Plans.{Plan, plan_of}
+use Rattle.sync_kernel.specs.Scripts.{script_fault}
 use Rattle.sync_induct.specs.declared.proofs.Proof.{Proof}
 use Rattle.sync_induct.specs.declared.index.Title.{Title}
 use Rattle.sync_kernel.specs.declared.sequents.Hyp.{Hyp}
 use Rattle.sync_induct.specs.Duties.{Duty, duties_of, facts_of}
 use Rattle.sync_induct.specs.Titles.{titled, same_title}
 
--- a proof: what it is of, with its own line, and its script
+-- a proof: what it is of, with its own line, and its script as a plan
 pub record ProofTree : Type 0 where
   pub title : Obligation
-  pub script : Script
+  pub plan : Plan
 
 abbrev pub title_of : Proof → Obligation
 title_of p = record { op = p.op; claim = p.claim; line = p.line }
@@ -33,11 +34,19 @@ title_of p = record { op = p.op; claim = p.claim; line = p.line }
 abbrev pub titles_of : List Proof → List Obligation
 titles_of ps = map title_of ps
 
-abbrev pub proof_tree : Proof → ProofTree
-proof_tree p = record { title = title_of p; script = p.script }
+-- the ids of a script are of the store
+abbrev pub proof_in : Stored → Proof → ProofTree
+proof_in s p = record { title = title_of p; plan = plan_of s p.script.block }
+
+abbrev pub proofs_in : Stored → List Proof → List ProofTree
+proofs_in s ps = map (proof_in s) ps
+
+-- the steps that are built so far take no terms, so that over no store a script is worth as much
+abbrev pub no_store : Stored
+no_store = record { nodes = []; forms = [] }
 
 abbrev pub proof_trees : List Proof → List ProofTree
-proof_trees ps = map proof_tree ps
+proof_trees ps = proofs_in no_store ps
 
 -- a list has a proof or an obligation of this title
 abbrev pub has_title : List Obligation → Title → Bool
@@ -51,9 +60,9 @@ stray_fault wanted earlier (p ∷ ps) =
     else Some (record { line = p.line; rule = I2 })
 
 -- the script of the first proof with a title
-unfoldable pub proof_of : Title → List ProofTree → Option Script
+unfoldable pub proof_of : Title → List ProofTree → Option Plan
 proof_of t [] = None
-proof_of t (p ∷ ps) = if same_title (titled p.title) t then Some p.script else proof_of t ps
+proof_of t (p ∷ ps) = if same_title (titled p.title) t then Some p.plan else proof_of t ps
 
 -- the nodes of all hypotheses
 unfoldable pub facts_size : List Fact → ℕ
@@ -68,14 +77,10 @@ sequent_size facts claim = facts_size facts + formula_size (neg claim)
 abbrev pub is_large : Duty → Bool
 is_large d = nat_lt 1000000 (formula_size d.claim) || nat_lt 1000000 (sequent_size d.facts d.claim)
 
--- the plan of a script; its steps have no terms yet, so that it is the same over every store
-abbrev pub plan_in : Script → Plan
-plan_in x = plan_of (record { nodes = []; forms = [] }) x
-
 -- an obligation without a proof, with too large a sequent, or with a script that does not prove it
-abbrev pub judged : Duty → Option Script → Option Refusal
+abbrev pub judged : Duty → Option Plan → Option Refusal
 judged d None = Some (record { line = d.obligation.line; rule = I1 })
-judged d (Some script) = if is_large d then Some (record { line = d.obligation.line; rule = K8 }) else script_fault d.facts d.claim (plan_in script)
+judged d (Some plan) = if is_large d then Some (record { line = d.obligation.line; rule = K8 }) else script_fault d.facts d.claim plan
 
 abbrev pub duty_fault : List ProofTree → Duty → Option Refusal
 duty_fault ps d = judged d (proof_of (titled d.obligation) ps)
@@ -88,26 +93,43 @@ duties_fault ps (d ∷ ds) = first (duty_fault ps d) (duties_fault ps ds)
 abbrev pub proof_fault : MachineTree → List ProofTree → Option Refusal
 proof_fault m ps = first (stray_fault (obligations_of m) [] (map (λ (p : ProofTree). p.title) ps)) (duties_fault ps (duties_of m))
 
--- the strategies whose fields are checked so far
-abbrev pub is_built : Strategy → Bool
-is_built Variable = true
-is_built Constant = true
-is_built NotTokenized = true
-is_built OptionField = false
-is_built Map = false
-is_built Set = false
-is_built Multiset = false
-is_built Count = false
-is_built PersistentOption = false
-is_built PersistentMap = false
-is_built PersistentSet = false
-is_built PersistentCount = false
-is_built StorageMap = false
+abbrev pub is_count : Strategy → Bool
+is_count Count = true
+is_count Variable = false
+is_count Constant = false
+is_count NotTokenized = false
+is_count OptionField = false
+is_count Map = false
+is_count Set = false
+is_count Multiset = false
+is_count PersistentOption = false
+is_count PersistentMap = false
+is_count PersistentSet = false
+is_count PersistentCount = false
+is_count StorageMap = false
 
--- the first field of another strategy
-unfoldable pub unbuilt_fault : List Field → Option Refusal
-unbuilt_fault [] = None
-unbuilt_fault (f ∷ fs) = if is_built f.strategy then unbuilt_fault fs else Some (record { line = f.line; rule = G9 })
+-- a statement that is checked so far, on a field of this strategy: none on tokens or stored objects, and no first value of a count
+abbrev pub is_built : Strategy → ActTree → Bool
+is_built k (Init f t) = not (is_count k)
+is_built k (Require form) = true
+is_built k (Assert form) = true
+is_built k (Update f t) = true
+is_built k (HaveVariable f) = true
+is_built k (Add f p) = false
+is_built k (Remove f p) = false
+is_built k (Have f p) = false
+is_built k (Deposit f p) = false
+is_built k (Withdraw f p) = false
+is_built k (Guard f p) = false
+
+-- the first statement that is not
+unfoldable pub unbuilt_step : List Field → List StepTree → Option Refusal
+unbuilt_step fs [] = None
+unbuilt_step fs (x ∷ xs) = if is_built (strategy_of fs x.act) x.act then unbuilt_step fs xs else Some (record { line = x.line; rule = G9 })
+
+unfoldable pub unbuilt_fault : List Field → List OperationTree → Option Refusal
+unbuilt_fault fs [] = None
+unbuilt_fault fs (o ∷ os) = first (unbuilt_step fs o.steps) (unbuilt_fault fs os)
 
 -- a count that stands still at the end of its type
 abbrev pub capped : ℕ → ℕ

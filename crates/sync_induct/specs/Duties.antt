@@ -1,5 +1,5 @@
 -- What has to be proved of each operation, as sequents: the obligations with their hypotheses and claims.
-use Rattle.std.specs.Prelude.{◌≡◌, ℕ, suc, ◌+◌, ◌<◌, List, [], ◌∷◌, ◌++◌, map, length, slice_index_or, nat_eq, nat_lt, Option, Some, None, if◌then◌else◌}
+use Rattle.std.specs.Prelude.{ℕ, suc, List, [], ◌∷◌, ◌++◌, map, length, slice_index_or, nat_eq, nat_lt, Option, Some, None, if◌then◌else◌}
 use Rattle.std.specs.List.{AllByRecursion, list_any}
 use Rattle.sync_terms.specs.declared.scripts.HypName.TheVariants.{Label, At}
 use Rattle.sync_terms.specs.Trees.{Tree, Name, Nil, Formula, replaced_in}
@@ -58,12 +58,19 @@ facts_behind fs cur facts n (s ∷ ss) = facts_behind fs (advanced fs cur s.act)
 abbrev pub closing : List ℕ → List Tree → ℕ → Tree
 closing params last x = if nat_lt x (length last) then slice_index_or last x Nil else (if list_any (nat_eq x) params then Name (suc x) else Name x)
 
+-- an invariant behind an operation that leaves these values
+abbrev pub closed_form : List Tree → InvariantTree → Formula
+closed_form last i = replaced_in (closing i.params last) i.form
+
+-- the duty to keep an invariant
+abbrev pub kept_duty : Obligation → List Fact → List Tree → InvariantTree → Duty
+kept_duty obligation facts last i = record { obligation = obligation; facts = facts; claim = closed_form last i }
+
 -- the invariants, numbered from j, that the operation has to keep
 unfoldable pub keeps_duties : OperationTree → ℕ → List Fact → List Tree → ℕ → List InvariantTree → List Duty
 keeps_duties o op facts last j [] = []
 keeps_duties o op facts last j (i ∷ is) =
-    if has_to_keep o i then
-    record { obligation = record { op = op; claim = claims.Keeps j; line = o.line }; facts = facts; claim = replaced_in (closing i.params last) i.form } ∷ keeps_duties o op facts last (suc j) is
+    if has_to_keep o i then kept_duty (record { op = op; claim = claims.Keeps j; line = o.line }) facts last i ∷ keeps_duties o op facts last (suc j) is
     else keeps_duties o op facts last (suc j) is
 
 -- what may be used from the first statement on: the invariants, but for an init nothing
@@ -72,19 +79,20 @@ base_facts mode.Init is = []
 base_facts mode.Transition is = invariant_facts is
 base_facts mode.Property is = invariant_facts is
 
-abbrev pub operation_duties : MachineTree → ℕ → OperationTree → List Duty
-operation_duties m op o =
-    step_duties m.fields op (first_values m.fields o.mode) (base_facts o.mode m.invariants) 1 o.steps
-    ++ keeps_duties o op (facts_behind m.fields (first_values m.fields o.mode) (base_facts o.mode m.invariants) 1 o.steps)
-    (last_values m.fields (first_values m.fields o.mode) o.steps) 0 m.invariants
+-- the duties of an operation: its safety conditions, then the invariants that it has to keep
+abbrev pub operation_duties : List Field → List InvariantTree → ℕ → OperationTree → List Duty
+operation_duties fs is op o =
+    step_duties fs op (first_values fs o.mode) (base_facts o.mode is) 1 o.steps
+    ++ keeps_duties o op (facts_behind fs (first_values fs o.mode) (base_facts o.mode is) 1 o.steps)
+    (last_values fs (first_values fs o.mode) o.steps) 0 is
 
-unfoldable pub duties_from : MachineTree → ℕ → List OperationTree → List Duty
-duties_from m op [] = []
-duties_from m op (o ∷ os) = operation_duties m op o ++ duties_from m (suc op) os
+unfoldable pub duties_from : List Field → List InvariantTree → ℕ → List OperationTree → List Duty
+duties_from fs is op [] = []
+duties_from fs is op (o ∷ os) = operation_duties fs is op o ++ duties_from fs is (suc op) os
 
 -- everything that has to be proved of a machine, in order
 abbrev pub duties_of : MachineTree → List Duty
-duties_of m = duties_from m 0 m.ops
+duties_of m = duties_from m.fields m.invariants 0 m.ops
 
 -- hypotheses of a store as facts
 abbrev pub facts_of : Stored → List Hyp → List Fact
@@ -97,6 +105,9 @@ HaveForms s hs = AllByRecursion (λ (h : Hyp). IsForm s h.form) hs
 abbrev pub givens_of : List Fact → List Given
 givens_of facts = map given facts
 
--- every duty's claim follows from its facts
+-- a duty's claim follows from its facts
+abbrev pub IsProved : Duty → Type 0
+IsProved d = IsValid (givens_of d.facts) d.claim
+
 abbrev pub AreProved : List Duty → Type 0
-AreProved ds = AllByRecursion (λ (d : Duty). IsValid (givens_of d.facts) d.claim) ds
+AreProved ds = AllByRecursion IsProved ds

@@ -3,4 +3,6 @@ pub mod Titles
 pub mod Checks
 pub mod Acts
 pub mod Walks
-pub mod Laws
+pub mod Starts
+pub mod Closing
+pub mod Grown

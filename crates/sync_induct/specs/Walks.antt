@@ -1,5 +1,5 @@
 -- What is known at a place of an operation: hypotheses, and each field's value so far, over a store that grows.
-use Rattle.std.specs.Prelude.{◌≡◌, ℕ, ◌++◌, List, [], map, Option, Some, None, true}
+use Rattle.std.specs.Prelude.{◌≡◌, ℕ, ◌++◌, List, [], map, true}
 use Rattle.std.specs.List.{AllByRecursion}
 use Rattle.sync_terms.specs.Trees.{Tree, Formula}
 use Rattle.sync_terms.specs.declared.scripts.HypName.TheVariants.{At}
@@ -7,7 +7,7 @@ use Rattle.sync_terms.specs.declared.nodes.TermId.{TermId}
 use Rattle.sync_terms.specs.Stored.{Stored, tree, IsTerm}
 use Rattle.sync_machine.specs.declared.fields.Field.{Field}
 use Rattle.sync_machine.specs.declared.machine.Step.{Step}
-use Rattle.sync_machine.specs.Machines.{ActTree, Init, Require, Assert, Update, HaveVariable, Add, Remove, Have, Deposit, Withdraw, Guard, StepTree}
+use Rattle.sync_machine.specs.Machines.{ActTree, Init, Require, Assert, Update, HaveVariable, Add, Remove, Have, Deposit, Withdraw, Guard}
 use Rattle.sync_machine.specs.Statements.{safety}
 use Rattle.sync_machine.specs.States.{strategy_of, current_of, advanced}
 use Rattle.sync_machine.specs.Views.{act_tree, step_tree, HasActIds}
@@ -23,6 +23,11 @@ values_of s w = map (tree s) w.current.items
 -- the facts so far
 abbrev pub known_of : Stored → Walk → List Fact
 known_of s w = facts_of s w.sequent.hyps
+
+-- ids of a store with these trees
+pub record HaveTrees (s : Stored) (ids : List TermId) (trees : List Tree) : Type 0 where
+  pub terms : AllByRecursion (IsTerm s) ids
+  pub are : map (tree s) ids ≡ trees
 
 -- the condition of the statement with number n, as a fact
 abbrev pub known_at : ℕ → Formula → Fact
@@ -40,7 +45,7 @@ pub record HasCome (s : Stored) (w : Walk) (facts : List Fact) (values : List Tr
   pub known : known_of s w ≡ facts
   pub now : values_of s w ≡ values
 
--- a statement that fields have which are numbers without tokens of their own
+-- a statement on no tokens and no stored objects
 abbrev pub IsPlain : ActTree → Type 0
 IsPlain (Init f t) = Unit {0}
 IsPlain (Update f t) = Unit {0}
@@ -54,11 +59,11 @@ IsPlain (Deposit f p) = ⊥
 IsPlain (Withdraw f p) = ⊥
 IsPlain (Guard f p) = ⊥
 
--- a statement that can be walked over: its ids are of the store, and its field is a number
+-- a statement that can be walked over: its ids are of the store, and it is checked so far
 pub record IsWalkable (s : Stored) (fs : List Field) (x : Step) : Type 0 where
   pub ids : HasActIds s x.act
   pub plain : IsPlain (act_tree s x.act)
-  pub built : is_built (strategy_of fs (act_tree s x.act)) ≡ true
+  pub built : is_built (strategy_of fs (act_tree s x.act)) (act_tree s x.act) ≡ true
 
 -- what the statement with number n has to show, after the walk so far
 abbrev pub owed : Stored → List Field → ℕ → ℕ → Walk → Step → List Duty

@@ -9,7 +9,7 @@ ghost use Rattle.sync_induct.specs.Titles.{same_title, first_at};
 use crate::proofs::Proof;
 use std::alloc::Global;
 use std::collections::{HashMap, HashSet};
-use sync_base::{Refusal, Rule, Stop};
+use sync_base::{NoMemory, Refusal, Rule, Stop};
 use sync_rules::{Claim, Obligation};
 
 /// What a proof is of: an operation, and the number of a statement of it or of an invariant.
@@ -46,7 +46,7 @@ impl Title {
 pub type Places = HashMap<Title, usize>;
 
 /// The titles of obligations.
-pub fn wanted(alloc: Global, obligations: &[Obligation]) -> Result<HashSet<Title>, Stop>
+pub fn wanted(alloc: Global, obligations: &[Obligation]) -> Result<HashSet<Title>, NoMemory>
     ensures { IfOk result (λ s. (t : Title) → contains same_title s t ≡ has_title obligations.now t) }
 {
     let mut titles = HashSet::new(alloc);

@@ -18,7 +18,7 @@ use sync_kernel::{Sequent, prove};
 use sync_rules::Obligation;
 use sync_terms::Terms;
 
-fn refused(line: u32, rule: Rule) -> Stop
+pub fn refused(line: u32, rule: Rule) -> Stop
     ensures { result ≡ Stop.Refused (record { line = line; rule = rule }) }
 {
     Stop::Refused(Refusal { line, rule })

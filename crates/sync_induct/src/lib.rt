@@ -1,12 +1,21 @@
 //! Whether a machine's invariants are inductive: every reached state meets them, and no condition ever fails.
 #![tactic(auto)]
 
+mod checking;
+mod closing;
+mod holding;
 mod index;
 mod judges;
-mod laws;
+mod numbers;
+mod operations;
 mod proofs;
 mod sizes;
+mod starts;
 mod walks;
 
-pub use laws::proved_machines_hold;
+pub use checking::inductive;
+pub use holding::Inductive;
 pub use proofs::{Proof, Proofs};
+
+#[cfg(test)]
+mod tests;

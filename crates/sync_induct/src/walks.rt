@@ -1,20 +1,25 @@
 //! The walk over the statements of an operation.
-ghost use Rattle.std.specs.Prelude.{◌≡◌, ◌++◌, ◌∷◌, [], List, OnOk, IfErr, slice_set};
+ghost use Rattle.std.specs.Prelude.{◌≡◌, ◌++◌, ◌∷◌, [], All, OnOk, slice_set};
 ghost use Rattle.std.specs.HashMap.{get};
 ghost use Rattle.sync_base.specs.Outcome.{Passes};
 ghost use Rattle.sync_terms.specs.Stored.{Extends, IsForm, IsTerm, formula, tree};
-ghost use Rattle.sync_induct.specs.declared.index.Title.{Title};
+ghost use Rattle.sync_induct.specs.declared.index.Title.{Title as Named};
 ghost use Rattle.sync_induct.specs.Acts.{promise_of};
 ghost use Rattle.sync_induct.specs.Checks.{titles_of, proof_trees, duties_fault};
-ghost use Rattle.sync_induct.specs.Duties.{AreProved};
+ghost use Rattle.sync_induct.specs.Duties.{AreProved, step_duties, facts_behind};
+ghost use Rattle.sync_kernel.specs.Facts.{fact_of};
+ghost use Rattle.sync_machine.specs.States.{last_values};
+ghost use Rattle.sync_machine.specs.Views.{steps_tree};
 ghost use Rattle.sync_induct.specs.Titles.{same_title, first_at};
 
-use crate::index::Places;
+use crate::index::{Places, Title};
 use crate::judges::judge;
+use crate::numbers::number;
 use crate::proofs::Proof;
 use sqlite_items::Items;
 use std::alloc::Global;
-use sync_base::Stop;
+use std::collections::HashSet;
+use sync_base::{NoMemory, Stop};
 use sync_kernel::{Hyp, Sequent};
 use sync_machine::{Act, Field, Step};
 use sync_rules::{Claim, Obligation};
@@ -29,11 +34,12 @@ pub struct Walk {
     pub current: Vec<TermId>,
 }
 
-/// A text's proofs, and where each title's first one stands.
+/// A text's proofs, where each title's first one stands, and the titles of the obligations.
 #[derive(Clone, Copy)]
 pub struct Book<'a> {
     pub proofs: &'a [Proof],
     pub places: &'a Places,
+    pub wanted: &'a HashSet<Title>,
 }
 
 /// The safety condition of a statement on numbers.
@@ -62,7 +68,7 @@ impl Walk {
     ) -> Result<(), Stop>
         requires walk { IsWalk terms.old self.old }
         requires walkable { IsWalkable terms.old fields.now step }
-        requires placed { (t : Title) → get same_title book.places.now t ≡ first_at t 0 (titles_of book.proofs.now) }
+        requires placed { (t : Named) → get same_title book.places.now t ≡ first_at t 0 (titles_of book.proofs.now) }
         ensures exact { Passes result (duties_fault (proof_trees book.entry.proofs.now) (owed terms.old fields.now op number self.old step)) }
         ensures proved { OnOk result (AreProved (owed terms.old fields.now op number self.old step)) }
         ensures keeps { Extends terms.old terms.new }
@@ -90,21 +96,38 @@ impl Walk {
         )
     }
 
-    /// Adds what is known behind the statement with this number.
-    fn learn(&mut self, alloc: Global, terms: &Terms, number: u32, form: FormId) -> Result<(), Stop>
+    /// Adds a hypothesis.
+    pub fn add(&mut self, terms: &Terms, hyp: Hyp) -> Result<(), NoMemory>
         requires walk { IsWalk terms.now self.old }
-        requires form { IsForm terms.now form }
-        ensures ok { OnOk result (HasCome terms.now self.new (known_of terms.now self.old ++ known_at number (formula terms.now form) ∷ []) (values_of terms.now self.old)) }
-        ensures memory { IfErr result (λ e. e ≡ Stop.Memory) }
+        requires form { IsForm terms.now hyp.form }
+        ensures { OnOk result (HasCome terms.now self.new (known_of terms.now self.old ++ fact_of terms.now hyp ∷ []) (values_of terms.now self.old)) }
     {
-        let size = self.size.saturating_add(terms.size_of(form));
-        self.sequent.hyps.push(Hyp {
-            name: HypName::At(number),
-            params: Items::new(alloc),
-            form,
-        })?;
+        let size = self.size.saturating_add(terms.size_of(hyp.form));
+        self.sequent.hyps.push(hyp)?;
         self.size = size;
         Ok(())
+    }
+
+    /// Adds what is known behind the statement with this number.
+    fn learn(
+        &mut self,
+        alloc: Global,
+        terms: &Terms,
+        number: u32,
+        form: FormId,
+    ) -> Result<(), NoMemory>
+        requires walk { IsWalk terms.now self.old }
+        requires form { IsForm terms.now form }
+        ensures { OnOk result (HasCome terms.now self.new (known_of terms.now self.old ++ known_at number (formula terms.now form) ∷ []) (values_of terms.now self.old)) }
+    {
+        self.add(
+            terms,
+            Hyp {
+                name: HypName::At(number),
+                params: Items::new(alloc),
+                form,
+            },
+        )
     }
 
     /// Gives a field its value behind a statement.
@@ -127,11 +150,10 @@ impl Walk {
         fields: &[Field],
         number: u32,
         step: Step,
-    ) -> Result<(), Stop>
+    ) -> Result<(), NoMemory>
         requires walk { IsWalk terms.now self.old }
         requires walkable { IsWalkable terms.now fields.now step }
-        ensures ok { OnOk result (HasCome terms.now self.new (facts_after terms.now fields.now number self.old step) (values_after terms.now fields.now self.old step)) }
-        ensures memory { IfErr result (λ e. e ≡ Stop.Memory) }
+        ensures { OnOk result (HasCome terms.now self.new (facts_after terms.now fields.now number self.old step) (values_after terms.now fields.now self.old step)) }
     {
         match step.act {
             Act::Require(form) | Act::Assert(form) => self.learn(alloc, terms, number, form),
@@ -141,5 +163,32 @@ impl Walk {
             }
             _ => Ok(()),
         }
+    }
+
+    /// Goes over the statements of an operation, in order.
+    pub fn walk(
+        &mut self,
+        alloc: Global,
+        terms: &mut Terms,
+        fields: &[Field],
+        op: u32,
+        steps: &[Step],
+        book: Book<'_>,
+    ) -> Result<(), Stop>
+        requires walk { IsWalk terms.old self.old }
+        requires walkable { All (IsWalkable terms.old fields.now) steps.now }
+        requires placed { (t : Named) → get same_title book.places.now t ≡ first_at t 0 (titles_of book.proofs.now) }
+        ensures exact { Passes result (duties_fault (proof_trees book.entry.proofs.now) (step_duties fields.now op (values_of terms.old self.old) (known_of terms.old self.old) 1 (steps_tree terms.old steps.now))) }
+        ensures proved { OnOk result (AreProved (step_duties fields.now op (values_of terms.old self.old) (known_of terms.old self.old) 1 (steps_tree terms.old steps.now))) }
+        ensures come { OnOk result (HasCome terms.new self.new (facts_behind fields.now (values_of terms.old self.old) (known_of terms.old self.old) 1 (steps_tree terms.old steps.now))
+            (last_values fields.now (values_of terms.old self.old) (steps_tree terms.old steps.now))) }
+        ensures keeps { Extends terms.old terms.new }
+    {
+        for (i, step) in steps.iter().enumerate() {
+            let number = number(i + 1)?;
+            self.check(alloc, terms, fields, op, number, *step, book)?;
+            self.pass(alloc, terms, fields, number, *step)?;
+        }
+        Ok(())
     }
 }

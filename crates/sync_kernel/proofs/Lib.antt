@@ -7,3 +7,5 @@ pub mod Names
 pub mod Opposing
 pub mod SameSteps
 pub mod Planned
+pub mod Blind
+pub mod Stays

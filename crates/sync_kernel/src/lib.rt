@@ -11,3 +11,6 @@ mod sums;
 pub use provers::prove;
 pub use sequents::{Hyp, Sequent};
 pub use sync_terms::{Block, HypName, Part, Script, ScriptStep, StepKind};
+
+#[cfg(test)]
+mod tests;

@@ -6,7 +6,8 @@ ghost use Rattle.sync_terms.specs.Stored.{Extends, IsForm, formula};
 ghost use Rattle.sync_terms.specs.Values.{IsValid};
 ghost use Rattle.sync_kernel.specs.Facts.{facts, fact_of, given};
 ghost use Rattle.sync_kernel.specs.Holding.{AreForms};
-ghost use Rattle.sync_kernel.specs.Scripts.{step_of, plan_of, move_fault, block_fault, script_fault};
+ghost use Rattle.sync_terms.specs.Plans.{Plan, End, steps_before, plan_of};
+ghost use Rattle.sync_kernel.specs.Scripts.{then_of, step_fault, block_fault, script_fault};
 
 use crate::sames::same;
 use crate::sequents::Sequent;
@@ -21,10 +22,11 @@ fn refused(line: u32, rule: Rule) -> Result<(), Stop>
     Err(Stop::Refused(Refusal { line, rule }))
 }
 
+/// Checks the first step of a block, whatever stands behind it.
 fn check_step(alloc: Global, terms: &Terms, q: &Sequent, step: &ScriptStep) -> Result<(), Stop>
     requires hyps { AreForms terms.now q.now.hyps }
     requires claim { IsForm terms.now q.now.claim }
-    ensures { Passes result (move_fault (facts terms.now q.now) (step_of step.now).line (step_of step.now).move) }
+    ensures { (rest : Plan) → Passes result (step_fault (facts terms.now q.now) (then_of terms.now step.now rest)) }
 {
     match &step.what {
         StepKind::Same => same(alloc, terms, q, step.line),
@@ -49,15 +51,15 @@ fn check_steps(
 ) -> Result<(), Stop>
     requires hyps { AreForms terms.now q.now.hyps }
     requires claim { IsForm terms.now q.now.claim }
-    ensures { Passes result (block_fault (facts terms.now q.now) end_line (map step_of steps.now)) }
+    ensures { Passes result (block_fault (facts terms.now q.now) (steps_before (map (then_of terms.now) steps.now) (End end_line))) }
 {
-    match steps {
-        [] => refused(end_line, Rule::K9),
-        [step] => check_step(alloc, terms, q, step),
-        [step, next, ..] => {
-            check_step(alloc, terms, q, step)?;
-            refused(next.line, Rule::K9)
-        }
+    let Some((step, more)) = steps.split_first() else {
+        return refused(end_line, Rule::K9);
+    };
+    check_step(alloc, terms, q, step)?;
+    match more.split_first() {
+        Some((next, _)) => refused(next.line, Rule::K9),
+        None => Ok(()),
     }
 }
 
@@ -67,11 +69,12 @@ fn check_steps(
 /// A script is one step, `same` or `sum`. Other steps are refused with G9. The refusal is the first broken rule, at the
 /// line of its step: K4 of `same`; K1, K2, K6, K7 for each part of a `sum` from the left, and K5 at its end; K9 for a
 /// step after the first, or at the end of a block without steps. The store keeps its trees.
+#[tactic(auto, using(crate::proofs::Planned::plan_is))]
 pub fn prove(alloc: Global, terms: &mut Terms, q: &Sequent, s: &Script) -> Result<(), Stop>
     requires hyps { AreForms terms.old q.now.hyps }
     requires claim { IsForm terms.old q.now.claim }
     ensures valid { OnOk result (IsValid (map (λ h. given (fact_of terms.old h)) q.now.hyps) (formula terms.old q.now.claim)) }
-    ensures exact { Passes result (script_fault (map (fact_of terms.old) q.now.hyps) (formula terms.old q.now.claim) (plan_of terms.old s.now)) }
+    ensures exact { Passes result (script_fault (map (fact_of terms.old) q.now.hyps) (formula terms.old q.now.claim) (plan_of terms.old s.now.block)) }
     ensures keeps { Extends terms.old terms.new }
 {
     check_steps(alloc, terms, q, s.block.steps.as_slice(), s.block.end_line)

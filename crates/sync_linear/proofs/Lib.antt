@@ -5,3 +5,4 @@ pub mod Trees
 pub mod Joins
 pub mod Leaves
 pub mod Spines
+pub mod Stays

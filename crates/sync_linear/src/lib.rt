@@ -10,3 +10,6 @@ mod terms;
 pub use changes::Change;
 pub use lines::Linear;
 pub use stops::LinearStop;
+
+#[cfg(test)]
+mod tests;

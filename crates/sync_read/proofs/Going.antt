@@ -25,7 +25,8 @@ use Rattle.sync_names.specs.Exprs.{term_of}
 use Rattle.sync_read.specs.Acts.{within, act_in, steps_from}
 use Rattle.sync_read.specs.Owned.{HasOperationIds}
 use Rattle.sync_read.specs.Resolving.{operation_in, operations_from, invariant_in, invariants_from}
-use Rattle.sync_read.specs.Scripts.{ProofTree, numbers_from, thens_from, proof_in, proofs_from, proof_tree}
+use Rattle.sync_induct.specs.Checks.{ProofTree, proof_in as stored_proof}
+use Rattle.sync_read.specs.Scripts.{numbers_from, thens_from, proof_in, proofs_from}
 use Rattle.sync_read.proofs.Steps.{steps_kept}
 use Rattle.sync_read.proofs.Growing.{operations_kept, invariants_kept}
 
@@ -151,7 +152,7 @@ unfolding proofs_from
 proofs_open held s o rest = refl
 
 pub proofs_go : (t : Stored) (scope next : Scope) (raw : List RawProof) (i : ℕ) (o : RawProof) (held more : List Proof) (x : Proof) (want : Result (List ProofTree × Scope) Refusal)
-    → i < length raw → o ≡ get_or raw i o → proof_in (length held) scope o ≡ Ok (proof_tree t x, next) → more ≡ held ++ x ∷ []
-    → proofs_from (map (proof_tree t) held) scope (drop i raw) ≡ want → proofs_from (map (proof_tree t) more) next (drop (i + 1) raw) ≡ want
+    → i < length raw → o ≡ get_or raw i o → proof_in (length held) scope o ≡ Ok (stored_proof t x, next) → more ≡ held ++ x ∷ []
+    → proofs_from (map (stored_proof t) held) scope (drop i raw) ≡ want → proofs_from (map (stored_proof t) more) next (drop (i + 1) raw) ≡ want
 proofs_go t scope next raw i o held more x want below item made is so_far =
-    go_on proofs_from proof_in proofs_open (proof_tree t) (proof_tree t) scope next raw i o held more x want below item refl made is so_far
+    go_on proofs_from proof_in proofs_open (stored_proof t) (stored_proof t) scope next raw i o held more x want below item refl made is so_far

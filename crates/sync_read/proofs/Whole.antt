@@ -17,7 +17,8 @@ use Rattle.sync_names.specs.declared.scopes.Scope.{Scope}
 use Rattle.sync_names.specs.Scopes.{meaning_of}
 use Rattle.sync_read.specs.Acts.{within}
 use Rattle.sync_read.specs.Resolving.{machine_in}
-use Rattle.sync_read.specs.Scripts.{ProofTree, operation_meaning, claim_in, script_scope, block_of, proof_in, proofs_from}
+use Rattle.sync_induct.specs.Checks.{ProofTree}
+use Rattle.sync_read.specs.Scripts.{operation_meaning, claim_in, script_scope, block_of, proof_in, proofs_from}
 use Rattle.sync_read.specs.Texts.{first_scope, resolved}
 use Rattle.sync_read.proofs.Growing.{operations_kept, operations_stay, invariants_kept, invariants_stay}
 use Rattle.sync_read.proofs.Symbols.{machine_names}
@@ -30,25 +31,25 @@ gives_stop view r e wanted is h = subst (λ x. Gives view x wanted) (sym is) h
 
 abbrev behind_claim : ℕ → Scope → RawProof → ℕ → Claim → Result (ProofTree × Scope) Refusal
 behind_claim before s p o c = within 65536 before p.script.line >>= (λ n. block_of (script_scope o c s) p.script.block >>= (λ b.
-    Ok (record { op = o; claim = c; plan = b; by_line = p.script.line; line = p.operation.line }, script_scope o c s)))
+    Ok (record { title = record { op = o; claim = c; line = p.operation.line }; plan = b }, script_scope o c s)))
 
 proof_is : (before : ℕ) (s : Scope) (p : RawProof) (o n : ℕ) (c : Claim) → operation_meaning (meaning_of s p.operation.name) p.operation.line ≡ Ok o → claim_in s p.claim ≡ Ok c
     → within 65536 before p.script.line ≡ Ok n
-    → proof_in before s p ≡ (block_of (script_scope o c s) p.script.block >>= (λ b. Ok (record { op = o; claim = c; plan = b; by_line = p.script.line; line = p.operation.line }, script_scope o c s)))
+    → proof_in before s p ≡ (block_of (script_scope o c s) p.script.block >>= (λ b. Ok (record { title = record { op = o; claim = c; line = p.operation.line }; plan = b }, script_scope o c s)))
 unfolding proof_in
 proof_is before s p o n c operation claim few =
     ap (λ r. r >>= (λ o. claim_in s p.claim >>= behind_claim before s p o)) operation
     ∙ ap (λ r. r >>= behind_claim before s p o) claim
     ∙ ap (λ r. r >>= (λ n. block_of (script_scope o c s) p.script.block >>= (λ b.
-    Ok (record { op = o; claim = c; plan = b; by_line = p.script.line; line = p.operation.line }, script_scope o c s)))) few
+    Ok (record { title = record { op = o; claim = c; line = p.operation.line }; plan = b }, script_scope o c s)))) few
 
 pub proof_made : (before : ℕ) (s next : Scope) (p : RawProof) (o n : ℕ) (c : Claim) (plan : Plan) → operation_meaning (meaning_of s p.operation.name) p.operation.line ≡ Ok o → claim_in s p.claim ≡ Ok c
     → within 65536 before p.script.line ≡ Ok n → next ≡ script_scope o c s → block_of next p.script.block ≡ Ok plan
-    → proof_in before s p ≡ Ok (record { op = o; claim = c; plan = plan; by_line = p.script.line; line = p.operation.line }, next)
+    → proof_in before s p ≡ Ok (record { title = record { op = o; claim = c; line = p.operation.line }; plan = plan }, next)
 proof_made before s next p o n c plan operation claim few is block =
-    let made : ProofTree = record { op = o; claim = c; plan = plan; by_line = p.script.line; line = p.operation.line } in
+    let made : ProofTree = record { title = record { op = o; claim = c; line = p.operation.line }; plan = plan } in
     proof_is before s p o n c operation claim few
-    ∙ ap (λ r. r >>= (λ b. Ok (record { op = o; claim = c; plan = b; by_line = p.script.line; line = p.operation.line }, script_scope o c s))) (ap (λ s. block_of s p.script.block) (sym is) ∙ block)
+    ∙ ap (λ r. r >>= (λ b. Ok (record { title = record { op = o; claim = c; line = p.operation.line }; plan = b }, script_scope o c s))) (ap (λ s. block_of s p.script.block) (sym is) ∙ block)
     ∙ ap (λ s. Ok (made, s)) (sym is)
 
 pub proof_stops : (e : Stop) (before : ℕ) (s next : Scope) (p : RawProof) (o n : ℕ) (c : Claim) → operation_meaning (meaning_of s p.operation.name) p.operation.line ≡ Ok o → claim_in s p.claim ≡ Ok c
@@ -56,7 +57,7 @@ pub proof_stops : (e : Stop) (before : ℕ) (s next : Scope) (p : RawProof) (o n
 proof_stops Memory before s next p o n c operation claim few is h = tt
 proof_stops (Refused r) before s next p o n c operation claim few is h =
     proof_is before s p o n c operation claim few
-    ∙ ap (λ r. r >>= (λ b. Ok (record { op = o; claim = c; plan = b; by_line = p.script.line; line = p.operation.line }, script_scope o c s))) (ap (λ s. block_of s p.script.block) (sym is) ∙ h)
+    ∙ ap (λ r. r >>= (λ b. Ok (record { title = record { op = o; claim = c; line = p.operation.line }; plan = b }, script_scope o c s))) (ap (λ s. block_of s p.script.block) (sym is) ∙ h)
 
 -- ---- machines
 

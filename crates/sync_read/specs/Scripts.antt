@@ -12,7 +12,7 @@ use Rattle.sync_terms.specs.declared.scripts.ScriptStep.{ScriptStep, fold-Script
 use Rattle.sync_terms.specs.Plans.{Plan, Same, Sum, Inst, Parts, Split, Cut, Read, Size, Total, Cong, End, Then, kind_plan, block_plan, step_plan, steps_before, plan_of}
 use Rattle.sync_rules.specs.declared.claims.Claim.{Claim}
 use Rattle.sync_rules.specs.declared.claims.Claim.TheVariants as claim
-use Rattle.sync_induct.specs.declared.proofs.Proof.{Proof}
+use Rattle.sync_induct.specs.Checks.{ProofTree}
 use Rattle.sync_exprs.specs.declared.expressions.Expr.{Expr}
 use Rattle.sync_parse.specs.declared.scripts.RawHyp.{RawHyp}
 use Rattle.sync_parse.specs.declared.scripts.RawHyp.TheVariants as hyp
@@ -138,14 +138,6 @@ then_of s = fold-ScriptStep (ℕ → Then) Plan Then (kind_plan s) block_plan st
 
 -- ---- proofs
 
--- a proof: its operation's number, its claim, its script with the line of `by`, and its own line
-pub record ProofTree : Type 0 where
-  pub op : ℕ
-  pub claim : Claim
-  pub plan : Plan
-  pub by_line : ℕ
-  pub line : ℕ
-
 abbrev pub operation_meaning : Meaning → ℕ → Result ℕ Refusal
 operation_meaning (meaning.Operation number) line = Ok number
 operation_meaning meaning.Nothing line = refuse N1 line
@@ -178,14 +170,10 @@ proof_in before s p = do
   c ← claim_in s p.claim
   n ← within 65536 before p.script.line
   b ← block_of (script_scope o c s) p.script.block
-  Ok (record { op = o; claim = c; plan = b; by_line = p.script.line; line = p.operation.line }, script_scope o c s)
+  Ok (record { title = record { op = o; claim = c; line = p.operation.line }; plan = b }, script_scope o c s)
 
 unfoldable pub proofs_from : List ProofTree → Scope → List RawProof → Result (List ProofTree × Scope) Refusal
 proofs_from held s [] = Ok (held, s)
 proofs_from held s (p ∷ ps) = do
   x ← proof_in (length held) s p
   proofs_from (held ++ x.0 ∷ []) x.1 ps
-
--- a proof with its ids read in a store
-abbrev pub proof_tree : Stored → Proof → ProofTree
-proof_tree s p = record { op = p.op; claim = p.claim; plan = plan_of s p.script.block; by_line = p.script.line; line = p.line }

@@ -12,7 +12,8 @@ use Rattle.sync_names.specs.declared.scopes.Owner.TheVariants.{Nobody}
 use Rattle.sync_names.specs.declared.scopes.Scope.{Scope}
 use Rattle.sync_read.specs.declared.texts.Text.{Text}
 use Rattle.sync_read.specs.Resolving.{machine_in}
-use Rattle.sync_read.specs.Scripts.{ProofTree, proofs_from, proof_tree}
+use Rattle.sync_induct.specs.Checks.{ProofTree, proofs_in}
+use Rattle.sync_read.specs.Scripts.{proofs_from}
 
 pub record TextTree : Type 0 where
   pub machine : MachineTree
@@ -35,4 +36,4 @@ resolved raw = do
 
 -- a text with its ids read in its machine's store
 abbrev pub text_tree : Text → TextTree
-text_tree t = record { machine = machine_tree t.machine; proofs = map (proof_tree t.machine.terms) t.proofs.list; names = t.names }
+text_tree t = record { machine = machine_tree t.machine; proofs = proofs_in t.machine.terms t.proofs.list; names = t.names }

@@ -3,7 +3,8 @@ ghost use Rattle.std.specs.Prelude.{◌≡◌, [], map};
 ghost use Rattle.sync_base.specs.Outcome.{Gives};
 ghost use Rattle.sync_terms.specs.Stored.{Stored, tree, Extends};
 ghost use Rattle.sync_terms.specs.Plans.{plan_of};
-ghost use Rattle.sync_read.specs.Scripts.{hyp_in, parts_from, numbers_from, map_and_number, map_and_numbers, block_of, step_of, then_of, operation_meaning, claim_in, claim_owner, proof_in, proofs_from, proof_tree};
+ghost use Rattle.sync_induct.specs.Checks.{proof_in as stored_proof};
+ghost use Rattle.sync_read.specs.Scripts.{hyp_in, parts_from, numbers_from, map_and_number, map_and_numbers, block_of, step_of, then_of, operation_meaning, claim_in, claim_owner, proof_in, proofs_from};
 ghost use Rattle.sync_names.specs.Scopes.{meaning_of};
 
 use crate::acts::within;
@@ -246,7 +247,7 @@ fn proof(
     before: usize,
     raw: &RawProof,
 ) -> Result<Proof, Stop>
-    ensures exact { (t : Stored) → Extends terms.new t → Gives (λ p. (proof_tree t p, scope.new)) result (proof_in before scope.old raw.now) }
+    ensures exact { (t : Stored) → Extends terms.new t → Gives (λ p. (stored_proof t p, scope.new)) result (proof_in before scope.old raw.now) }
     ensures keeps { Extends terms.old terms.new }
 {
     let op = operation(scope, raw.operation)?;
@@ -275,7 +276,7 @@ pub(crate) fn proofs(
     scope: &mut Scope,
     raw: &[RawProof],
 ) -> Result<Items<Proof>, Stop>
-    ensures exact { (t : Stored) → Extends terms.new t → Gives (λ ps. (map (proof_tree t) ps, scope.new)) result (proofs_from [] scope.old raw.now) }
+    ensures exact { (t : Stored) → Extends terms.new t → Gives (λ ps. (map (stored_proof t) ps, scope.new)) result (proofs_from [] scope.old raw.now) }
     ensures keeps { Extends terms.old terms.new }
 {
     let mut held = Items::new(alloc);

@@ -1,9 +1,10 @@
 use Rattle.std.proofs.Common.{◌≡◌, drop, [], map}
 use Rattle.sync_terms.specs.Stored.{Stored, Extends}
-use Rattle.sync_read.specs.Scripts.{proofs_from, proof_tree}
+use Rattle.sync_induct.specs.Checks.{proof_in as stored_proof}
+use Rattle.sync_read.specs.Scripts.{proofs_from}
 use Rattle.sync_read.proofs.scripts.proofs.Given as goal
 
 abbrev pub invariant-loop-p : goal.invariant-loop-p
 invariant-loop-p l =
-    ((t : Stored) → Extends l.terms t → proofs_from (map (proof_tree t) l.held) l.scope (drop l.p-index l.raw) ≡ proofs_from [] l.initial.scope l.raw)
+    ((t : Stored) → Extends l.terms t → proofs_from (map (stored_proof t) l.held) l.scope (drop l.p-index l.raw) ≡ proofs_from [] l.initial.scope l.raw)
     × Extends l.initial.terms l.terms

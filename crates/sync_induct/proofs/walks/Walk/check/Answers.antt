@@ -1,6 +1,4 @@
 use Rattle.std.proofs.Common.{sym}
-use Rattle.sync_induct.specs.Checks.{proof_trees}
-use Rattle.sync_induct.specs.Walks.{owed}
 use Rattle.sync_induct.proofs.Plain.{duty_at, owed-none, owed-some, no-fault, no-duty, passes-one, proved-one}
 use Rattle.sync_induct.proofs.walks.Walk.check.Goals as goal
 

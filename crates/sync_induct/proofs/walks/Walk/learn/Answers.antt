@@ -1,7 +1,4 @@
-use Rattle.std.proofs.Common.{refl, ap, ◌∙◌, min, ◌+◌}
-use Rattle.sync_induct.proofs.Growing.{learned}
 use Rattle.sync_induct.proofs.walks.Walk.learn.Goals as goal
 
-pub returns-clause-ok : goal.returns-clause-ok
-returns-clause-ok c = learned c.args.terms.now c.args.self.now _ c.args.number c.args.form c.requires.walk c.requires.form (rw c.new.ensures at c.in_ok-push.ensures.ok) refl
-    (c.saturating_add-size.ensures ∙ ap (λ n. min (c.args.self.now.size + n) 18446744073709551615) c.size_of.ensures.size)
+pub returns : goal.returns
+returns c = rw c.new.ensures at c.add.ensures

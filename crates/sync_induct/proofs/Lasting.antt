@@ -1,0 +1,140 @@
+-- What stays as it is while a store grows: facts, values, statements, walks.
+use Rattle.std.proofs.Common.{◌≡◌, List, [], ◌∷◌, map, Option, Some, None, refl, sym, ap, subst, ◌∙◌}
+use Rattle.std.specs.List.{AllByRecursion}
+use Rattle.sync_terms.specs.Trees.{Tree}
+use Rattle.sync_terms.specs.Trees as terms
+use Rattle.sync_terms.specs.declared.nodes.TermId.{TermId}
+use Rattle.sync_terms.specs.Stored.{Stored, tree, IsTerm, IsForm, Extends}
+use Rattle.sync_machine.specs.declared.fields.Field.{Field}
+use Rattle.sync_machine.specs.declared.machine.Pattern.{Pattern}
+use Rattle.sync_machine.specs.declared.machine.Pattern.TheVariants as patterns
+use Rattle.sync_machine.specs.declared.machine.Place.{Place}
+use Rattle.sync_machine.specs.declared.machine.Act.{Act}
+use Rattle.sync_machine.specs.declared.machine.Act.TheVariants.{Init, Require, Assert, Update, HaveVariable, Add, Remove, Have, Deposit, Withdraw, Guard}
+use Rattle.sync_machine.specs.declared.machine.Step.{Step}
+use Rattle.sync_machine.specs.declared.machine.Invariant.{Invariant}
+use Rattle.sync_machine.specs.Machines.{PatternTree, PlaceTree, ActTree, StepTree}
+use Rattle.sync_machine.specs.Machines as trees
+use Rattle.sync_machine.specs.States.{strategy_of}
+use Rattle.sync_machine.specs.declared.machine.Operation.{Operation}
+use Rattle.sync_machine.specs.Views.{invariant_tree, operation_tree, symbols_of, key_tree, pattern_tree, place_tree, act_tree, step_tree, steps_tree, HasKeyId, HasPatternId, HasPlaceIds, HasActIds}
+use Rattle.sync_kernel.specs.declared.sequents.Hyp.{Hyp}
+use Rattle.sync_kernel.specs.Facts.{Fact, fact_of}
+use Rattle.sync_induct.specs.declared.walks.Walk.{Walk}
+use Rattle.sync_induct.specs.Checks.{facts_size, capped, is_built}
+use Rattle.sync_induct.specs.Duties.{facts_of, HaveForms}
+use Rattle.sync_induct.specs.Closing.{IsKeepable}
+use Rattle.sync_induct.specs.Walks.{values_of, known_of, IsWalk, IsPlain, IsWalkable}
+
+module _ (s t : Stored) (e : Extends s t) where
+  key-stays : (o : Option TermId) → HasKeyId s o → key_tree t o ≡ key_tree s o
+  key-stays None h = refl
+  key-stays (Some x) h = ap Some (e.terms x h).1
+
+  pattern-stays : (o : Option Pattern) → HasPatternId s o → pattern_tree t o ≡ pattern_tree s o
+  pattern-stays None h = refl
+  pattern-stays (Some (patterns.Bind x)) h = refl
+  pattern-stays (Some (patterns.Term x)) h = ap (λ (y : Tree). Some (trees.Term y)) (e.terms x h).1
+
+  place-stays : (p : Place) → HasPlaceIds s p → place_tree t p ≡ place_tree s p
+  place-stays p h = let k = key-stays p.key h.0 in let v = pattern-stays p.value h.1 in λ i. record { key = k i; value = v i }
+
+  pub act-stays : (a : Act) → HasActIds s a → act_tree t a ≡ act_tree s a
+  act-stays (Init f x) h = ap (trees.Init f) (e.terms x h).1
+  act-stays (Require x) h = ap trees.Require (e.forms x h).1
+  act-stays (Assert x) h = ap trees.Assert (e.forms x h).1
+  act-stays (Update f x) h = ap (trees.Update f) (e.terms x h).1
+  act-stays (HaveVariable f) h = refl
+  act-stays (Add f p) h = ap (trees.Add f) (place-stays p h)
+  act-stays (Remove f p) h = ap (trees.Remove f) (place-stays p h)
+  act-stays (Have f p) h = ap (trees.Have f) (place-stays p h)
+  act-stays (Deposit f p) h = ap (trees.Deposit f) (place-stays p h)
+  act-stays (Withdraw f p) h = ap (trees.Withdraw f) (place-stays p h)
+  act-stays (Guard f p) h = ap (trees.Guard f) (place-stays p h)
+
+  key-ids : (o : Option TermId) → HasKeyId s o → HasKeyId t o
+  key-ids None h = tt
+  key-ids (Some x) h = (e.terms x h).0
+
+  pattern-ids : (o : Option Pattern) → HasPatternId s o → HasPatternId t o
+  pattern-ids None h = tt
+  pattern-ids (Some (patterns.Bind x)) h = tt
+  pattern-ids (Some (patterns.Term x)) h = (e.terms x h).0
+
+  pub act-ids : (a : Act) → HasActIds s a → HasActIds t a
+  act-ids (Init f x) h = (e.terms x h).0
+  act-ids (Require x) h = (e.forms x h).0
+  act-ids (Assert x) h = (e.forms x h).0
+  act-ids (Update f x) h = (e.terms x h).0
+  act-ids (HaveVariable f) h = tt
+  act-ids (Add f p) h = (key-ids p.key h.0, pattern-ids p.value h.1)
+  act-ids (Remove f p) h = (key-ids p.key h.0, pattern-ids p.value h.1)
+  act-ids (Have f p) h = (key-ids p.key h.0, pattern-ids p.value h.1)
+  act-ids (Deposit f p) h = (key-ids p.key h.0, pattern-ids p.value h.1)
+  act-ids (Withdraw f p) h = (key-ids p.key h.0, pattern-ids p.value h.1)
+  act-ids (Guard f p) h = (key-ids p.key h.0, pattern-ids p.value h.1)
+
+  pub step-stays : (x : Step) → HasActIds s x.act → step_tree t x ≡ step_tree s x
+  step-stays x h = ap (λ (a : ActTree). record { act = a; line = x.line }) (act-stays x.act h)
+
+  pub steps-stay : (xs : List Step) → AllByRecursion (λ (x : Step). HasActIds s x.act) xs → steps_tree t xs ≡ steps_tree s xs
+  steps-stay [] h = refl
+  steps-stay (x ∷ xs) h = let one = step-stays x h.0 in let more = steps-stay xs h.1 in λ i. one i ∷ more i
+
+  pub operation-stays : (o : Operation) → AllByRecursion (λ (x : Step). HasActIds s x.act) o.steps → operation_tree t o ≡ operation_tree s o
+  operation-stays o h = ap (λ (ss : List StepTree). record { name = o.name; mode = o.mode; params = symbols_of o.params; steps = ss; line = o.line }) (steps-stay o.steps h)
+
+  pub keepable-stays : (is : List Invariant) → AllByRecursion (IsKeepable s) is → AllByRecursion (IsKeepable t) is
+  keepable-stays [] h = tt
+  keepable-stays (i ∷ is) h = (record { form = (e.forms i.form h.0.form).0; names = h.0.names }, keepable-stays is h.1)
+
+  pub walkable-stays : (fs : List Field) (x : Step) → IsWalkable s fs x → IsWalkable t fs x
+  walkable-stays fs x h = record {
+    ids = act-ids x.act h.ids;
+    plain = subst IsPlain (sym (act-stays x.act h.ids)) h.plain;
+    built = ap (λ (a : ActTree). is_built (strategy_of fs a) a) (act-stays x.act h.ids) ∙ h.built;
+  }
+
+  fact-stays : (h : Hyp) → IsForm s h.form → fact_of t h ≡ fact_of s h
+  fact-stays h i = ap (λ (f : terms.Formula). record { name = h.name; params = map (λ x. x.0) h.params; form = f }) (e.forms h.form i).1
+
+  pub facts-stay : (hs : List Hyp) → HaveForms s hs → facts_of t hs ≡ facts_of s hs
+  facts-stay [] h = refl
+  facts-stay (x ∷ hs) h = let one = fact-stays x h.0 in let more = facts-stay hs h.1 in λ i. one i ∷ more i
+
+  pub forms-stay : (hs : List Hyp) → HaveForms s hs → HaveForms t hs
+  forms-stay [] h = tt
+  forms-stay (x ∷ hs) h = ((e.forms x.form h.0).0, forms-stay hs h.1)
+
+  pub forms-in : (is : List Invariant) → AllByRecursion (λ (i : Invariant). IsForm s i.form) is → AllByRecursion (λ (i : Invariant). IsForm t i.form) is
+  forms-in [] h = tt
+  forms-in (i ∷ is) h = ((e.forms i.form h.0).0, forms-in is h.1)
+
+  pub invariants-stay : (is : List Invariant) → AllByRecursion (λ (i : Invariant). IsForm s i.form) is → map (invariant_tree t) is ≡ map (invariant_tree s) is
+  invariants-stay [] h = refl
+  invariants-stay (i ∷ is) h =
+      let one = (e.forms i.form h.0).1 in
+      let more = invariants-stay is h.1 in
+      λ j. record { name = i.name; params = symbols_of i.params; form = one j; line = i.line } ∷ more j
+
+  pub trees-stay : (xs : List TermId) → AllByRecursion (IsTerm s) xs → map (tree t) xs ≡ map (tree s) xs
+  trees-stay [] h = refl
+  trees-stay (x ∷ xs) h = let one = (e.terms x h.0).1 in let more = trees-stay xs h.1 in λ i. one i ∷ more i
+
+  pub terms-stay : (xs : List TermId) → AllByRecursion (IsTerm s) xs → AllByRecursion (IsTerm t) xs
+  terms-stay [] h = tt
+  terms-stay (x ∷ xs) h = ((e.terms x h.0).0, terms-stay xs h.1)
+
+  -- a walk that has not moved is one over the larger store, with the same facts and values
+  pub walk-stays : (w v : Walk) → IsWalk s w → v.sequent.hyps ≡ w.sequent.hyps → v.current ≡ w.current → v.size ≡ w.size → IsWalk t v
+  walk-stays w v h hyps current size = record {
+    hyps = subst (λ (hs : List Hyp). HaveForms t hs) (sym hyps) (forms-stay w.sequent.hyps h.hyps);
+    values = subst (λ c. AllByRecursion (IsTerm t) c.items) (sym current) (terms-stay w.current.items h.values);
+    size = size ∙ (h.size ∙ ap (λ (k : List Fact). capped (facts_size k)) (sym (ap (facts_of t) hyps ∙ facts-stay w.sequent.hyps h.hyps)));
+  }
+
+  pub known-stays : (w v : Walk) → IsWalk s w → v.sequent.hyps ≡ w.sequent.hyps → known_of t v ≡ known_of s w
+  known-stays w v h hyps = ap (facts_of t) hyps ∙ facts-stay w.sequent.hyps h.hyps
+
+  pub values-stay : (w v : Walk) → IsWalk s w → v.current ≡ w.current → values_of t v ≡ values_of s w
+  values-stay w v h current = ap (λ c. map (tree t) c.items) current ∙ trees-stay w.current.items h.values

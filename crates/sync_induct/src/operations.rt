@@ -1,0 +1,79 @@
+//! The check of all operations of a machine, in order.
+ghost use Rattle.std.specs.Prelude.{◌≡◌, ℕ, Some, All, map, slice_get, OnOk};
+ghost use Rattle.std.specs.List.{AllByRecursion};
+ghost use Rattle.std.specs.HashMap.{get};
+ghost use Rattle.std.specs.HashSet.{contains};
+ghost use Rattle.sync_base.specs.Outcome.{Passes};
+ghost use Rattle.sync_terms.specs.Stored.{Extends};
+ghost use Rattle.sync_machine.specs.Views.{invariant_tree, operation_tree};
+ghost use Rattle.sync_machine.specs.declared.machine.Operation.{Operation as Declared};
+ghost use Rattle.sync_induct.specs.declared.index.Title.{Title};
+ghost use Rattle.sync_induct.specs.Checks.{titles_of, proof_trees, duties_fault};
+ghost use Rattle.sync_induct.specs.Closing.{IsKeepable, AreWanted};
+ghost use Rattle.sync_induct.specs.Duties.{AreProved, operation_duties, duties_from};
+ghost use Rattle.sync_induct.specs.Titles.{same_title, first_at};
+ghost use Rattle.sync_induct.specs.Walks.{IsWalkable};
+
+use crate::numbers::number;
+use crate::walks::{Book, Walk};
+use std::alloc::Global;
+use sync_base::Stop;
+use sync_machine::{Field, Invariant, Operation};
+use sync_terms::Terms;
+
+/// Checks what has to be proved of an operation: its safety conditions, and that it keeps the invariants.
+fn check_operation(
+    alloc: Global,
+    terms: &mut Terms,
+    fields: &[Field],
+    invariants: &[Invariant],
+    number: u32,
+    operation: &Operation,
+    book: Book<'_>,
+) -> Result<(), Stop>
+    requires invariants { AllByRecursion (IsKeepable terms.old) invariants.now }
+    requires walkable { All (IsWalkable terms.old fields.now) operation.now.steps }
+    requires wanted { AreWanted (contains same_title book.wanted.now) number (operation_tree terms.old operation.now) (map (invariant_tree terms.old) invariants.now) }
+    requires placed { (t : Title) → get same_title book.places.now t ≡ first_at t 0 (titles_of book.proofs.now) }
+    ensures exact { Passes result (duties_fault (proof_trees book.entry.proofs.now)
+        (operation_duties fields.now (map (invariant_tree terms.old) invariants.now) number (operation_tree terms.old operation.now))) }
+    ensures proved { OnOk result (AreProved (operation_duties fields.now (map (invariant_tree terms.old) invariants.now) number (operation_tree terms.old operation.now))) }
+    ensures keeps { Extends terms.old terms.new }
+{
+    let mut walk = Walk::begin(alloc, terms, fields, invariants, operation.mode)?;
+    walk.walk(
+        alloc,
+        terms,
+        fields,
+        number,
+        operation.steps.as_slice(),
+        book,
+    )?;
+    walk.keep(alloc, terms, invariants, number, operation, book)
+}
+
+/// Checks what has to be proved of all operations.
+pub fn check_operations(
+    alloc: Global,
+    terms: &mut Terms,
+    fields: &[Field],
+    invariants: &[Invariant],
+    operations: &[Operation],
+    book: Book<'_>,
+) -> Result<(), Stop>
+    requires invariants { AllByRecursion (IsKeepable terms.old) invariants.now }
+    requires walkable { AllByRecursion (λ (o : Declared). All (IsWalkable terms.old fields.now) o.steps) operations.now }
+    requires wanted { (k : ℕ) (o : Declared) → slice_get operations.now k ≡ Some o
+        → AreWanted (contains same_title book.wanted.now) k (operation_tree terms.old o) (map (invariant_tree terms.old) invariants.now) }
+    requires placed { (t : Title) → get same_title book.places.now t ≡ first_at t 0 (titles_of book.proofs.now) }
+    ensures exact { Passes result (duties_fault (proof_trees book.entry.proofs.now)
+        (duties_from fields.now (map (invariant_tree terms.old) invariants.now) 0 (map (operation_tree terms.old) operations.now))) }
+    ensures proved { OnOk result (AreProved (duties_from fields.now (map (invariant_tree terms.old) invariants.now) 0 (map (operation_tree terms.old) operations.now))) }
+    ensures keeps { Extends terms.old terms.new }
+{
+    for (i, operation) in operations.iter().enumerate() {
+        let number = number(i)?;
+        check_operation(alloc, terms, fields, invariants, number, operation, book)?;
+    }
+    Ok(())
+}
