@@ -7,7 +7,7 @@ use Rattle.std.proofs.lemmas.List.{length-map}
 use Rattle.std.proofs.lemmas.List.FromFn.{get_or-map-range_with_len, length-map-range_with_len}
 use Rattle.std.proofs.lemmas.List.Elements.{All-contains, All-from_recursion}
 use Rattle.sync_terms.specs.Trees.{Tree, Name, Nil, Formula, replaced_in}
-use Rattle.sync_terms.specs.Values.{Valuation, num, mapped, Holds, HoldsForAll, with_number, IsValid}
+use Rattle.sync_terms.specs.Values.{Valuation, num, mapped, Holds, HoldsForAll, with_value, IsValid}
 use Rattle.sync_machine.specs.declared.fields.Field.{Field}
 use Rattle.sync_machine.specs.declared.fields.OpMode.{OpMode}
 use Rattle.sync_machine.specs.declared.fields.OpMode.TheVariants as mode
@@ -211,15 +211,15 @@ stays fs params last s v w form scoped same len unchanged before meets at =
 
 -- ---- the induction
 
-is_numbered : (x p : ℕ) (n a : ℤ) → x < 64 → IsNameSymbol p → cond (nat_eq x p) n a ≡ a
+is_numbered : {A : Type 0} (x p : ℕ) (n a : A) → x < 64 → IsNameSymbol p → cond (nat_eq x p) n a ≡ a
 is_numbered x p n a lt name = cond-false (nat_eq x p) n a (ne_eqb x p (λ e. let is : p ≡ 64 + 4 * name.0 = name.1 in omega arith))
 
--- an invariant that is true at s holds there for all numbers as its parameters
+-- an invariant that is true at s holds there whatever its parameters stand for
 invariant-holds : (s : State) (params : List ℕ) (form : Formula) (v : Valuation) → length s ≤ 32 → AllByRecursion IsNameSymbol params → ((u : Valuation) → IsAt s u → Holds u form) → IsAt s v → HoldsForAll params v form
 invariant-holds s [] form v few h meets at = meets v at
 invariant-holds s (p ∷ ps) form v few h meets at =
-    λ n. invariant-holds s ps form (with_number p n v) few h.1 meets
-    (isat-agree 0 s v (with_number p n v) (λ x lt. (sym (is_numbered x p n (v.number x) (omega arith) h.0), refl)) at)
+    λ n m. invariant-holds s ps form (with_value p n m v) few h.1 meets
+    (isat-agree 0 s v (with_value p n m v) (λ x lt. (sym (is_numbered x p n (v.number x) (omega arith) h.0), sym (is_numbered x p m (v.mapping x) (omega arith) h.0))) at)
 
 abbrev IsTrueAt : State → InvariantTree → Type 0
 IsTrueAt s i = (v : Valuation) → IsAt s v → Holds v i.form

@@ -1,12 +1,12 @@
 -- Proof scripts with their terms and formulas as trees: a block is its first step with the rest of its steps.
-use Rattle.std.specs.Prelude.{ℕ, ℤ, List, [], ◌∷◌, map}
+use Rattle.std.specs.Prelude.{◌≡◌, ℕ, ℤ, List, [], ◌∷◌, map}
 use Rattle.sync_terms.specs.declared.nodes.TermId.{TermId}
 use Rattle.sync_terms.specs.declared.scripts.HypName.{HypName}
 use Rattle.sync_terms.specs.declared.scripts.Part.{Part}
 use Rattle.sync_terms.specs.declared.scripts.Block.{Block, fold-Block}
 use Rattle.sync_terms.specs.declared.scripts.StepKind.TheOpen.{StepKind-F, Block-F, ScriptStep-F}
 use Rattle.sync_terms.specs.Trees.{Tree, Formula}
-use Rattle.sync_terms.specs.Stored.{Stored, tree, formula}
+use Rattle.sync_terms.specs.Stored.{Stored, Extends, tree, formula}
 
 -- Each step has its line, what it takes, the names that it gives, its blocks, and what comes behind it.
 pub data Plan : Type 0 where
@@ -53,3 +53,7 @@ block_plan block = steps_before block.steps (End block.end_line)
 -- the plan of a block whose ids are of the store
 abbrev pub plan_of : Stored → Block → Plan
 plan_of s block = fold-Block (ℕ → Then) Plan Then (kind_plan s) block_plan step_plan block
+
+-- the ids of a script are of the store: whatever the store gains, the script stays the same
+abbrev pub IsScriptOf : Stored → Block → Type 0
+IsScriptOf s block = (t : Stored) → Extends s t → plan_of t block ≡ plan_of s block

@@ -55,24 +55,24 @@ truth v (Imp f g) = not (truth v f) || truth v g
 abbrev pub Holds : Valuation → Formula → Type 0
 Holds v f = truth v f ≡ true
 
--- one symbol stands for the number n, and all else stays
-abbrev pub with_number : ℕ → ℤ → Valuation → Valuation
-with_number x n v = record { number = λ y. if nat_eq y x then n else v.number y; mapping = v.mapping }
+-- one symbol stands for the number n, and for the map m where a map is wanted; all else stays
+abbrev pub with_value : ℕ → ℤ → maps.Map → Valuation → Valuation
+with_value x n m v = record { number = λ y. if nat_eq y x then n else v.number y; mapping = λ y. if nat_eq y x then m else v.mapping y }
 
 -- each symbol stands for what its term is
 abbrev pub with_terms : (ℕ → Tree) → Valuation → Valuation
 with_terms f v = record { number = λ x. num v (f x); mapping = λ x. mapped v (f x) }
 
--- the formula holds for all numbers as its parameters
+-- The formula holds whatever its parameters stand for. In a formula that keeps the sorts a parameter is a number alone, and this is for all numbers.
 abbrev pub HoldsForAll : List ℕ → Valuation → Formula → Type 0
 HoldsForAll [] v f = Holds v f
-HoldsForAll (p ∷ ps) v f = (n : ℤ) → HoldsForAll ps (with_number p n v) f
+HoldsForAll (p ∷ ps) v f = (n : ℤ) (m : maps.Map) → HoldsForAll ps (with_value p n m v) f
 
 -- a hypothesis, with its parameters, without a name
 pub record Given : Type 0 where
   pub params : List ℕ
   pub form : Formula
 
--- The claim is true wherever the hypotheses are, those with parameters for all numbers as parameters.
+-- The claim is true wherever the hypotheses are, those with parameters for all that these may stand for.
 abbrev pub IsValid : List Given → Formula → Type 0
 IsValid hyps claim = (v : Valuation) → AllByRecursion (λ h. HoldsForAll h.params v h.form) hyps → Holds v claim
