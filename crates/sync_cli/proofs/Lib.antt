@@ -1,4 +1,5 @@
 mod Gains
+mod Named
 mod WordLists
 mod Answering
 mod Accepting

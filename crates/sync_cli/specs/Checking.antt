@@ -31,10 +31,10 @@ form_fault m = first (machine_fault m) (strategy_fault m)
 abbrev pub proofs_fault : TextTree → Option Refusal
 proofs_fault t = first (unbuilt_fault t.machine.fields t.machine.ops) (proof_fault t.machine t.proofs)
 
--- so many scripts, where no rule is broken
-abbrev pub unless : Option Refusal → ℕ → Result ℕ Refusal
-unless None scripts = Ok scripts
-unless (Some refusal) scripts = Err refusal
+-- the answer, where no rule is broken
+abbrev pub unless : {A : Type 0} → Option Refusal → A → Result A Refusal
+unless None answer = Ok answer
+unless (Some refusal) answer = Err refusal
 
 -- the number of a text's scripts, or the first rule that it breaks
 abbrev pub judged : TextTree → Result ℕ Refusal
@@ -49,6 +49,6 @@ unfoldable pub IsAccepted : List ℕ → ℕ → Type 0
 IsAccepted bytes scripts = (t : TextTree) × (spelled bytes ≡ Ok t) × HoldsAlways t.machine × (scripts ≡ length t.proofs)
 
 -- a text that is longer than the limit is refused for that
-pub verdict-too_long : (bytes : List ℕ) → most_bytes < length bytes → verdict_of bytes ≡ Err (record { line = 1; rule = L1 })
-unfolding verdict_of parsed worded lexemes_of
-verdict-too_long bytes h = rw (lt-ltb most_bytes (length bytes) h) refl
+pub spelled-too_long : (bytes : List ℕ) → most_bytes < length bytes → spelled bytes ≡ Err (record { line = 1; rule = L1 })
+unfolding parsed worded lexemes_of
+spelled-too_long bytes h = rw (lt-ltb most_bytes (length bytes) h) refl

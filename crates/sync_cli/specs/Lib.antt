@@ -1,5 +1,7 @@
 pub mod Checking
 pub mod Lines
+pub mod Listing
+pub mod Commands
 pub mod Statuses
 pub mod Streams
 pub mod Reading

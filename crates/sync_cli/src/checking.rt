@@ -9,7 +9,8 @@ ghost use Rattle.sync_machine.specs.States.{HoldsAlways};
 ghost use Rattle.sync_machine.specs.Views.{HasOwnIds, machine_tree};
 ghost use Rattle.sync_rules.specs.Strategies.{AreAllowed};
 ghost use Rattle.sync_read.specs.Texts.{text_tree};
-ghost use Rattle.sync_cli.specs.Checking.{form_fault, judged, verdict_of, IsAccepted};
+ghost use Rattle.sync_read.specs.declared.texts.Text.{Text};
+ghost use Rattle.sync_cli.specs.Checking.{spelled, form_fault, judged, verdict_of, IsAccepted};
 
 use std::alloc::Global;
 use sync_base::Stop;
@@ -19,8 +20,19 @@ use sync_parse::parse;
 use sync_read::{Text, resolve};
 use sync_rules::check_ops;
 
+/// The machine, the proofs and the names that the bytes of a text spell, or the first rule of lexemes, of the grammar or of
+/// names that they break.
+pub fn read(alloc: Global, bytes: &[u8]) -> Result<Text, Stop>
+    ensures exact { Gives text_tree result (spelled bytes.now) }
+    ensures ids { IfOk result (λ (t : Text). HasOwnIds t.machine) }
+    ensures names { IfOk result (λ (t : Text). AreTextNames (machine_tree t.machine)) }
+{
+    let raw = parse(alloc, bytes)?;
+    resolve(alloc, raw)
+}
+
 /// Whether a machine keeps the rules of names and of strategies; else the first that it breaks.
-fn has_form(m: &Machine) -> Result<(), Stop>
+pub fn has_form(m: &Machine) -> Result<(), Stop>
     requires ids { HasOwnIds m.now }
     requires names { AreTextNames (machine_tree m.now) }
     ensures exact { Passes result (form_fault (machine_tree m.now)) }
@@ -60,7 +72,6 @@ pub fn check(alloc: Global, text: &[u8]) -> Result<u64, Stop>
     ensures exact { Gives (λ scripts. scripts) result (verdict_of text.now) }
     ensures sound { IfOk result (λ scripts. IsAccepted text.now scripts) }
 {
-    let raw = parse(alloc, text)?;
-    let text = resolve(alloc, raw)?;
+    let text = read(alloc, text)?;
     judge(alloc, text)
 }

@@ -1,9 +1,13 @@
-//! Checks a text from standard input, in which a state machine and its proofs are written.
+//! Checks a text from standard input, in which a state machine and its proofs are written, or lists what has to be proved.
 #![tactic(auto)]
 
 mod answers;
 mod checking;
+mod commands;
 mod lines;
+mod listing;
+#[cfg(test)]
+mod listing_tests;
 mod reading;
 mod serving;
 mod statuses;
