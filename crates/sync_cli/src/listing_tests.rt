@@ -4,7 +4,8 @@ use crate::statuses::Status;
 use crate::text_tests::{COUNT, TWO};
 use std::alloc::{AllocError, Global};
 use std::test::Fail;
-use sync_base::{MemSink, MemSource, OpenGate};
+use std::thread::Threads;
+use sync_base::{MemSink, MemSource, NoMemory, OpenGate};
 
 const ROOM: u64 = 1_000_000;
 
@@ -24,8 +25,12 @@ fn obligations(alloc: Global) -> Result<Vec<String>, AllocError> {
 }
 
 /// Lists what has to be proved of a text. The writes to `out` with these numbers fail.
-fn list(rt: &HostRuntime, text: &[u8], failing: &[u64]) -> Result<Outcome, AllocError> {
-    let alloc = rt.alloc();
+fn list<R: Threads + Sync>(
+    rt: &R,
+    alloc: Global,
+    text: &[u8],
+    failing: &[u64],
+) -> Result<Outcome, NoMemory> {
     let words = obligations(alloc)?;
     let mut source = MemSource::new(Vec::from_slice(alloc, text)?, Vec::new(alloc));
     let mut out = MemSink::new(alloc, ROOM, Vec::from_slice(alloc, failing)?)?;
@@ -40,7 +45,7 @@ fn list(rt: &HostRuntime, text: &[u8], failing: &[u64]) -> Result<Outcome, Alloc
 
 #[test]
 fn an_accepted_machine(rt: HostRuntime) -> Result<(), Fail> {
-    let listed = list(&rt, TWO, &[])?;
+    let listed = list(&rt, rt.alloc(), TWO, &[])?;
     let wanted = b"line 5 begin keeps equal
 line 5 begin keeps top
 line 6 up keeps equal
@@ -54,7 +59,7 @@ line 6 up keeps top
 
 #[test]
 fn a_counter_of_two_threads(rt: HostRuntime) -> Result<(), Fail> {
-    let listed = list(&rt, COUNT, &[])?;
+    let listed = list(&rt, rt.alloc(), COUNT, &[])?;
     let wanted = b"line 6 begin keeps whole
 line 6 begin keeps bit_a
 line 6 begin keeps bit_b
@@ -84,7 +89,7 @@ invariant i(): c <= 1;
 invariant j(): 0 <= t;
 invariant n(): k = 7; }
 ";
-    let listed = list(&rt, text, &[])?;
+    let listed = list(&rt, rt.alloc(), text, &[])?;
     let wanted = b"line 4 begin at 4
 line 4 begin keeps i
 line 4 begin keeps j
@@ -113,7 +118,7 @@ t keeps i by { sum 2 denied; }
 b at 1 by { same; }
 p at 7 by { sum 1 missing; } }
 ";
-    let listed = list(&rt, text, &[])?;
+    let listed = list(&rt, rt.alloc(), text, &[])?;
     let wanted = b"line 4 b keeps i
 line 5 t at 3
 line 5 t keeps i
@@ -126,7 +131,7 @@ line 6 p at 1
 
 #[test]
 fn a_machine_of_which_nothing_has_to_be_proved(rt: HostRuntime) -> Result<(), Fail> {
-    let listed = list(&rt, b"version 1; machine M { }", &[])?;
+    let listed = list(&rt, rt.alloc(), b"version 1; machine M { }", &[])?;
     assert_eq!(rt; listed.status, Status::Done);
     assert_eq!(rt; listed.out.as_slice(), b"".as_slice());
     assert_eq!(rt; listed.err.as_slice(), b"".as_slice());
@@ -140,7 +145,7 @@ machine M {
 field c: variable; &
 field c variable; }
 ";
-    let refused = list(&rt, lone, &[])?;
+    let refused = list(&rt, rt.alloc(), lone, &[])?;
     assert_eq!(rt; refused.status, Status::Refused);
     assert_eq!(rt; refused.out.as_slice(), b"".as_slice());
     assert_eq!(rt; refused.err.as_slice(), b"refused line 3 rule L2\n".as_slice());
@@ -149,7 +154,7 @@ machine M {
 field c
 variable; }
 ";
-    let refused = list(&rt, grammar, &[])?;
+    let refused = list(&rt, rt.alloc(), grammar, &[])?;
     assert_eq!(rt; refused.status, Status::Refused);
     assert_eq!(rt; refused.err.as_slice(), b"refused line 4 rule G1\n".as_slice());
     Ok(())
@@ -162,7 +167,7 @@ machine M { field c: variable; init b() { init c = 0; }
 transition u() { update c = 1; update c = 1; update
 d = 1; } }
 ";
-    let refused = list(&rt, unknown, &[])?;
+    let refused = list(&rt, rt.alloc(), unknown, &[])?;
     assert_eq!(rt; refused.status, Status::Refused);
     assert_eq!(rt; refused.out.as_slice(), b"".as_slice());
     assert_eq!(rt; refused.err.as_slice(), b"refused line 4 rule N1\n".as_slice());
@@ -172,7 +177,7 @@ transition u() { update c = 1;
 update c = 1; }
 invariant i(): c <= 1; }
 ";
-    let refused = list(&rt, twice, &[])?;
+    let refused = list(&rt, rt.alloc(), twice, &[])?;
     assert_eq!(rt; refused.status, Status::Refused);
     assert_eq!(rt; refused.err.as_slice(), b"refused line 4 rule S3\n".as_slice());
     Ok(())
@@ -180,7 +185,7 @@ invariant i(): c <= 1; }
 
 #[test]
 fn the_second_write_fails(rt: HostRuntime) -> Result<(), Fail> {
-    let listed = list(&rt, TWO, &[2])?;
+    let listed = list(&rt, rt.alloc(), TWO, &[2])?;
     assert_eq!(rt; listed.status, Status::WriteFault);
     assert_eq!(rt; listed.out.as_slice(), b"line 5 begin keeps equal\n".as_slice());
     assert_eq!(rt; listed.err.as_slice(), b"".as_slice());
