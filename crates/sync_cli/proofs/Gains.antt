@@ -1,7 +1,7 @@
 -- What a sink gained by one write after another.
-use Rattle.std.proofs.Common.{◌≡◌, ℕ, suc, ◌+◌, ◌<◌, ◌≤◌, List, [], ◌∷◌, ◌++◌, length, get_or, take, drop, Option, Some, None, refl, ap, sym, ◌∙◌, append_assoc, length-append, length-drop, ◌-◌, Result, OnErr, Ok, Err, arith}
+use Rattle.std.proofs.Common.{◌≡◌, ℕ, suc, ◌+◌, ◌<◌, List, [], ◌∷◌, ◌++◌, length, get_or, take, drop, Option, Some, None, refl, ap, sym, ◌∙◌, append_assoc, length-append, length-drop, add-one, ◌-◌, Result, OnErr, Ok, Err, arith}
 use Rattle.std.specs.List.{concat}
-use Rattle.std.proofs.lemmas.List.{drop_all, take-append-drop, take-append-le, take_all}
+use Rattle.std.proofs.lemmas.List.{take-append-drop, take-append-le, take_all}
 use Rattle.std.proofs.Math.Seq.{take-append_seam, take-append-add, drop-cons}
 use Rattle.std.proofs.lemmas.Grind.{common_steps}
 use Rattle.sync_base.specs.Outside.{gained}
@@ -75,16 +75,11 @@ HasWritten-cut old mid new text rest line after h cut (count, below, e) = (
         ∙ ap (λ xs. h.front ++ xs) (take-append-le count line after (omega (arith, below)))
 
 -- what is left of lines is the next one and what is left behind it
-pub concat-drop : (lines : List (List ℕ)) (i : ℕ) (d : List ℕ) → i < length lines → concat (drop i lines) ≡ get_or lines i d ++ concat (drop (suc i) lines)
-concat-drop lines i d within = ap concat (drop-cons lines i d within)
-
--- no line is left
-pub concat-end : (lines : List (List ℕ)) (i : ℕ) → length lines ≤ i → concat (drop i lines) ≡ []
-concat-end lines i past = ap concat (drop_all i lines past)
-
--- all lines were written
-pub HasWritten-all : (old new : Option (List ℕ)) (text : List ℕ) → HasWritten old new text [] → new ≡ gained old text
-HasWritten-all old new text h = HasWritten-end old new text [] h refl
+pub concat-drop : (lines : List (List ℕ)) (i : ℕ) (line item : List ℕ) → i < length lines → item ≡ get_or lines i item → line ≡ item → concat (drop i lines) ≡ line ++ concat (drop (i + 1) lines)
+concat-drop lines i line item within is same =
+    ap concat (drop-cons lines i item within)
+    ∙ ap (λ xs. xs ++ concat (drop (suc i) lines)) (sym (same ∙ is))
+    ∙ ap (λ n. line ++ concat (drop n lines)) (sym (add-one i))
 
 -- a fact that holds holds for an error too
 pub OnErr-always : {A E : Type 0} (P : Type 0) (r : Result A E) → P → OnErr r P
