@@ -4,25 +4,21 @@ use Rattle.std.proofs.lemmas.Grind.{common_steps}
 use Rattle.std.specs.declared.alloc.Global.{Global}
 use Rattle.std.specs.Result.{result_unwrap_or}
 use Rattle.sync_base.specs.Outcome.{◌>>=◌}
-use Rattle.sync_base.specs.Outside.{Rose, GivesFront}
-use Rattle.sync_base.specs.declared.stops.Refusal.{Refusal}
+use Rattle.sync_base.specs.Outside.{GivesFront}
 use Rattle.sync_base.specs.declared.stops.Rule.TheVariants.{L1}
 use Rattle.sync_cli.specs.Answers.{status_of, out_of, err_of, IsAnswer}
 use Rattle.sync_cli.specs.Checking.{most_bytes, judged, verdict_of, spelled-too_long}
-use Rattle.sync_cli.specs.Commands.{Asks, answered, accepted_lines, listed, IsDone}
-use Rattle.sync_cli.specs.Serving.{Allowed, WasRead, Tells}
-use Rattle.sync_cli.specs.Streams.{IsAtEnd, IsTold}
+use Rattle.sync_cli.specs.Commands.{Asks, answered, accepted_lines, listed, listing_of, IsDone}
+use Rattle.sync_cli.specs.Serving.{Allowed, WasRead}
+use Rattle.sync_cli.specs.Streams.{IsAtEnd}
 use Rattle.sync_cli.specs.declared.answers.Answer.{Answer}
 use Rattle.sync_cli.specs.declared.answers.Answer.TheVariants as variant
 use Rattle.sync_cli.specs.declared.commands.Command.{Command}
 use Rattle.sync_cli.specs.declared.commands.Command.TheVariants.{Check, Obligations}
-use Rattle.sync_cli.specs.declared.statuses.Status.{Status}
-use Rattle.sync_cli.specs.declared.statuses.Status.TheVariants as status
-use Rattle.sync_cli.proofs.WordLists.{Asks-one}
 
 -- every command refuses a text that is longer than the limit
 answered-too_long : (command : Command) (bytes : List ℕ) → most_bytes < length bytes → answered command bytes ≡ Err (record { line = 1; rule = L1 })
-unfolding answered verdict_of
+unfolding answered verdict_of listing_of
 answered-too_long Check bytes long = ap (λ r. (r >>= judged) >>= accepted_lines) (spelled-too_long bytes long)
 answered-too_long Obligations bytes long = ap (λ r. r >>= listed) (spelled-too_long bytes long)
 
@@ -97,25 +93,3 @@ Allowed-from_answer words told left faults faults' read size command answer w fr
 pub IsAnswer-unwrap : {E : Type 0} (command : Command) (text : List ℕ) (made : Result Answer E) → IfOk made (IsAnswer command text) → IsAnswer command text (result_unwrap_or made variant.NoMemory)
 IsAnswer-unwrap command text (Ok answer) h = h
 IsAnswer-unwrap command text (Err e) h = tt
-
--- want of memory may always come
-Tells-no_memory : (r : Result (List (List ℕ)) Refusal) → Tells r status.NoMemory
-Tells-no_memory (Ok lines) = inr refl
-Tells-no_memory (Err refusal) = inr refl
-
--- a text that was read is all that the source told
-the_text : {told left : Option (List ℕ)} {faults faults' : ℕ} {text : List ℕ} (bytes : List ℕ) → told ≡ Some bytes → WasRead told left faults faults' text → text ≡ bytes
-the_text bytes tells r = subst (λ o. IsTold o _) tells r.is_told
-
--- where the source did not fail an allowed status tells what the command gives for its bytes
-pub Tells-allowed : (words : List (String Global)) (told left : Option (List ℕ)) (faults faults' : ℕ) (s : Status) (out err : List ℕ) → Allowed words told left faults faults' s out err → (command : Command) → Asks words command → ¬ Rose faults faults' → (bytes : List ℕ) → told ≡ Some bytes → Tells (answered command bytes) s
-Tells-allowed words told left faults faults' status.Done out err (c, text, lines, w, r, gives, a) command asks still bytes tells =
-    subst (λ r. Tells r status.Done) (sym (ap (answered command) (sym (the_text bytes tells r)) ∙ ap (λ x. answered x text) (Asks-one words command c asks w) ∙ gives)) (inl refl)
-Tells-allowed words told left faults faults' status.Refused out err (c, text, refusal, w, r, gives, a) command asks still bytes tells =
-    subst (λ r. Tells r status.Refused) (sym (ap (answered command) (sym (the_text bytes tells r)) ∙ ap (λ x. answered x text) (Asks-one words command c asks w) ∙ gives)) (inl refl)
-Tells-allowed words told left faults faults' status.Usage out err a command asks still bytes tells = absurd (a.0 command asks)
-Tells-allowed words told left faults faults' status.ReadFault out err a command asks still bytes tells = absurd (still a.2)
-Tells-allowed words told left faults faults' status.WriteFault out err a command asks still bytes tells = absurd a
-Tells-allowed words told left faults faults' status.NoMemory out err a command asks still bytes tells = Tells-no_memory (answered command bytes)
-Tells-allowed words told left faults faults' status.Budget out err a command asks still bytes tells = absurd a
-Tells-allowed words told left faults faults' status.Width out err a command asks still bytes tells = absurd a

@@ -1,5 +1,6 @@
 mod Gains
 mod Named
 mod WordLists
+mod Listed
 mod Answering
 mod Accepting

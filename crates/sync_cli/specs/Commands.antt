@@ -32,11 +32,14 @@ accepted_lines scripts = Ok (accepted_line scripts ∷ [])
 abbrev pub listed : TextTree → Result (List (List ℕ)) Refusal
 listed t = unless (form_fault t.machine) (obligation_lines t)
 
--- The lines that a command gives for a text, or the first rule that the text breaks. What has to be proved is listed
--- whatever the proofs are.
+-- the lines of what has to be proved of a text's machine, whatever its proofs are, or the first rule that the text breaks
+unfoldable pub listing_of : List ℕ → Result (List (List ℕ)) Refusal
+listing_of text = spelled text >>= listed
+
+-- the lines that a command gives for a text, or the first rule that the text breaks
 unfoldable pub answered : Command → List ℕ → Result (List (List ℕ)) Refusal
 answered Check text = verdict_of text >>= accepted_lines
-answered Obligations text = spelled text >>= listed
+answered Obligations text = listing_of text
 
 -- what is known of a text for which a command gives these lines
 abbrev pub IsDone : Command → List ℕ → List (List ℕ) → Type 0
