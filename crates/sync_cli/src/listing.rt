@@ -45,12 +45,7 @@ fn invariant_name(text: &Text, number: u32) -> &[u8]
 }
 
 /// Adds what is claimed, and the end of the line.
-fn add_claim(
-    alloc: Global,
-    line: &mut Vec<u8>,
-    text: &Text,
-    claim: Claim,
-) -> Result<(), AllocError>
+fn add_claim(alloc: Global, line: &mut Vec<u8>, text: &Text, claim: Claim) -> Result<(), AllocError>
     ensures { OnOk result (line.new.items ≡ line.old.items ++ claim_text (text_tree text.now) claim ++ codes "\n") }
 {
     match claim {

@@ -35,7 +35,15 @@ fn list<R: Threads + Sync>(
     let mut source = MemSource::new(Vec::from_slice(alloc, text)?, Vec::new(alloc));
     let mut out = MemSink::new(alloc, ROOM, Vec::from_slice(alloc, failing)?)?;
     let mut err = MemSink::new(alloc, ROOM, Vec::new(alloc))?;
-    let status = serve(rt, alloc, &words, &mut source, &mut out, &mut err, &OpenGate);
+    let status = serve(
+        rt,
+        alloc,
+        &words,
+        &mut source,
+        &mut out,
+        &mut err,
+        &OpenGate,
+    );
     Ok(Outcome {
         status,
         out: Vec::from_slice(alloc, out.got())?,
@@ -148,7 +156,10 @@ field c variable; }
     let refused = list(&rt, rt.alloc(), lone, &[])?;
     assert_eq!(rt; refused.status, Status::Refused);
     assert_eq!(rt; refused.out.as_slice(), b"".as_slice());
-    assert_eq!(rt; refused.err.as_slice(), b"refused line 3 rule L2\n".as_slice());
+    assert_eq!(rt;
+        refused.err.as_slice(),
+        b"refused line 3 rule L2\n".as_slice()
+    );
     let grammar = b"version 1;
 machine M {
 field c
@@ -156,7 +167,10 @@ variable; }
 ";
     let refused = list(&rt, rt.alloc(), grammar, &[])?;
     assert_eq!(rt; refused.status, Status::Refused);
-    assert_eq!(rt; refused.err.as_slice(), b"refused line 4 rule G1\n".as_slice());
+    assert_eq!(rt;
+        refused.err.as_slice(),
+        b"refused line 4 rule G1\n".as_slice()
+    );
     Ok(())
 }
 
@@ -170,7 +184,10 @@ d = 1; } }
     let refused = list(&rt, rt.alloc(), unknown, &[])?;
     assert_eq!(rt; refused.status, Status::Refused);
     assert_eq!(rt; refused.out.as_slice(), b"".as_slice());
-    assert_eq!(rt; refused.err.as_slice(), b"refused line 4 rule N1\n".as_slice());
+    assert_eq!(rt;
+        refused.err.as_slice(),
+        b"refused line 4 rule N1\n".as_slice()
+    );
     let twice = b"version 1;
 machine M { field c: variable; init b() { init c = 0; }
 transition u() { update c = 1;
@@ -179,7 +196,10 @@ invariant i(): c <= 1; }
 ";
     let refused = list(&rt, rt.alloc(), twice, &[])?;
     assert_eq!(rt; refused.status, Status::Refused);
-    assert_eq!(rt; refused.err.as_slice(), b"refused line 4 rule S3\n".as_slice());
+    assert_eq!(rt;
+        refused.err.as_slice(),
+        b"refused line 4 rule S3\n".as_slice()
+    );
     Ok(())
 }
 
@@ -187,7 +207,10 @@ invariant i(): c <= 1; }
 fn the_second_write_fails(rt: HostRuntime) -> Result<(), Fail> {
     let listed = list(&rt, rt.alloc(), TWO, &[2])?;
     assert_eq!(rt; listed.status, Status::WriteFault);
-    assert_eq!(rt; listed.out.as_slice(), b"line 5 begin keeps equal\n".as_slice());
+    assert_eq!(rt;
+        listed.out.as_slice(),
+        b"line 5 begin keeps equal\n".as_slice()
+    );
     assert_eq!(rt; listed.err.as_slice(), b"".as_slice());
     Ok(())
 }
