@@ -4,8 +4,8 @@ use Rattle.sync_terms.proofs.Extending.{Extends-refl, Extends-trans}
 use Rattle.sync_machine.specs.Views.{invariant_tree}
 use Rattle.sync_induct.specs.Checks.{proof_trees}
 use Rattle.sync_induct.specs.Titles.{same_title}
-use Rattle.sync_induct.proofs.Operating.{left_from, walkable-then, keepable-then, wanted-then, operations-past, operations-refused, operations-end}
-use Rattle.sync_induct.proofs.Remaining.{remains-whole, remains-none, remains-proved}
+use Rattle.sync_induct.proofs.Operating.{left_from, ids-then, keepable-then, wanted-then, operations-past, operations-refused, operations-end}
+use Rattle.sync_induct.proofs.Remaining.{remains-whole, remains-none, remains-shown}
 use Rattle.sync_induct.proofs.operations.check_operations.Goals as goal
 
 pub loop-i-init : goal.loop-i-init
@@ -19,9 +19,9 @@ check_operation-requires c =
     let ps = proof_trees c.args.book.proofs.now in
     let x = c.index-operations-i.result in
     record {
-      invariants = keepable-then s t fs c.args.invariants.now c.args.operations.now ps c.loop-i.i c.in_ok-number.number x c.loop-i.invariant.keeps c.loop-i-test.true c.index-operations-i.is c.in_ok-number.ensures c.requires.invariants c.requires.walkable;
-      walkable = walkable-then s t fs c.args.invariants.now c.args.operations.now ps c.loop-i.i c.in_ok-number.number x c.loop-i.invariant.keeps c.loop-i-test.true c.index-operations-i.is c.in_ok-number.ensures c.requires.invariants c.requires.walkable;
-      wanted = wanted-then s t fs c.args.invariants.now c.args.operations.now ps c.loop-i.i c.in_ok-number.number x c.loop-i.invariant.keeps c.loop-i-test.true c.index-operations-i.is c.in_ok-number.ensures c.requires.invariants c.requires.walkable
+      invariants = keepable-then s t fs c.args.invariants.now c.args.operations.now ps c.loop-i.i c.in_ok-number.number x c.loop-i.invariant.keeps c.loop-i-test.true c.index-operations-i.is c.in_ok-number.ensures c.requires.invariants c.requires.ids;
+      ids = ids-then s t fs c.args.invariants.now c.args.operations.now ps c.loop-i.i c.in_ok-number.number x c.loop-i.invariant.keeps c.loop-i-test.true c.index-operations-i.is c.in_ok-number.ensures c.requires.invariants c.requires.ids;
+      wanted = wanted-then s t fs c.args.invariants.now c.args.operations.now ps c.loop-i.i c.in_ok-number.number x c.loop-i.invariant.keeps c.loop-i-test.true c.index-operations-i.is c.in_ok-number.ensures c.requires.invariants c.requires.ids
           (contains same_title c.args.book.wanted.now) c.requires.wanted;
       placed = c.requires.placed;
     }
@@ -29,7 +29,7 @@ check_operation-requires c =
 pub returns-in_err-check_operation-clause-exact : goal.returns-in_err-check_operation-clause-exact
 returns-in_err-check_operation-clause-exact c =
     let h = operations-refused c.args.terms.now c.loop-i.terms c.args.fields.now c.args.invariants.now c.args.operations.now (proof_trees c.args.book.proofs.now) c.loop-i.i c.in_ok-number.number c.index-operations-i.result
-    c.loop-i.invariant.keeps c.loop-i-test.true c.index-operations-i.is c.in_ok-number.ensures c.requires.invariants c.requires.walkable c.loop-i.invariant.left
+    c.loop-i.invariant.keeps c.loop-i-test.true c.index-operations-i.is c.in_ok-number.ensures c.requires.invariants c.requires.ids c.loop-i.invariant.left
     (Unit {0}) (Unit {0}) c.in_err-check_operation.field-0.0 c.in_err-check_operation.ensures.exact in
     search rules
 
@@ -42,7 +42,7 @@ loop-i-preserved c =
     record {
       keeps = Extends-trans c.loop-i.invariant.keeps e.keeps;
       left = operations-past c.args.terms.now c.loop-i.terms c.args.fields.now c.args.invariants.now c.args.operations.now (proof_trees c.args.book.proofs.now) c.loop-i.i c.in_ok-number.number c.index-operations-i.result
-          c.loop-i.invariant.keeps c.loop-i-test.true c.index-operations-i.is c.in_ok-number.ensures c.requires.invariants c.requires.walkable c.loop-i.invariant.left e.exact e.proved;
+          c.loop-i.invariant.keeps c.loop-i-test.true c.index-operations-i.is c.in_ok-number.ensures c.requires.invariants c.requires.ids c.loop-i.invariant.left e.exact e.shown;
     }
 
 pub returns : goal.returns
@@ -52,4 +52,4 @@ returns c =
     let is = map (invariant_tree s) c.args.invariants.now in
     let all = left_from s c.args.fields.now is c.args.operations.now 0 in
     let left = operations-end s c.args.fields.now is c.args.operations.now c.loop-i.i ps all c.loop-i-test.false c.loop-i.invariant.left in
-    record { exact = remains-none ps all left; proved = remains-proved ps all left; keeps = c.loop-i.invariant.keeps }
+    record { exact = remains-none ps all left; shown = remains-shown ps all left; keeps = c.loop-i.invariant.keeps }

@@ -6,7 +6,7 @@ use Rattle.sync_induct.specs.Checks.{proof_trees}
 use Rattle.sync_induct.specs.Titles.{same_title}
 use Rattle.sync_induct.specs.Walks.{values_of, known_of}
 use Rattle.sync_induct.proofs.Keeping.{kept_from, wanted-is, kept-end, same-keeping, keeping-skips, keeping-passes, keeping-refused}
-use Rattle.sync_induct.proofs.Remaining.{remains-none, remains-proved, remains-whole}
+use Rattle.sync_induct.proofs.Remaining.{remains-none, remains-shown, remains-whole}
 use Rattle.sync_induct.proofs.walks.Walk.keep.Goals.{then-contains+in_ok-keep_one, else-contains}
 use Rattle.sync_induct.proofs.walks.Walk.keep.Goals as goal
 
@@ -67,4 +67,4 @@ returns c =
     let ps = proof_trees c.args.book.proofs.now in
     let all = kept_from s o c.args.op (known_of s w) (values_of s w) c.args.invariants.now 0 in
     let left = kept-end s o c.args.op (known_of s w) (values_of s w) c.args.invariants.now c.loop-j.j ps all c.loop-j-test.false c.loop-j.invariant.left in
-    record { exact = remains-none ps all left; proved = remains-proved ps all left; keeps = c.loop-j.invariant.keeps }
+    record { exact = remains-none ps all left; shown = remains-shown ps all left; keeps = c.loop-j.invariant.keeps }

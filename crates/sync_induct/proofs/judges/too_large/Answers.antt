@@ -3,7 +3,7 @@ use Rattle.std.specs.Option.{is_some}
 use Rattle.sync_induct.specs.Checks.{titles_of}
 use Rattle.sync_induct.specs.Titles.{titled, first_at}
 use Rattle.sync_induct.proofs.Judging.{large-with_proof, large-without_proof}
-use Rattle.sync_induct.proofs.closing.too_large.Goals as goal
+use Rattle.sync_induct.proofs.judges.too_large.Goals as goal
 
 pub returns-then-contains_key : goal.returns-then-contains_key
 returns-then-contains_key c = λ d same large.
