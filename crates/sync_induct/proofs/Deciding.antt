@@ -18,17 +18,13 @@ use Rattle.sync_machine.specs.Machines.{OperationTree, MachineTree}
 use Rattle.sync_machine.specs.Views.{operation_tree, invariant_tree, machine_tree, HasActIds, HasOwnIds}
 use Rattle.sync_machine.specs.Scope.{IsNamed}
 use Rattle.sync_rules.specs.Strategies.{AreAllowed}
-use Rattle.sync_terms.specs.Plans.{Plan, plan_of}
-use Rattle.sync_kernel.specs.Scripts.{script_fault}
-use Rattle.sync_kernel.proofs.Blind.{script_blind}
-use Rattle.sync_base.specs.declared.stops.Rule.TheVariants.{K8}
 use Rattle.sync_rules.specs.declared.claims.Obligation.{Obligation}
 use Rattle.sync_rules.specs.Obligations.{obligations_of}
 use Rattle.sync_induct.specs.declared.index.Title.{Title}
 use Rattle.sync_induct.specs.Titles.{titled, same_title}
 use Rattle.sync_induct.specs.declared.proofs.Proof.{Proof}
-use Rattle.sync_induct.specs.Checklist.{Check, Proves, Fits, checks_from, checks_of}
-use Rattle.sync_induct.specs.Checks.{ProofTree, title_of, titles_of, proof_trees, proofs_in, no_store, proof_of, is_large, judged, has_title, stray_fault, size_fault, checks_fault, proof_fault}
+use Rattle.sync_induct.specs.Checklist.{checks_from, checks_of}
+use Rattle.sync_induct.specs.Checks.{ProofTree, title_of, titles_of, proofs_in, has_title, stray_fault, checks_fault, proof_fault}
 use Rattle.sync_induct.specs.Closing.{IsKeepable, AreWanted}
 use Rattle.sync_induct.specs.Duties.{Duty}
 use Rattle.sync_induct.proofs.Lasting.{operation-stays, invariants-stay}
@@ -53,37 +49,6 @@ titles-are : (s : Stored) (ps : List Proof) → map (λ (p : ProofTree). p.title
 titles-are s [] = refl
 titles-are s (p ∷ ps) = ap (λ (os : List Obligation). title_of p ∷ os) (titles-are s ps)
 
--- what a duty's proof is worth does not depend on the store that the scripts' ids are of
-chosen : (b : Bool) (d : Duty) (x y : Plan) (more less : Option Plan) → script_fault d.facts d.claim x ≡ script_fault d.facts d.claim y → judged d more ≡ judged d less
-    → judged d (if b then Some x else more) ≡ judged d (if b then Some y else less)
-chosen true d x y more less one rest = ap (λ (o : Option Refusal). if is_large d then Some (record { line = d.obligation.line; rule = K8 }) else o) one
-chosen false d x y more less one rest = rest
-
-judged-alike : (s t : Stored) (d : Duty) (at : Title) (ps : List Proof) → judged d (proof_of at (proofs_in s ps)) ≡ judged d (proof_of at (proofs_in t ps))
-unfolding proof_of
-judged-alike s t d at [] = refl
-judged-alike s t d at (p ∷ ps) =
-    chosen (same_title (titled (title_of p)) at) d (plan_of s p.script.block) (plan_of t p.script.block) (proof_of at (proofs_in s ps)) (proof_of at (proofs_in t ps))
-    (script_blind s t d.facts d.claim p.script.block) (judged-alike s t d at ps)
-
-checks-alike : (s t : Stored) (ps : List Proof) (cs : List Check) → checks_fault (proofs_in s ps) cs ≡ checks_fault (proofs_in t ps) cs
-unfolding checks_fault
-checks-alike s t ps [] = refl
-checks-alike s t ps (Proves d ∷ cs) =
-    let one = judged-alike s t d (titled d.obligation) ps in
-    let more = checks-alike s t ps cs in
-    λ i. first (one i) (more i)
-checks-alike s t ps (Fits line nodes ∷ cs) = ap (first (size_fault line nodes)) (checks-alike s t ps cs)
-
--- both parts of the answer, one after the other
-abbrev pub answer : MachineTree → List Proof → Option Refusal
-answer m ps = first (stray_fault (obligations_of m) [] (titles_of ps)) (checks_fault (proof_trees ps) (checks_of m))
-
-answer-is : (s : Stored) (m : MachineTree) (ps : List Proof) → answer m ps ≡ proof_fault m (proofs_in s ps)
-answer-is s m ps =
-    ap (λ (os : List Obligation). first (stray_fault (obligations_of m) [] os) (checks_fault (proof_trees ps) (checks_of m))) (sym (titles-are s ps))
-    ∙ ap (λ (o : Option Refusal). first (stray_fault (obligations_of m) [] (map (λ (p : ProofTree). p.title) (proofs_in s ps))) o) (checks-alike no_store s ps (checks_of m))
-
 stops-first : (A B : Type 0) (e : Stop) (x y : Option Refusal) → Passes {A = A} (Err e) x → Passes {A = B} (Err e) (first x y)
 stops-first A B Memory x y p = tt
 stops-first A B (Refused r) x y p = ap (λ (a : Option Refusal). first a y) p
@@ -93,18 +58,22 @@ stops-second A B Memory x y none p = tt
 stops-second A B (Refused r) x y none p = ap (λ (a : Option Refusal). first a y) none ∙ p
 
 module _ (s : Stored) (m : MachineTree) (ps : List Proof) where
+  -- both parts of the answer, one after the other
+  answer-is : first (stray_fault (obligations_of m) [] (titles_of ps)) (checks_fault (proofs_in s ps) (checks_of m)) ≡ proof_fault m (proofs_in s ps)
+  answer-is = ap (λ (os : List Obligation). first (stray_fault (obligations_of m) [] os) (checks_fault (proofs_in s ps) (checks_of m))) (sym (titles-are s ps))
+
   -- a proof is of no obligation, or a second one
   pub stray-answer : (A B : Type 0) (e : Stop) → Passes {A = A} (Err e) (stray_fault (obligations_of m) [] (titles_of ps)) → Passes {A = B} (Err e) (proof_fault m (proofs_in s ps))
-  stray-answer A B e h = subst (λ (x : Option Refusal). Passes {A = B} (Err e) x) (answer-is s m ps)
-      (stops-first A B e (stray_fault (obligations_of m) [] (titles_of ps)) (checks_fault (proof_trees ps) (checks_of m)) h)
+  stray-answer A B e h = subst (λ (x : Option Refusal). Passes {A = B} (Err e) x) answer-is
+      (stops-first A B e (stray_fault (obligations_of m) [] (titles_of ps)) (checks_fault (proofs_in s ps) (checks_of m)) h)
 
   module _ (none : stray_fault (obligations_of m) [] (titles_of ps) ≡ None) where
-    pub check-answer : (A B : Type 0) (e : Stop) → Passes {A = A} (Err e) (checks_fault (proof_trees ps) (checks_of m)) → Passes {A = B} (Err e) (proof_fault m (proofs_in s ps))
-    check-answer A B e h = subst (λ (x : Option Refusal). Passes {A = B} (Err e) x) (answer-is s m ps)
-        (stops-second A B e (stray_fault (obligations_of m) [] (titles_of ps)) (checks_fault (proof_trees ps) (checks_of m)) none h)
+    pub check-answer : (A B : Type 0) (e : Stop) → Passes {A = A} (Err e) (checks_fault (proofs_in s ps) (checks_of m)) → Passes {A = B} (Err e) (proof_fault m (proofs_in s ps))
+    check-answer A B e h = subst (λ (x : Option Refusal). Passes {A = B} (Err e) x) answer-is
+        (stops-second A B e (stray_fault (obligations_of m) [] (titles_of ps)) (checks_fault (proofs_in s ps) (checks_of m)) none h)
 
-    pub no-answer : checks_fault (proof_trees ps) (checks_of m) ≡ None → proof_fault m (proofs_in s ps) ≡ None
-    no-answer h = sym (answer-is s m ps) ∙ (ap (λ (x : Option Refusal). first x (checks_fault (proof_trees ps) (checks_of m))) none ∙ h)
+    pub no-answer : checks_fault (proofs_in s ps) (checks_of m) ≡ None → proof_fault m (proofs_in s ps) ≡ None
+    no-answer h = sym answer-is ∙ (ap (λ (x : Option Refusal). first x (checks_fault (proofs_in s ps) (checks_of m))) none ∙ h)
 
 -- the titles of the obligations, operation by operation
 pub wanted-in : (m : Machine) (is_wanted : Title → Bool) (ops : List Operation) → ((t : Title) → is_wanted t ≡ has_title (obligations_of (machine_tree m)) t) → ops ≡ m.ops → (k : ℕ) (o : Operation) → slice_get ops k ≡ Some o

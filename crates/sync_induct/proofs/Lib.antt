@@ -4,6 +4,7 @@ pub mod Soundness
 pub mod Scoping
 pub mod Titles
 pub mod Negations
+pub mod Scripts
 pub mod Judging
 pub mod Growing
 pub mod Stating

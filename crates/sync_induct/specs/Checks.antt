@@ -1,6 +1,6 @@
 -- Whether a machine's proofs prove its obligations: nothing, or the first line and rule that they break.
 use Rattle.std.specs.Prelude.{ℕ, ◌+◌, ◌-◌, ◌^◌, min, List, [], ◌∷◌, ◌++◌, map, Bool, true, false, not, ◌&&◌, ◌||◌, nat_lt, Option, Some, None, if◌then◌else◌}
-use Rattle.std.specs.List.{list_any}
+use Rattle.std.specs.List.{AllByRecursion, list_any}
 use Rattle.sync_base.specs.declared.stops.Refusal.{Refusal}
 use Rattle.sync_base.specs.declared.stops.Rule.TheVariants.{I1, I2, K8}
 use Rattle.sync_base.specs.Outcome.{first}
@@ -11,7 +11,7 @@ use Rattle.sync_machine.specs.Machines.{MachineTree}
 use Rattle.sync_rules.specs.declared.claims.Obligation.{Obligation}
 use Rattle.sync_rules.specs.Obligations.{obligations_of}
 use Rattle.sync_kernel.specs.Facts.{Fact}
-use Rattle.sync_terms.specs.Plans.{Plan, plan_of}
+use Rattle.sync_terms.specs.Plans.{Plan, plan_of, IsScriptOf}
 use Rattle.sync_kernel.specs.Scripts.{script_fault}
 use Rattle.sync_induct.specs.declared.proofs.Proof.{Proof}
 use Rattle.sync_induct.specs.declared.index.Title.{Title}
@@ -38,12 +38,9 @@ proof_in s p = record { title = title_of p; plan = plan_of s p.script.block }
 abbrev pub proofs_in : Stored → List Proof → List ProofTree
 proofs_in s ps = map (proof_in s) ps
 
--- the steps that are built so far take no terms, so that over no store a script is worth as much
-abbrev pub no_store : Stored
-no_store = record { nodes = []; forms = [] }
-
-abbrev pub proof_trees : List Proof → List ProofTree
-proof_trees ps = proofs_in no_store ps
+-- the scripts' ids are of the store: whatever it gains, they stay the same
+abbrev pub AreScriptsOf : Stored → List Proof → Type 0
+AreScriptsOf s ps = AllByRecursion (λ (p : Proof). IsScriptOf s p.script.block) ps
 
 -- a list has a proof or an obligation of this title
 abbrev pub has_title : List Obligation → Title → Bool

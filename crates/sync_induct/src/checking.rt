@@ -7,7 +7,7 @@ ghost use Rattle.sync_machine.specs.Scope.{IsNamed, ChangesNothing};
 ghost use Rattle.sync_machine.specs.States.{HoldsAlways};
 ghost use Rattle.sync_machine.specs.Views.{HasOwnIds, machine_tree};
 ghost use Rattle.sync_rules.specs.Strategies.{AreAllowed};
-ghost use Rattle.sync_induct.specs.Checks.{proofs_in, proof_fault};
+ghost use Rattle.sync_induct.specs.Checks.{AreScriptsOf, proofs_in, proof_fault};
 ghost use Rattle.sync_induct.specs.Grown.{HasGrown};
 
 use crate::holding::Inductive;
@@ -21,7 +21,7 @@ use sync_rules::obligations;
 
 /// Checks that proofs prove all that has to be proved of a machine, which then holds always.
 ///
-/// Asks that the machine's ids are of its own store, that its names are known, its statements allowed by their
+/// Asks that the ids of the machine and of the scripts are of its own store, that its names are known, its statements allowed by their
 /// strategies, and that its properties change nothing. Refuses with the first broken rule of this order:
 ///
 /// - I2: a proof of no obligation, or a second proof of one; the proof's line. In the order of the proofs.
@@ -35,6 +35,7 @@ pub fn inductive(alloc: Global, m: Machine, p: Proofs) -> Result<Inductive, Stop
     requires ids { HasOwnIds m }
     requires named { IsNamed (machine_tree m) }
     requires allowed { AllByRecursion (λ (o : OperationTree). AreAllowed m.fields o.steps) (machine_tree m).ops }
+    requires scripts { AreScriptsOf m.terms p.list }
     requires still { AllByRecursion ChangesNothing (machine_tree m).ops }
     ensures exact { Passes result (proof_fault (machine_tree m) (proofs_in m.terms p.list)) }
     ensures holds { OnOk result (HoldsAlways (machine_tree m)) }

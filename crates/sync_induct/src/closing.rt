@@ -10,7 +10,7 @@ ghost use Rattle.sync_terms.specs.Trees.{Tree, formula_size};
 ghost use Rattle.sync_machine.specs.Scope.{IsNameSymbol};
 ghost use Rattle.sync_machine.specs.Views.{invariant_tree, operation_tree, symbols_of};
 ghost use Rattle.sync_induct.specs.declared.index.Title.{Title as Named};
-ghost use Rattle.sync_induct.specs.Checks.{titles_of, proof_trees, duty_fault, checks_fault};
+ghost use Rattle.sync_induct.specs.Checks.{titles_of, AreScriptsOf, proofs_in, duty_fault, checks_fault};
 ghost use Rattle.sync_induct.specs.Checklist.{AreShown, proves};
 ghost use Rattle.sync_induct.specs.Closing.{HavePairs, IsKeepable, AreWanted, dollar_pair};
 ghost use Rattle.sync_induct.specs.Closing as closing;
@@ -95,8 +95,9 @@ impl Walk {
     ) -> Result<(), Stop>
         requires walk { IsWalk terms.old self.old }
         requires invariant { IsKeepable terms.old invariant.now }
+        requires scripts { AreScriptsOf terms.old book.proofs.now }
         requires placed { (t : Named) → get same_title book.places.now t ≡ first_at t 0 (titles_of book.proofs.now) }
-        ensures exact { Passes result (duty_fault (proof_trees book.entry.proofs.now) (kept_duty obligation (known_of terms.old self.old) (values_of terms.old self.old) (invariant_tree terms.old invariant.now))) }
+        ensures exact { Passes result (duty_fault (proofs_in terms.old book.entry.proofs.now) (kept_duty obligation (known_of terms.old self.old) (values_of terms.old self.old) (invariant_tree terms.old invariant.now))) }
         ensures proved { OnOk result (IsProved (kept_duty obligation (known_of terms.old self.old) (values_of terms.old self.old) (invariant_tree terms.old invariant.now))) }
         ensures keeps { Extends terms.old terms.new }
         ensures hyps { self.new.sequent.hyps ≡ self.old.sequent.hyps }
@@ -134,8 +135,9 @@ impl Walk {
         requires walk { IsWalk terms.old self.old }
         requires invariants { AllByRecursion (IsKeepable terms.old) invariants.now }
         requires wanted { AreWanted (contains same_title book.wanted.now) op (operation_tree terms.old operation.now) (map (invariant_tree terms.old) invariants.now) }
+        requires scripts { AreScriptsOf terms.old book.proofs.now }
         requires placed { (t : Named) → get same_title book.places.now t ≡ first_at t 0 (titles_of book.proofs.now) }
-        ensures exact { Passes result (checks_fault (proof_trees book.entry.proofs.now)
+        ensures exact { Passes result (checks_fault (proofs_in terms.old book.entry.proofs.now)
             (proves (keeps_duties (operation_tree terms.old operation.now) op (known_of terms.old self.old) (values_of terms.old self.old) 0 (map (invariant_tree terms.old) invariants.now)))) }
         ensures shown { OnOk result (AreShown
             (proves (keeps_duties (operation_tree terms.old operation.now) op (known_of terms.old self.old) (values_of terms.old self.old) 0 (map (invariant_tree terms.old) invariants.now)))) }

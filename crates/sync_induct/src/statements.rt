@@ -11,7 +11,7 @@ ghost use Rattle.sync_machine.specs.Views.{act_tree, step_tree, HasActIds};
 ghost use Rattle.sync_acts.specs.Building.{HasTerm, Stops, condition_size};
 ghost use Rattle.sync_induct.specs.declared.index.Title.{Title as Named};
 ghost use Rattle.sync_induct.specs.Checklist.{AreShown};
-ghost use Rattle.sync_induct.specs.Checks.{titles_of, proof_trees, checks_fault, size_fault};
+ghost use Rattle.sync_induct.specs.Checks.{titles_of, AreScriptsOf, proofs_in, checks_fault, size_fault};
 ghost use Rattle.sync_induct.specs.Duties.{condition_facts};
 ghost use Rattle.sync_induct.specs.Titles.{same_title, first_at};
 
@@ -111,8 +111,9 @@ impl Walk {
         requires walk { IsWalk terms.old self.old }
         requires current { IsTerm terms.old statement.current }
         requires ids { HasActIds terms.old statement.step.act }
+        requires scripts { AreScriptsOf terms.old book.proofs.now }
         requires placed { (t : Named) → get same_title book.places.now t ≡ first_at t 0 (titles_of book.proofs.now) }
-        ensures exact { Passes result (checks_fault (proof_trees book.entry.proofs.now) (owed terms.old self.old statement)) }
+        ensures exact { Passes result (checks_fault (proofs_in terms.old book.entry.proofs.now) (owed terms.old self.old statement)) }
         ensures shown { OnOk result (AreShown (owed terms.old self.old statement)) }
         ensures keeps { Extends terms.old terms.new }
         ensures hyps { self.new.sequent.hyps ≡ self.old.sequent.hyps }
@@ -232,8 +233,9 @@ impl Walk {
     ) -> Result<(), Stop>
         requires walk { IsWalk terms.old self.old }
         requires ids { HasActIds terms.old step.act }
+        requires scripts { AreScriptsOf terms.old book.proofs.now }
         requires placed { (t : Named) → get same_title book.places.now t ≡ first_at t 0 (titles_of book.proofs.now) }
-        ensures exact { Passes result (checks_fault (proof_trees book.entry.proofs.now) (checks_at terms.old fields.now op number self.old step)) }
+        ensures exact { Passes result (checks_fault (proofs_in terms.old book.entry.proofs.now) (checks_at terms.old fields.now op number self.old step)) }
         ensures shown { OnOk result (AreShown (checks_at terms.old fields.now op number self.old step)) }
         ensures come { OnOk result (HasCome terms.new self.new (facts_after terms.old fields.now number self.old step) (values_after terms.old fields.now self.old step)) }
         ensures keeps { Extends terms.old terms.new }

@@ -4,7 +4,7 @@ ghost use Rattle.std.specs.HashMap.{get};
 ghost use Rattle.sync_base.specs.Outcome.{Passes};
 ghost use Rattle.sync_terms.specs.Stored.{Extends, IsForm};
 ghost use Rattle.sync_induct.specs.declared.index.Title.{Title as Named};
-ghost use Rattle.sync_induct.specs.Checks.{titles_of, proof_trees, checks_fault};
+ghost use Rattle.sync_induct.specs.Checks.{titles_of, AreScriptsOf, proofs_in, checks_fault};
 ghost use Rattle.sync_induct.specs.Checklist.{AreShown, step_checks};
 ghost use Rattle.sync_induct.specs.Duties.{facts_behind};
 ghost use Rattle.sync_kernel.specs.Facts.{fact_of};
@@ -56,8 +56,9 @@ impl Walk {
     ) -> Result<(), Stop>
         requires walk { IsWalk terms.old self.old }
         requires ids { All (λ x. HasActIds terms.old x.act) steps.now }
+        requires scripts { AreScriptsOf terms.old book.proofs.now }
         requires placed { (t : Named) → get same_title book.places.now t ≡ first_at t 0 (titles_of book.proofs.now) }
-        ensures exact { Passes result (checks_fault (proof_trees book.entry.proofs.now) (step_checks fields.now op (values_of terms.old self.old) (known_of terms.old self.old) 1 (steps_tree terms.old steps.now))) }
+        ensures exact { Passes result (checks_fault (proofs_in terms.old book.entry.proofs.now) (step_checks fields.now op (values_of terms.old self.old) (known_of terms.old self.old) 1 (steps_tree terms.old steps.now))) }
         ensures shown { OnOk result (AreShown (step_checks fields.now op (values_of terms.old self.old) (known_of terms.old self.old) 1 (steps_tree terms.old steps.now))) }
         ensures come { OnOk result (HasCome terms.new self.new (facts_behind fields.now (values_of terms.old self.old) (known_of terms.old self.old) 1 (steps_tree terms.old steps.now))
             (last_values fields.now (values_of terms.old self.old) (steps_tree terms.old steps.now))) }

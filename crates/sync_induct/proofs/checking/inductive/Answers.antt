@@ -8,7 +8,7 @@ use Rattle.sync_rules.specs.Obligations.{obligations_of}
 use Rattle.sync_rules.proofs.Named.{HasFewFields-from_IsNamed}
 use Rattle.sync_induct.specs.declared.index.Title.{Title}
 use Rattle.sync_induct.specs.declared.proofs.Proof.{Proof}
-use Rattle.sync_induct.specs.Checks.{titles_of, has_title, proof_trees, stray_fault, checks_fault}
+use Rattle.sync_induct.specs.Checks.{AreScriptsOf, titles_of, has_title, proofs_in, stray_fault, checks_fault}
 use Rattle.sync_induct.specs.Checklist.{Check, checks_of, AreShown}
 use Rattle.sync_induct.specs.Titles.{same_title}
 use Rattle.sync_induct.proofs.Deciding.{machine-stays, stray-answer, check-answer, no-answer, checks-are, met-keepable, met-ids, met-wanted}
@@ -26,6 +26,9 @@ check_operations-requires-clause-invariants c =
 pub check_operations-requires-clause-ids : goal.check_operations-requires-clause-ids
 check_operations-requires-clause-ids c =
     met-ids c.args.m c.as_slice-4.result.now c.as_slice-5.result.now c.as_slice-6.result.now c.as_slice-4.ensures c.as_slice-5.ensures c.as_slice-6.ensures c.requires.ids
+
+pub check_operations-requires-clause-scripts : goal.check_operations-requires-clause-scripts
+check_operations-requires-clause-scripts c = subst (λ (ps : List Proof). AreScriptsOf c.args.m.terms ps) (sym c.as_slice-3.ensures) c.requires.scripts
 
 pub check_operations-requires-clause-wanted : goal.check_operations-requires-clause-wanted
 check_operations-requires-clause-wanted c =
@@ -47,8 +50,8 @@ returns-in_err-check_operations-clause-exact c =
     let none = subst (λ (ps : List Proof). stray_fault (obligations_of m) [] (titles_of ps) ≡ None) c.as_slice-2.ensures (c.in_ok-placed.ensures.exact (obligations_of m) knows) in
     let checks = checks-are c.args.m c.as_slice-4.result.now c.as_slice-5.result.now c.as_slice-6.result.now c.as_slice-4.ensures c.as_slice-5.ensures c.as_slice-6.ensures in
     let h = check-answer c.args.m.terms m c.args.p.list none (Unit {0}) (Unit {0}) c.in_err-check_operations.field-0.0
-    (subst (λ (ps : List Proof). Passes {A = Unit {0}} (Err c.in_err-check_operations.field-0.0) (checks_fault (proof_trees ps) (checks_of m))) c.as_slice-3.ensures
-    (subst (λ (ds : List Check). Passes {A = Unit {0}} (Err c.in_err-check_operations.field-0.0) (checks_fault (proof_trees c.as_slice-3.result.now) ds)) checks c.in_err-check_operations.ensures.exact)) in
+    (subst (λ (ps : List Proof). Passes {A = Unit {0}} (Err c.in_err-check_operations.field-0.0) (checks_fault (proofs_in c.args.m.terms ps) (checks_of m))) c.as_slice-3.ensures
+    (subst (λ (ds : List Check). Passes {A = Unit {0}} (Err c.in_err-check_operations.field-0.0) (checks_fault (proofs_in c.args.m.terms c.as_slice-3.result.now) ds)) checks c.in_err-check_operations.ensures.exact)) in
     search rules
 
 pub new-requires : goal.new-requires
@@ -65,8 +68,8 @@ returns-clause-exact c =
     let none = subst (λ (ps : List Proof). stray_fault (obligations_of m) [] (titles_of ps) ≡ None) c.as_slice-2.ensures (c.in_ok-placed.ensures.exact (obligations_of m) knows) in
     let checks = checks-are c.args.m c.as_slice-4.result.now c.as_slice-5.result.now c.as_slice-6.result.now c.as_slice-4.ensures c.as_slice-5.ensures c.as_slice-6.ensures in
     no-answer c.args.m.terms m c.args.p.list none
-    (subst (λ (ps : List Proof). checks_fault (proof_trees ps) (checks_of m) ≡ None) c.as_slice-3.ensures
-    (subst (λ (ds : List Check). checks_fault (proof_trees c.as_slice-3.result.now) ds ≡ None) checks c.in_ok-check_operations.ensures.exact))
+    (subst (λ (ps : List Proof). checks_fault (proofs_in c.args.m.terms ps) (checks_of m) ≡ None) c.as_slice-3.ensures
+    (subst (λ (ds : List Check). checks_fault (proofs_in c.args.m.terms c.as_slice-3.result.now) ds ≡ None) checks c.in_ok-check_operations.ensures.exact))
 
 pub returns-clause-holds : goal.returns-clause-holds
 returns-clause-holds c =

@@ -1,10 +1,11 @@
 use Rattle.std.proofs.Common.{refl}
 use Rattle.sync_terms.proofs.Extending.{Extends-trans}
-use Rattle.sync_induct.specs.Checks.{proof_trees}
+use Rattle.sync_induct.specs.Checks.{proofs_in, duty_of}
 use Rattle.sync_induct.proofs.Judging.{large-claim}
 use Rattle.sync_induct.proofs.Keeping.{size-stays}
 use Rattle.sync_induct.proofs.Lasting.{forms-stay}
-use Rattle.sync_induct.proofs.Stating.{answer-is, stop-is, built-none, passes-owed, shown-owed, owed-nothing, shown-nothing, large-owed}
+use Rattle.sync_induct.proofs.Scripts.{scripts-stay, duty-over}
+use Rattle.sync_induct.proofs.Stating.{answer-is, stop-is, built-none, obligation_of, passes-owed, shown-owed, owed-nothing, shown-nothing, large-owed}
 use Rattle.sync_induct.proofs.walks.Walk.check.Goals as goal
 
 pub judge-requires-clause-hyps : goal.judge-requires-clause-hyps
@@ -13,10 +14,15 @@ judge-requires-clause-hyps c = forms-stay c.args.terms.now c.safety.new.terms c.
 pub judge-requires-clause-size : goal.judge-requires-clause-size
 judge-requires-clause-size c = size-stays c.args.terms.now c.safety.new.terms c.in-Ok-Some.ensures.keeps c.args.self.now c.requires.walk
 
+pub judge-requires-clause-scripts : goal.judge-requires-clause-scripts
+judge-requires-clause-scripts c = scripts-stay c.args.terms.now c.safety.new.terms c.in-Ok-Some.ensures.keeps c.args.book.proofs.now c.requires.scripts
+
 pub returns-in-Ok-Some-clause-exact : goal.returns-in-Ok-Some-clause-exact
 returns-in-Ok-Some-clause-exact c =
     passes-owed c.args.terms.now c.safety.new.terms c.in-Ok-Some.ensures.keeps c.args.self.now c.requires.walk c.args.statement c.in-Ok-Some.claim
-    (answer-is c.safety.new.terms _ _ _ c.in-Ok-Some.field-0-is c.in-Ok-Some.ensures.built.value) c.judge.result (proof_trees c.args.book.proofs.now) c.judge.ensures.exact
+    (answer-is c.safety.new.terms _ _ _ c.in-Ok-Some.field-0-is c.in-Ok-Some.ensures.built.value) c.judge.result (proofs_in c.args.terms.now c.args.book.proofs.now)
+    (duty-over c.args.terms.now c.safety.new.terms c.in-Ok-Some.ensures.keeps c.args.book.proofs.now c.requires.scripts c.judge.result
+    (duty_of c.safety.new.terms c.args.self.now.sequent.hyps c.in-Ok-Some.claim (obligation_of c.args.statement)) c.judge.ensures.exact)
 
 pub returns-in-Ok-Some-clause-shown : goal.returns-in-Ok-Some-clause-shown
 returns-in-Ok-Some-clause-shown c =
@@ -28,7 +34,7 @@ returns-in-Ok-Some-clause-keeps c = Extends-trans c.in-Ok-Some.ensures.keeps c.j
 
 pub returns-in-Ok-None-clause-exact : goal.returns-in-Ok-None-clause-exact
 returns-in-Ok-None-clause-exact c =
-    owed-nothing c.args.terms.now c.args.self.now c.args.statement (proof_trees c.args.book.proofs.now)
+    owed-nothing c.args.terms.now c.args.self.now c.args.statement (proofs_in c.args.terms.now c.args.book.proofs.now)
     (built-none c.safety.new.terms _ (answer-is c.safety.new.terms _ _ _ c.in-Ok-None.field-0-is c.in-Ok-None.ensures.built.value))
 
 pub returns-in-Ok-None-clause-shown : goal.returns-in-Ok-None-clause-shown
@@ -38,6 +44,6 @@ returns-in-Ok-None-clause-shown c =
 
 pub returns-in-Err-TooLarge-clause-exact : goal.returns-in-Err-TooLarge-clause-exact
 returns-in-Err-TooLarge-clause-exact c =
-    large-owed c.args.terms.now c.args.self.now c.args.statement (proof_trees c.args.book.proofs.now) (Unit {0}) c.too_large.result
+    large-owed c.args.terms.now c.args.self.now c.args.statement (proofs_in c.args.terms.now c.args.book.proofs.now) (Unit {0}) c.too_large.result
     (stop-is _ _ c.in-Err-TooLarge.field-0-is c.in-Err-TooLarge.ensures.built.stop)
-    (λ d same large. c.too_large.ensures d same (large-claim d large))
+    (λ d same large. c.too_large.ensures c.args.terms.now d same (large-claim d large))
