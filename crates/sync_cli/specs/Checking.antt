@@ -12,7 +12,7 @@ use Rattle.sync_machine.specs.Machines.{MachineTree}
 use Rattle.sync_machine.specs.Naming.{machine_fault}
 use Rattle.sync_machine.specs.States.{HoldsAlways}
 use Rattle.sync_rules.specs.Faults.{strategy_fault}
-use Rattle.sync_induct.specs.Checks.{unbuilt_fault, proof_fault}
+use Rattle.sync_induct.specs.Checks.{proof_fault}
 use Rattle.sync_read.specs.Texts.{TextTree, resolved}
 
 -- the most bytes that a text may have
@@ -27,10 +27,6 @@ spelled bytes = parsed bytes >>= resolved
 abbrev pub form_fault : MachineTree → Option Refusal
 form_fault m = first (machine_fault m) (strategy_fault m)
 
--- the first rule that a machine's proofs break
-abbrev pub proofs_fault : TextTree → Option Refusal
-proofs_fault t = first (unbuilt_fault t.machine.fields t.machine.ops) (proof_fault t.machine t.proofs)
-
 -- the answer, where no rule is broken
 abbrev pub unless : {A : Type 0} → Option Refusal → A → Result A Refusal
 unless None answer = Ok answer
@@ -38,7 +34,7 @@ unless (Some refusal) answer = Err refusal
 
 -- the number of a text's scripts, or the first rule that it breaks
 abbrev pub judged : TextTree → Result ℕ Refusal
-judged t = unless (first (form_fault t.machine) (proofs_fault t)) (length t.proofs)
+judged t = unless (first (form_fault t.machine) (proof_fault t.machine t.proofs)) (length t.proofs)
 
 unfoldable pub verdict_of : List ℕ → Result ℕ Refusal
 verdict_of bytes = spelled bytes >>= judged
