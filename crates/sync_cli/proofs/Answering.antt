@@ -7,8 +7,9 @@ use Rattle.sync_base.specs.Outcome.{◌>>=◌}
 use Rattle.sync_base.specs.Outside.{GivesFront}
 use Rattle.sync_base.specs.declared.stops.Rule.TheVariants.{L1}
 use Rattle.sync_cli.specs.Answers.{status_of, out_of, err_of, IsAnswer}
-use Rattle.sync_cli.specs.Checking.{most_bytes, judged, verdict_of, spelled-too_long}
-use Rattle.sync_cli.specs.Commands.{Asks, answered, accepted_lines, listed, listing_of, IsDone}
+use Rattle.sync_check.specs.Checking.{most_bytes, judged, verdict_of, spelled-too_long}
+use Rattle.sync_cli.specs.Commands.{Asks, answered, accepted_lines, IsDone}
+use Rattle.sync_check.specs.Listing.{listed, listing_of}
 use Rattle.sync_cli.specs.Serving.{Allowed, WasRead}
 use Rattle.sync_cli.specs.Streams.{IsAtEnd}
 use Rattle.sync_cli.specs.declared.answers.Answer.{Answer}

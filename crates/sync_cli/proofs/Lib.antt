@@ -1,6 +1,4 @@
 mod Gains
-mod Named
 mod WordLists
 mod Listed
 mod Answering
-mod Accepting

@@ -4,9 +4,9 @@ use Rattle.sync_base.specs.declared.stops.Refusal.{Refusal}
 use Rattle.sync_base.specs.declared.stops.Stop.{Stop}
 use Rattle.sync_base.specs.Outcome.{Gives, ◌>>=◌}
 use Rattle.sync_read.specs.Texts.{TextTree}
-use Rattle.sync_cli.specs.Checking.{spelled, form_fault, unless}
-use Rattle.sync_cli.specs.Commands.{listed, listing_of, IsDone}
-use Rattle.sync_cli.specs.Listing.{obligation_lines}
+use Rattle.sync_check.specs.Checking.{spelled, form_fault, unless}
+use Rattle.sync_cli.specs.Commands.{IsDone}
+use Rattle.sync_check.specs.Listing.{obligation_lines, listed, listing_of}
 use Rattle.sync_cli.specs.declared.commands.Command.TheVariants.{Obligations}
 
 -- lines that are given are given because no rule is broken

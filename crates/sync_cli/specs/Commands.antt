@@ -5,9 +5,9 @@ use Rattle.std.specs.declared.alloc.Global.{Global}
 use Rattle.sync_base.specs.declared.stops.Refusal.{Refusal}
 use Rattle.sync_base.specs.Outcome.{◌>>=◌}
 use Rattle.sync_read.specs.Texts.{TextTree}
-use Rattle.sync_cli.specs.Checking.{spelled, form_fault, unless, verdict_of, IsAccepted}
+use Rattle.sync_check.specs.Checking.{spelled, form_fault, verdict_of, IsAccepted}
 use Rattle.sync_cli.specs.Lines.{accepted_line}
-use Rattle.sync_cli.specs.Listing.{obligation_lines}
+use Rattle.sync_check.specs.Listing.{obligation_lines, listing_of}
 use Rattle.sync_cli.specs.declared.commands.Command.{Command}
 use Rattle.sync_cli.specs.declared.commands.Command.TheVariants.{Check, Obligations}
 
@@ -27,14 +27,6 @@ AsksNothing words = (command : Command) → ¬ Asks words command
 -- the one line of a text that is accepted
 abbrev pub accepted_lines : ℕ → Result (List (List ℕ)) Refusal
 accepted_lines scripts = Ok (accepted_line scripts ∷ [])
-
--- the lines of what has to be proved, where the machine breaks no rule of names or of strategies
-abbrev pub listed : TextTree → Result (List (List ℕ)) Refusal
-listed t = unless (form_fault t.machine) (obligation_lines t)
-
--- the lines of what has to be proved of a text's machine, whatever its proofs are, or the first rule that the text breaks
-unfoldable pub listing_of : List ℕ → Result (List (List ℕ)) Refusal
-listing_of text = spelled text >>= listed
 
 -- the lines that a command gives for a text, or the first rule that the text breaks
 unfoldable pub answered : Command → List ℕ → Result (List (List ℕ)) Refusal

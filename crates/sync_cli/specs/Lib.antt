@@ -1,6 +1,4 @@
-pub mod Checking
 pub mod Lines
-pub mod Listing
 pub mod Commands
 pub mod Statuses
 pub mod Streams

@@ -1,7 +1,7 @@
 -- What a call takes from a source and gives to a sink.
 use Rattle.std.specs.Prelude.{◌≡◌, ℕ, ◌+◌, ◌<◌, ◌≤◌, ◌⊎◌, List, [], length, take, Option, Some, None}
 use Rattle.sync_base.specs.Outside.{gained}
-use Rattle.sync_cli.specs.Checking.{most_bytes}
+use Rattle.sync_check.specs.Checking.{most_bytes}
 
 -- the text is what the source told, where it told that
 abbrev pub IsTold : Option (List ℕ) → List ℕ → Type 0

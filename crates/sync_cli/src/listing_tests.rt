@@ -1,13 +1,75 @@
 //! Texts, and the list of what has to be proved of them.
 use crate::serving::serve;
 use crate::statuses::Status;
-use crate::text_tests::{COUNT, TWO};
 use std::alloc::{AllocError, Global};
 use std::test::Fail;
 use std::thread::Threads;
 use sync_base::{MemSink, MemSource, NoMemory, OpenGate};
 
 const ROOM: u64 = 1_000_000;
+
+const TWO: &[u8] = b"version 1;
+machine Two {
+  field c: variable;
+  field a: variable;
+  init begin() { init c = 0; init a = 0; }
+  transition up() { require a <= 4; update a = a + 1; update c = c + 1; }
+  invariant equal(): c = a;
+  invariant top(): a <= 5;
+}
+proofs {
+  begin keeps equal by { same; }
+  begin keeps top by { same; }
+  up keeps equal by { sum 1 denied, -1 equal; }
+  up keeps top by { sum 1 denied, 1 at 1; }
+}
+";
+
+const COUNT: &[u8] = b"version 1;
+machine Count {
+  field c: variable;
+  field a: variable;
+  field b: variable;
+  init begin() {
+    init c = 0;
+    init a = 0;
+    init b = 0;
+  }
+  transition inc_a() {
+    require a = 0;
+    assert c <= 1;
+    update a = 1;
+    update c = c + 1;
+  }
+  transition inc_b() {
+    require b = 0;
+    assert c <= 1;
+    update b = 1;
+    update c = c + 1;
+  }
+  property all() {
+    have c;
+    require a = 1;
+    require b = 1;
+    assert c = 2;
+  }
+  invariant whole(): c = a + b;
+  invariant bit_a(): a <= 1;
+  invariant bit_b(): b <= 1;
+}
+proofs {
+  begin keeps whole by { same; }
+  begin keeps bit_a by { same; }
+  begin keeps bit_b by { same; }
+  inc_a at 2 by { sum 1 denied, 1 whole, 1 at 1, 1 bit_b; }
+  inc_a keeps whole by { sum 1 denied, -1 whole, -1 at 1; }
+  inc_a keeps bit_a by { same; }
+  inc_b at 2 by { sum 1 denied, 1 whole, 1 at 1, 1 bit_a; }
+  inc_b keeps whole by { sum 1 denied, -1 whole, -1 at 1; }
+  inc_b keeps bit_b by { same; }
+  all at 4 by { sum 1 denied, -1 whole, -1 at 2, -1 at 3; }
+}
+";
 
 /// What a call ended with, and what it wrote.
 #[derive(Drop)]

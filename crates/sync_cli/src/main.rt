@@ -2,10 +2,8 @@
 #![tactic(auto)]
 
 mod answers;
-mod checking;
 mod commands;
 mod lines;
-mod listing;
 #[cfg(test)]
 mod listing_tests;
 mod reading;
@@ -14,8 +12,6 @@ mod statuses;
 mod streams;
 #[cfg(test)]
 mod tests;
-#[cfg(test)]
-mod text_tests;
 mod writing;
 
 use answers::USAGE;

@@ -10,10 +10,8 @@ ghost use Rattle.sync_cli.specs.Streams.{IsTold, IsCutShort};
 ghost use Rattle.sync_cli.specs.declared.commands.Command.{Command as Job};
 
 use crate::answers::Answer;
-use crate::checking::check;
 use crate::commands::{Command, command_of};
 use crate::lines::{accepted_lines, refused_line};
-use crate::listing::list;
 use crate::reading::{ReadStop, read_all};
 use crate::statuses::Status;
 use crate::writing::write_all;
@@ -21,6 +19,7 @@ use sqlite_items::Items;
 use std::alloc::{AllocError, Global};
 use std::thread::Threads;
 use sync_base::{Failed, Gate, Sink, Source, Stop};
+use sync_check::{check, list};
 
 /// The lines that the command gives for a text, or the first rule that the text breaks.
 #[tactic(auto, unfolding(crate::specs::Commands::answered))]

@@ -1,7 +1,9 @@
 -- The lines that list what has to be proved of a machine.
-use Rattle.std.specs.Prelude.{ℕ, List, [], ◌++◌, map, codes, slice_get}
+use Rattle.std.specs.Prelude.{ℕ, List, [], ◌++◌, map, codes, slice_get, Result}
 use Rattle.std.specs.Option.{option_map_or}
 use Rattle.std.specs.Fmt.{decimal}
+use Rattle.sync_base.specs.declared.stops.Refusal.{Refusal}
+use Rattle.sync_base.specs.Outcome.{◌>>=◌}
 use Rattle.sync_base.specs.declared.names.Name.{Name}
 use Rattle.sync_base.specs.declared.names.NameList.{NameList}
 use Rattle.sync_machine.specs.Machines.{OperationTree, InvariantTree}
@@ -10,6 +12,7 @@ use Rattle.sync_rules.specs.declared.claims.Claim.TheVariants.{At, Keeps}
 use Rattle.sync_rules.specs.declared.claims.Obligation.{Obligation}
 use Rattle.sync_rules.specs.Obligations.{obligations_of}
 use Rattle.sync_read.specs.Texts.{TextTree}
+use Rattle.sync_check.specs.Checking.{spelled, form_fault, unless}
 
 -- how the name with this number is spelled; a number that no name has is spelled by no byte
 abbrev pub spelling : NameList → ℕ → List ℕ
@@ -37,3 +40,11 @@ obligation_line t o =
 -- the lines of all that has to be proved, in order
 abbrev pub obligation_lines : TextTree → List (List ℕ)
 obligation_lines t = map (obligation_line t) (obligations_of t.machine)
+
+-- the lines of what has to be proved, where the machine breaks no rule of names or of strategies
+abbrev pub listed : TextTree → Result (List (List ℕ)) Refusal
+listed t = unless (form_fault t.machine) (obligation_lines t)
+
+-- the lines of what has to be proved of a text's machine, whatever its proofs are, or the first rule that the text breaks
+unfoldable pub listing_of : List ℕ → Result (List (List ℕ)) Refusal
+listing_of text = spelled text >>= listed

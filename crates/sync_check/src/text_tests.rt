@@ -13,7 +13,7 @@ fn verdict(alloc: Global, text: &[u8]) -> Result<Result<u64, (u32, Rule)>, Fail>
     }
 }
 
-pub const TWO: &[u8] = b"version 1;
+const TWO: &[u8] = b"version 1;
 machine Two {
   field c: variable;
   field a: variable;
@@ -82,7 +82,7 @@ proofs {
 }
 
 /// A counter that two threads raise, each once.
-pub const COUNT: &[u8] = b"version 1;
+const COUNT: &[u8] = b"version 1;
 machine Count {
   field c: variable;
   field a: variable;

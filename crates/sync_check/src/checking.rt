@@ -10,7 +10,7 @@ ghost use Rattle.sync_machine.specs.Views.{HasOwnIds, machine_tree};
 ghost use Rattle.sync_rules.specs.Strategies.{AreAllowed};
 ghost use Rattle.sync_read.specs.Texts.{text_tree};
 ghost use Rattle.sync_read.specs.declared.texts.Text.{Text};
-ghost use Rattle.sync_cli.specs.Checking.{spelled, form_fault, judged, verdict_of, IsAccepted};
+ghost use Rattle.sync_check.specs.Checking.{spelled, form_fault, judged, verdict_of, IsAccepted};
 
 use std::alloc::Global;
 use sync_base::Stop;
@@ -22,7 +22,7 @@ use sync_rules::check_ops;
 
 /// The machine, the proofs and the names that the bytes of a text spell, or the first rule of lexemes, of the grammar or of
 /// names that they break.
-pub fn read(alloc: Global, bytes: &[u8]) -> Result<Text, Stop>
+pub(crate) fn read(alloc: Global, bytes: &[u8]) -> Result<Text, Stop>
     ensures exact { Gives text_tree result (spelled bytes.now) }
     ensures ids { IfOk result (λ (t : Text). HasOwnIds t.machine) }
     ensures names { IfOk result (λ (t : Text). AreTextNames (machine_tree t.machine)) }
@@ -32,7 +32,7 @@ pub fn read(alloc: Global, bytes: &[u8]) -> Result<Text, Stop>
 }
 
 /// Whether a machine keeps the rules of names and of strategies; else the first that it breaks.
-pub fn has_form(m: &Machine) -> Result<(), Stop>
+pub(crate) fn has_form(m: &Machine) -> Result<(), Stop>
     requires ids { HasOwnIds m.now }
     requires names { AreTextNames (machine_tree m.now) }
     ensures exact { Passes result (form_fault (machine_tree m.now)) }

@@ -2,8 +2,7 @@
 ghost use Rattle.std.specs.Prelude.{◌≡◌, ◌++◌, map, codes, IfOk, OnOk};
 ghost use Rattle.sync_base.specs.Outcome.{Gives};
 ghost use Rattle.sync_read.specs.Texts.{text_tree};
-ghost use Rattle.sync_cli.specs.Commands.{listing_of};
-ghost use Rattle.sync_cli.specs.Listing.{claim_text, invariant_name, obligation_line, operation_name, spelling};
+ghost use Rattle.sync_check.specs.Listing.{claim_text, invariant_name, listing_of, obligation_line, operation_name, spelling};
 
 use crate::checking::{has_form, read};
 use sqlite_items::Items;
@@ -95,7 +94,7 @@ fn lines_of(
 ///
 /// The rules of lexemes, of the grammar, of names and of strategies are asked for. Proofs are not looked at, but for the
 /// names in them.
-#[tactic(auto, unfolding(crate::specs::Commands::listing_of))]
+#[tactic(auto, unfolding(crate::specs::Listing::listing_of))]
 pub fn list(alloc: Global, bytes: &[u8]) -> Result<Items<Items<u8>>, Stop>
     ensures { Gives (λ lines. lines) result (listing_of bytes.now) }
 {

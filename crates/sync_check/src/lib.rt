@@ -1,0 +1,10 @@
+//! Checks texts: whether a text is a machine whose proofs prove it, and what has to be proved of it.
+#![tactic(auto)]
+
+mod checking;
+mod listing;
+#[cfg(test)]
+mod text_tests;
+
+pub use checking::check;
+pub use listing::list;
