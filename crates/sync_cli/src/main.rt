@@ -12,6 +12,8 @@ mod streams;
 mod tests;
 #[cfg(test)]
 mod text_tests;
+#[cfg(test)]
+mod token_tests;
 mod writing;
 
 use answers::USAGE;

@@ -76,9 +76,10 @@ rest_same p q ps qs e = cc
 
 same_scripts : (s : Stored) (ps : List Proof) → ((t : Stored) → Extends s t → map (stored_proof t) ps ≡ map (stored_proof s) ps) → AreScriptsOf s ps
 same_scripts s [] h = tt
-same_scripts s (p ∷ ps) h =
-    (λ t e. ap (λ (q : ProofTree). q.plan) (first_same (stored_proof t p) (stored_proof s p) (map (stored_proof t) ps) (map (stored_proof s) ps) (h t e)),
-    same_scripts s ps (λ t e. rest_same (stored_proof t p) (stored_proof s p) (map (stored_proof t) ps) (map (stored_proof s) ps) (h t e)))
+same_scripts s (p ∷ ps) h = (
+  λ t e. ap (λ (q : ProofTree). q.plan) (first_same (stored_proof t p) (stored_proof s p) (map (stored_proof t) ps) (map (stored_proof s) ps) (h t e)),
+  same_scripts s ps (λ t e. rest_same (stored_proof t p) (stored_proof s p) (map (stored_proof t) ps) (map (stored_proof s) ps) (h t e)),
+)
 
 -- what the proofs of a text mean over every larger store does not depend on it, so their scripts are of the store
 pub own_scripts : (s : Stored) (ps : List Proof) (next : Scope) (wanted : Result (List ProofTree × Scope) Refusal) → ((t : Stored) → Extends s t → wanted ≡ Ok (map (stored_proof t) ps, next)) → AreScriptsOf s ps
