@@ -8,6 +8,7 @@ ghost use Rattle.sync_machine.specs.Scope.{IsNamed, ChangesNothing};
 ghost use Rattle.sync_machine.specs.States.{HoldsAlways};
 ghost use Rattle.sync_machine.specs.Views.{HasOwnIds, machine_tree};
 ghost use Rattle.sync_rules.specs.Strategies.{AreAllowed};
+ghost use Rattle.sync_induct.specs.Checks.{AreScriptsOf};
 ghost use Rattle.sync_read.specs.Texts.{text_tree};
 ghost use Rattle.sync_read.specs.declared.texts.Text.{Text};
 ghost use Rattle.sync_check.specs.Checking.{spelled, form_fault, judged, verdict_of, IsAccepted};
@@ -53,6 +54,7 @@ pub(crate) fn has_form(m: &Machine) -> Result<(), Stop>
 fn judge(alloc: Global, text: Text) -> Result<u64, Stop>
     requires ids { HasOwnIds text.machine }
     requires names { AreTextNames (machine_tree text.machine) }
+    requires scripts { AreScriptsOf text.machine.terms text.proofs.list }
     ensures exact { Gives (λ scripts. scripts) result (judged (text_tree text)) }
     ensures holds { OnOk result (HoldsAlways (machine_tree text.machine)) }
     ensures scripts { IfOk result (λ scripts. scripts ≡ length (text_tree text).proofs) }

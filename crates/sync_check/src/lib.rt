@@ -5,6 +5,8 @@ mod checking;
 mod listing;
 #[cfg(test)]
 mod text_tests;
+#[cfg(test)]
+mod token_tests;
 
 pub use checking::check;
 pub use listing::list;

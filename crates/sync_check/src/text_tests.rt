@@ -5,7 +5,7 @@ use std::test::Fail;
 use sync_base::{Refusal, Rule, Stop};
 
 /// How many scripts a text has that is accepted, or the line and the rule that it is refused with.
-fn verdict(alloc: Global, text: &[u8]) -> Result<Result<u64, (u32, Rule)>, Fail> {
+pub(crate) fn verdict(alloc: Global, text: &[u8]) -> Result<Result<u64, (u32, Rule)>, Fail> {
     match check(alloc, text) {
         Ok(scripts) => Ok(Ok(scripts)),
         Err(Stop::Refused(Refusal { line, rule })) => Ok(Err((line, rule))),
@@ -207,6 +207,13 @@ proofs {
 b at 1 by { same; } }
 ";
     assert_eq!(rt; verdict(rt.alloc(), stray.as_slice())?, Err((4, Rule::I2)));
+    let second = b"version 1;
+machine M { field c: variable; init b() { init c = 0; }
+invariant i(): c = 0; }
+proofs { b keeps i by { same; }
+b keeps i by { same; } }
+";
+    assert_eq!(rt; verdict(rt.alloc(), second.as_slice())?, Err((5, Rule::I2)));
     let open = b"version 1;
 machine M {
 
@@ -237,14 +244,5 @@ proofs { begin keeps i by { same; }
 t1 keeps i by { same; } }
 ";
     assert_eq!(rt; verdict(rt.alloc(), maps.as_slice())?, Ok(2));
-    let tokens = b"version 1;
-machine M {
-field m: map;
-init begin() { init m = nil; }
-transition t1() {
-add m += [1 => 2]; } }
-proofs { t1 at 1 by { same; } }
-";
-    assert_eq!(rt; verdict(rt.alloc(), tokens.as_slice())?, Err((6, Rule::G9)));
     Ok(())
 }

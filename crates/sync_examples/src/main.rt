@@ -7,7 +7,7 @@ use sync_base::{Refusal, Stop};
 use sync_check::check;
 
 /// The texts, in the order in which they are checked.
-const TEXTS: [&str; 19] = [
+const TEXTS: [&str; 20] = [
     "counter.sync",
     "lock.sync",
     "queue.sync",
@@ -24,6 +24,7 @@ const TEXTS: [&str; 19] = [
     "steps/split.sync",
     "steps/sum.sync",
     "steps/total.sync",
+    "tickets.sync",
     "toggle.sync",
     "transfer.sync",
     "two_counters.sync",

@@ -120,17 +120,19 @@ impl Walk {
         ensures size { self.new.size ≡ self.old.size }
         ensures current { self.new.current ≡ self.old.current }
     {
+        let Statement {
+            op,
+            number,
+            strategy,
+            current,
+            step,
+        } = statement;
         let obligation = Obligation {
-            op: statement.op,
-            claim: Claim::At(statement.number),
-            line: statement.step.line,
+            op,
+            claim: Claim::At(number),
+            line: step.line,
         };
-        match safety(
-            terms,
-            statement.strategy,
-            statement.current,
-            statement.step.act,
-        ) {
+        match safety(terms, strategy, current, step.act) {
             Ok(Some(claim)) => {
                 self.sequent.claim = claim;
                 judge(
@@ -150,12 +152,7 @@ impl Walk {
     }
 
     /// Adds what is known behind a statement.
-    fn learn(
-        &mut self,
-        alloc: Global,
-        terms: &mut Terms,
-        statement: Statement,
-    ) -> Result<(), Stop>
+    fn learn(&mut self, alloc: Global, terms: &mut Terms, statement: Statement) -> Result<(), Stop>
         requires walk { IsWalk terms.old self.old }
         requires current { IsTerm terms.old statement.current }
         requires ids { HasActIds terms.old statement.step.act }
@@ -206,18 +203,18 @@ impl Walk {
         ensures come { OnOk result (HasCome terms.new self.new (known_of terms.old self.old) (values_with (statements.field_of (act_tree terms.old statement.step.act)) (value_at terms.old statement) (values_of terms.old self.old))) }
         ensures keeps { Extends terms.old terms.new }
     {
-        match after(
-            terms,
-            statement.strategy,
-            statement.current,
-            statement.step.act,
-        ) {
-            Ok(value) => {
-                self.assign(terms, field_of(&statement.step.act), value);
-                Ok(())
-            }
-            Err(stop) => Err(unmade(statement.step.line, stop)),
-        }
+        let Statement {
+            strategy,
+            current,
+            step,
+            ..
+        } = statement;
+        let value = match after(terms, strategy, current, step.act) {
+            Ok(value) => value,
+            Err(stop) => return Err(unmade(step.line, stop)),
+        };
+        self.assign(terms, field_of(&step.act), value);
+        Ok(())
     }
 
     /// Goes past a statement: shows its safety condition, adds what is known behind it, and gives its field its value.

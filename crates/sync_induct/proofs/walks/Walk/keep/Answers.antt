@@ -62,7 +62,7 @@ loop-j-preserved c =
           let e = b.in_ok-keep_one.ensures in
           same-keeping s b.keep_one.new.terms c.if-contains.terms w b.keep_one.new.self c.if-contains.self o c.args.op xs ps (j + 1) b.terms-is b.self-is
           (keeping-passes s t w v o c.args.op xs ps j c.in_ok-number.field-0 x lt is n c.requires.walk c.requires.invariants c.loop-j.invariant b.keep_one.new.terms b.keep_one.new.self (wanted true b.if-contains.true) e.keeps e.hyps e.current e.size (duty-none_over s t c.loop-j.invariant.keeps c.args.book.proofs.now c.requires.scripts
-              (kept_duty (record { op = c.args.op; claim = claims.Keeps c.in_ok-number.field-0; line = o.line }) (known_of c.loop-j.terms c.loop-j.self) (values_of c.loop-j.terms c.loop-j.self) (invariant_tree c.loop-j.terms x)) e.exact) e.proved)
+          (kept_duty (record { op = c.args.op; claim = claims.Keeps c.in_ok-number.field-0; line = o.line }) (known_of c.loop-j.terms c.loop-j.self) (values_of c.loop-j.terms c.loop-j.self) (invariant_tree c.loop-j.terms x)) e.exact) e.proved)
       | else-contains b ↦
           same-keeping s t c.if-contains.terms w v c.if-contains.self o c.args.op xs ps (j + 1) b.terms-is b.self-is
           (keeping-skips s t w v o c.args.op xs ps j c.in_ok-number.field-0 x lt is n c.requires.walk c.requires.invariants c.loop-j.invariant (wanted false b.if-contains.false))
