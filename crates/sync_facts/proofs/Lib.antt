@@ -1,0 +1,5 @@
+pub mod MapLaws
+pub mod Truths
+pub mod Making
+pub mod Drafting
+pub mod Laws
