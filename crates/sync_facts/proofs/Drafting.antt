@@ -82,3 +82,11 @@ unfolding formula_size
 right_joined connective.And f g = omega arith
 right_joined connective.Or f g = omega arith
 right_joined connective.Implies f g = omega arith
+
+pub within_not : (f : Formula) → formula_size f ≤ formula_size (Not f)
+unfolding formula_size
+within_not f = omega arith
+
+pub left_less : (a b : Tree) → tree_size a ≤ tree_size (Sub a b)
+unfolding tree_size
+left_less a b = omega arith

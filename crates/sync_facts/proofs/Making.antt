@@ -93,8 +93,14 @@ BuildsForm-form {e = e} r h was l = BuildsForm-stop e r was (Stops-more e h.stop
 
 -- ---- by another spelling
 
+pub BuildsTerm-by : {t : Stored} {x y : Tree} {r : Result TermId TermStop} → y ≡ x → BuildsTerm t x r → BuildsTerm t y r
+BuildsTerm-by {t} {r = r} e h = subst (λ (z : Tree). BuildsTerm t z r) (sym e) h
+
 pub BuildsTerm-same : {t : Stored} {x y : Tree} {r : Result TermId TermStop} → BuildsTerm t x r → x ≡ y → BuildsTerm t y r
 BuildsTerm-same {t} {r = r} h e = subst (λ (z : Tree). BuildsTerm t z r) e h
+
+pub BuildsForm-by : {t : Stored} {f g : Formula} {r : Result FormId TermStop} → g ≡ f → BuildsForm t f r → BuildsForm t g r
+BuildsForm-by {t} {r = r} e h = subst (λ (z : Formula). BuildsForm t z r) (sym e) h
 
 pub BuildsForm-same : {t : Stored} {f g : Formula} {r : Result FormId TermStop} → BuildsForm t f r → f ≡ g → BuildsForm t g r
 BuildsForm-same {t} {r = r} h e = subst (λ (z : Formula). BuildsForm t z r) e h

@@ -1,4 +1,5 @@
 -- Numbers and formulas over terms of a store, before they are built.
+use Rattle.std.specs.Prelude.{ℕ, ◌+◌}
 use Rattle.sync_terms.specs.Trees.{Tree, Lit, Add, Sub, Get, Has, Size, Sum, Formula, Le, Lt, Eq, Not, And, Or, Imp}
 use Rattle.sync_terms.specs.Stored.{Stored, tree, IsTerm}
 use Rattle.sync_facts.specs.declared.drafts.Part.{Part}
@@ -64,3 +65,9 @@ abbrev pub IsDraft : Stored → Draft → Type 0
 IsDraft s (draft.Test r a b) = IsValue s a × IsValue s b
 IsDraft s (draft.Not' p f) = IsDraft s f
 IsDraft s (draft.Join' c p f q g) = IsDraft s f × IsDraft s g
+
+-- how many connectives it has, a negation as one
+abbrev pub connectives : Draft → ℕ
+connectives (draft.Test r a b) = 0
+connectives (draft.Not' p f) = connectives f + 1
+connectives (draft.Join' c p f q g) = connectives f + connectives g + 1

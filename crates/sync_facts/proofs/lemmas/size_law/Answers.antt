@@ -1,7 +1,6 @@
-use Rattle.std.proofs.Common.{◌≡◌, sym, ◌∙◌}
-use Rattle.sync_terms.specs.Stored.{tree}
+use Rattle.std.proofs.Common.{sym, ◌∙◌}
 use Rattle.sync_facts.proofs.Making.{shape-node}
-use Rattle.sync_facts.proofs.Laws.{size-nil, size-put, size-del, size-bump}
+use Rattle.sync_facts.proofs.Origins.{size-nil, size-put, size-del, size-bump, size-any, plain}
 use Rattle.sync_facts.proofs.lemmas.size_law.Goals as goal
 
 pub returns-in-Nil-clause-law : goal.returns-in-Nil-clause-law
@@ -17,4 +16,4 @@ pub returns-in-Bump-clause-law : goal.returns-in-Bump-clause-law
 returns-in-Bump-clause-law c = size-bump _ _ _ _ (sym (shape-node c.args.terms.now _) ∙ c.in-Bump.ensures.value)
 
 pub returns-in-Lit : goal.returns-in-Lit
-returns-in-Lit c = let x : ⊥ = c.in-Lit.is in ?
+returns-in-Lit c = record { law = size-any c.args.terms.now c.term.result _ c.term.ensures.value (plain c.in-Lit.is); stored = (tt, c.requires) }
