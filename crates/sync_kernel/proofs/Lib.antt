@@ -4,6 +4,7 @@ pub mod Closing
 pub mod Ids
 pub mod Scripting
 pub mod Instances
+pub mod Saying
 pub mod Takings
 pub mod Opposing
 pub mod Refuting

@@ -16,7 +16,7 @@ use Rattle.sync_terms.specs.Values.{Valuation, truth, Holds, HoldsForAll, Given,
 use Rattle.sync_terms.specs.Plans.{Plan, End, Same, Sum, Inst, Parts, Split, Cut, Read, Size, Total, Cong}
 use Rattle.sync_terms.proofs.Meaning.{truth-neg}
 use Rattle.sync_facts.specs.Lemmas.{cong_fact, read_fact, size_fact, total_fact}
-use Rattle.sync_facts.proofs.Truths.{cong_true, read_true, size_true, total_true}
+use Rattle.sync_facts.specs.Laws.{AreTrue}
 use Rattle.sync_kernel.specs.Facts.{Fact, same_name, newest, denial, given, named, facts_size}
 use Rattle.sync_kernel.specs.Steps.{at_line, no_params, is_plain, same_fault, sum_fault}
 use Rattle.sync_kernel.specs.Taking.{Two, parts_of, cases_of, plain_fact, taken, by_params, instance}
@@ -119,7 +119,7 @@ instance_found v fs hyp terms h form e = by (newest hyp fs) refl e
         (instance_holds v f.params terms f.form (named_holds v hyp fs h f q))
 
 -- ---- the steps
-module _ (v : Valuation) where
+module _ (laws : AreTrue) (v : Valuation) where
   fits_hold : (fs known : List Fact) → FactsHold v fs → fitting fs ≡ Ok known → FactsHold v known
   fits_hold fs known h e = subst (FactsHold v) (fitting_is fs known e) h
 
@@ -187,22 +187,22 @@ module _ (v : Valuation) where
   block_refutes (Cut line form name block rest) fs h e =
       let w = went line (with_cut fs form name) (λ (c : Cases). first (block_fault c.left block) (block_fault c.right rest)) e in
       two_refute w.0 block rest (block_refutes block) (block_refutes rest) w.2 (cut_one fs form name w.0 h w.1)
-  block_refutes (Read line m k name rest) fs h e = lemma_refutes line name fs (read_fact m k) rest h (read_true v m k) (block_refutes rest) e
-  block_refutes (Size line m k name rest) fs h e = lemma_refutes line name fs (size_fact m k) rest h (size_true v m k) (block_refutes rest) e
-  block_refutes (Total line m k name rest) fs h e = lemma_refutes line name fs (total_fact m k) rest h (total_true v m k) (block_refutes rest) e
-  block_refutes (Cong line m j k name rest) fs h e = lemma_refutes line name fs (cong_fact m j k) rest h (cong_true v m j k) (block_refutes rest) e
+  block_refutes (Read line m k name rest) fs h e = lemma_refutes line name fs (read_fact m k) rest h (laws.read v m k) (block_refutes rest) e
+  block_refutes (Size line m k name rest) fs h e = lemma_refutes line name fs (size_fact m k) rest h (laws.size v m k) (block_refutes rest) e
+  block_refutes (Total line m k name rest) fs h e = lemma_refutes line name fs (total_fact m k) rest h (laws.total v m k) (block_refutes rest) e
+  block_refutes (Cong line m j k name rest) fs h e = lemma_refutes line name fs (cong_fact m j k) rest h (laws.cong v m j k) (block_refutes rest) e
 
   start_hold : (hyps : List Fact) (claim : Formula) → AllByRecursion (λ (h : Given). HoldsForAll h.params v h.form) (map given hyps) → Holds v (neg claim) → FactsHold v (hyps ++ denial claim ∷ [])
   start_hold [] claim h d = (d, tt)
   start_hold (f ∷ fs) claim h d = (h.0, start_hold fs claim h.1 d)
 
 -- a script that breaks no rule proves its sequent
-pub script_valid : (hyps : List Fact) (claim : Formula) (plan : Plan) → script_fault hyps claim plan ≡ None → IsValid (map given hyps) claim
-script_valid hyps claim plan e = λ v h. elim (cases_Bool (truth v claim)) [
+pub script_valid : AreTrue → (hyps : List Fact) (claim : Formula) (plan : Plan) → script_fault hyps claim plan ≡ None → IsValid (map given hyps) claim
+script_valid laws hyps claim plan e = λ v h. elim (cases_Bool (truth v claim)) [
   | inl t ↦ t
-  | inr f ↦ absurd (block_refutes v plan (hyps ++ denial claim ∷ []) (start_hold v hyps claim h (truth-neg v claim ∙ ap not f)) e)
+  | inr f ↦ absurd (block_refutes laws v plan (hyps ++ denial claim ∷ []) (start_hold laws v hyps claim h (truth-neg v claim ∙ ap not f)) e)
 ]
 
-pub passed_valid : (hyps : List Fact) (claim : Formula) (plan : Plan) (r : Result (Unit {0}) Stop) → Passes r (script_fault hyps claim plan) → OnOk r (IsValid (map given hyps) claim)
-passed_valid hyps claim plan (Ok x) h = script_valid hyps claim plan h
-passed_valid hyps claim plan (Err x) h = tt
+pub passed_valid : AreTrue → (hyps : List Fact) (claim : Formula) (plan : Plan) (r : Result (Unit {0}) Stop) → Passes r (script_fault hyps claim plan) → OnOk r (IsValid (map given hyps) claim)
+passed_valid laws hyps claim plan (Ok x) h = script_valid laws hyps claim plan h
+passed_valid laws hyps claim plan (Err x) h = tt

@@ -40,12 +40,12 @@ place_push n name (y ∷ ys) x =
     ∙ ap (λ (m : ℕ). if same_name x.name name then Some m else first (place_from (suc n) name ys) (if same_name y.name name then Some n else None)) (omega arith)
 
 -- the place of the newest, and the newest itself
-record IsPlace (name : HypName) (n : ℕ) (xs : List Said) (p : ℕ) : Type 0 where
-  low : n ≤ p
-  high : p < n + length xs
-  there : (d : Said) → newest_said name xs ≡ Some (get_or xs (p - n) d)
+pub record IsPlace (name : HypName) (n : ℕ) (xs : List Said) (p : ℕ) : Type 0 where
+  pub low : n ≤ p
+  pub high : p < n + length xs
+  pub there : (d : Said) → newest_said name xs ≡ Some (get_or xs (p - n) d)
 
-abbrev Places : HypName → ℕ → List Said → Option ℕ → Type 0
+abbrev pub Places : HypName → ℕ → List Said → Option ℕ → Type 0
 Places name n xs None = newest_said name xs ≡ None
 Places name n xs (Some p) = IsPlace name n xs p
 

@@ -61,18 +61,18 @@ behind_first line P a (Err r) k Goal h f = absurd h
 
 -- ---- what was made
 
-pub made_err : {s : Stored} (line : ℕ) (e : Stop) (wanted : Result Formula Rule) (fs : List Fact) (name : ℕ) → Makes s line (Err e) wanted → StopsFor line e (wanted >>= (λ (f : Formula). fitting (with_fact fs name f)))
-made_err line Memory wanted fs name h = tt
-made_err line (Refused x) (Ok f) fs name h = stops_at line (Refused x) K8 (fitting (with_fact fs name f)) (ap Refused h.0) (not_fitting fs name f h.1)
-made_err line (Refused x) (Err r) fs name h = h
+pub made_err : (s : Stored) (line : ℕ) (e : Stop) (wanted : Result Formula Rule) (fs : List Fact) (name : ℕ) → Makes s line (Err e) wanted → StopsFor line e (wanted >>= (λ (f : Formula). fitting (with_fact fs name f)))
+made_err s line Memory wanted fs name h = tt
+made_err s line (Refused x) (Ok f) fs name h = stops_at line (Refused x) K8 (fitting (with_fact fs name f)) (ap Refused h.0) (not_fitting fs name f h.1)
+made_err s line (Refused x) (Err r) fs name h = h
 
-pub made_ok : {s : Stored} (line : ℕ) (l : Literal) (wanted : Result Formula Rule) (k : Formula → Result (List Fact) Rule) (Goal : Result (List Fact) Rule → Type 0) → Makes s line (Ok l) wanted → Goal (k (literal_form s l)) → Goal (wanted >>= k)
-made_ok line l (Ok f) k Goal h g = subst (λ (x : Formula). Goal (k x)) h.0 g
-made_ok line l (Err r) k Goal h g = absurd h
+pub made_ok : (s : Stored) (line : ℕ) (l : Literal) (wanted : Result Formula Rule) (k : Formula → Result (List Fact) Rule) (Goal : Result (List Fact) Rule → Type 0) → Makes s line (Ok l) wanted → Goal (k (literal_form s l)) → Goal (wanted >>= k)
+made_ok s line l (Ok f) k Goal h g = subst (λ (x : Formula). Goal (k x)) h.0 g
+made_ok s line l (Err r) k Goal h g = absurd h
 
-pub made_literal : {s : Stored} (line : ℕ) (l : Literal) (wanted : Result Formula Rule) → Makes s line (Ok l) wanted → IsLiteral s l
-made_literal line l (Ok f) h = h.1
-made_literal line l (Err r) h = absurd h
+pub made_literal : (s : Stored) (line : ℕ) (l : Literal) (wanted : Result Formula Rule) → Makes s line (Ok l) wanted → IsLiteral s l
+made_literal s line l (Ok f) h = h.1
+made_literal s line l (Err r) h = absurd h
 
 pub large_stops : (s : Stored) (line : ℕ) (stop : TermStop) (e : Stop) (f : Formula) → e ≡ large_stop line stop → (stop ≡ TooLarge → limit < formula_size f) → Makes s line (Err e) (Ok f)
 large_stops s line term.TooLarge e f is h = subst (λ (x : Stop). Makes s line (Err x) (Ok f)) (sym is) (refl, h refl)
@@ -124,6 +124,6 @@ pub passes_err : {A : Type 0} (r : Result A Stop) (e : Stop) (fault : Option Ref
 passes_err r Memory fault is h = subst (λ (x : Result _ Stop). Passes x fault) (sym is) tt
 passes_err r (Refused f) fault is h = subst (λ (x : Result _ Stop). Passes x fault) (sym is) h
 
-pub err_refuses : {A : Type 0} (e : Stop) (fault : Option Refusal) → Passes {A = A} (Err e) fault → Refuses e fault
-err_refuses Memory fault h = tt
-err_refuses (Refused r) fault h = h
+pub err_refuses : (A : Type 0) (e : Stop) (fault : Option Refusal) → Passes {A = A} (Err e) fault → Refuses e fault
+err_refuses A Memory fault h = tt
+err_refuses A (Refused r) fault h = h

@@ -1,5 +1,5 @@
 //! The facts of a branch, by their names.
-ghost use Rattle.std.specs.Prelude.{◌≡◌, ◌≤◌, ◌+◌, ◌++◌, ◌∷◌, [], map, not, nat_lt, length, take, OnOk, OnErr, option_map};
+ghost use Rattle.std.specs.Prelude.{◌≡◌, ◌≤◌, ◌+◌, ◌-◌, ◌++◌, ◌∷◌, [], map, not, nat_lt, length, take, OnOk, OnErr, option_map};
 ghost use Rattle.sync_terms.specs.Kept.{limit};
 ghost use Rattle.sync_terms.specs.Stored.{Stored};
 
@@ -167,7 +167,8 @@ impl Branch {
         let place = self.facts.len();
         self.facts.reserve(1)?;
         let hides = self.places.insert(said.name, place)?;
-        self.facts.push(Held { said, hides, total }).unwrap();
+        let pushed: Result<(), _> = self.facts.push(Held { said, hides, total });
+        pushed.unwrap();
         Ok(())
     }
 
@@ -180,7 +181,8 @@ impl Branch {
         };
         match held.hides {
             Some(place) => {
-                self.places.insert(held.said.name, place).unwrap();
+                let put: Result<_, _> = self.places.insert(held.said.name, place);
+                put.unwrap();
             }
             None => {
                 self.places.remove(&held.said.name);
