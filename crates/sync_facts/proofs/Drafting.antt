@@ -1,106 +1,92 @@
--- What is written down stays while the store grows, and is no larger than what it is a part of.
-use Rattle.std.proofs.Common.{◌≡◌, ℕ, ◌+◌, ◌<◌, ◌≤◌, refl, sym, ap, ◌∙◌, subst, Result, Ok, Err, arith}
-use Rattle.sync_terms.specs.declared.nodes.TermId.{TermId}
-use Rattle.sync_terms.specs.declared.nodes.FormId.{FormId}
-use Rattle.sync_terms.specs.declared.store.TermStop.{TermStop}
-use Rattle.sync_terms.specs.declared.store.TermStop.TheVariants.{TooLarge, Memory}
+-- What is written down stays while the store grows, and is no smaller than its parts.
+use Rattle.std.proofs.Common.{◌≡◌, ◌≤◌, refl, ap, arith}
 use Rattle.sync_terms.specs.Trees.{Tree, Add, Sub, Get, Has, Size, Sum, Formula, Le, Lt, Eq, Not, And, Or, Imp, tree_size, formula_size}
-use Rattle.sync_terms.specs.Stored.{Stored, tree, formula, IsTerm, IsForm, Extends}
-use Rattle.sync_terms.specs.Kept.{limit}
+use Rattle.sync_terms.specs.Stored.{Stored, tree, IsTerm, Extends}
+use Rattle.sync_terms.specs.declared.nodes.TermId.{TermId}
+use Rattle.sync_facts.specs.declared.drafts.Part.{Part}
+use Rattle.sync_facts.specs.declared.drafts.Part.TheVariants as part
 use Rattle.sync_facts.specs.declared.drafts.Value.{Value}
-use Rattle.sync_facts.specs.declared.drafts.Value as value
+use Rattle.sync_facts.specs.declared.drafts.Value.TheVariants.{Only, Plus, Minus, PlusMinus}
+use Rattle.sync_facts.specs.declared.drafts.Relation.{Relation}
+use Rattle.sync_facts.specs.declared.drafts.Relation.TheVariants.{AtMost, Below, Equal}
+use Rattle.sync_facts.specs.declared.drafts.Connective.{Connective}
+use Rattle.sync_facts.specs.declared.drafts.Connective.TheVariants as connective
 use Rattle.sync_facts.specs.declared.drafts.Draft.{Draft}
 use Rattle.sync_facts.specs.declared.drafts.Draft as draft
-use Rattle.sync_facts.specs.Building.{BuildsTerm, BuildsForm}
-use Rattle.sync_facts.specs.Drafts.{value_tree, IsValue, draft_formula, IsDraft}
+use Rattle.sync_facts.specs.Drafts.{part_tree, IsPart, value_tree, IsValue, compared, joined, draft_formula, IsDraft}
 
-both : (f : Tree → Tree → Tree) (a b c d : Tree) → a ≡ c → b ≡ d → f a b ≡ f c d
-both f a b c d e g = ap (λ (x : Tree). f x b) e ∙ ap (f c) g
+both : {A B : Type 0} (F : A → A → B) {a b c d : A} → a ≡ c → b ≡ d → F a b ≡ F c d
+both F p q = λ i. F (p i) (q i)
 
-both_terms : (f : Tree → Tree → Formula) (a b c d : Tree) → a ≡ c → b ≡ d → f a b ≡ f c d
-both_terms f a b c d e g = ap (λ (x : Tree). f x b) e ∙ ap (f c) g
+module _ {s t : Stored} (more : Extends s t) where
+  pub part-stays : (a : Part) → IsPart s a → part_tree t a ≡ part_tree s a
+  part-stays (part.Stored x) h = (more.terms x h).1
+  part-stays (part.Number n) h = refl
+  part-stays (part.Get m k) h = both Get (more.terms m h.0).1 (more.terms k h.1).1
+  part-stays (part.Has m k) h = both Has (more.terms m h.0).1 (more.terms k h.1).1
+  part-stays (part.Size m) h = ap Size (more.terms m h).1
+  part-stays (part.Sum m) h = ap Sum (more.terms m h).1
 
-both_forms : (f : Formula → Formula → Formula) (a b c d : Formula) → a ≡ c → b ≡ d → f a b ≡ f c d
-both_forms f a b c d e g = ap (λ (x : Formula). f x b) e ∙ ap (f c) g
+  pub IsPart-stays : (a : Part) → IsPart s a → IsPart t a
+  IsPart-stays (part.Stored x) h = (more.terms x h).0
+  IsPart-stays (part.Number n) h = tt
+  IsPart-stays (part.Get m k) h = ((more.terms m h.0).0, (more.terms k h.1).0)
+  IsPart-stays (part.Has m k) h = ((more.terms m h.0).0, (more.terms k h.1).0)
+  IsPart-stays (part.Size m) h = (more.terms m h).0
+  IsPart-stays (part.Sum m) h = (more.terms m h).0
 
-module _ (s t : Stored) (more : Extends s t) where
-  pub value-more : (v : Value) → IsValue s v → value_tree t v ≡ value_tree s v
-  value-more (value.Stored x) h = (more.terms x h).1
-  value-more (value.Number n) h = refl
-  value-more (value.Get m k) h = both Get (tree t m) (tree t k) (tree s m) (tree s k) (more.terms m h.0).1 (more.terms k h.1).1
-  value-more (value.Has m k) h = both Has (tree t m) (tree t k) (tree s m) (tree s k) (more.terms m h.0).1 (more.terms k h.1).1
-  value-more (value.Size m) h = ap Size (more.terms m h).1
-  value-more (value.Sum m) h = ap Sum (more.terms m h).1
-  value-more (value.Plus' p a q b) h = both Add (value_tree t a) (value_tree t b) (value_tree s a) (value_tree s b) (value-more a h.0) (value-more b h.1)
-  value-more (value.Minus' p a q b) h = both Sub (value_tree t a) (value_tree t b) (value_tree s a) (value_tree s b) (value-more a h.0) (value-more b h.1)
+  pub value-stays : (a : Value) → IsValue s a → value_tree t a ≡ value_tree s a
+  value-stays (Only a) h = part-stays a h
+  value-stays (Plus a b) h = both Add (part-stays a h.0) (part-stays b h.1)
+  value-stays (Minus a b) h = both Sub (part-stays a h.0) (part-stays b h.1)
+  value-stays (PlusMinus a b c) h = both Sub (both Add (part-stays a h.0) (part-stays b h.1)) (part-stays c h.2)
 
-  pub IsValue-more : (v : Value) → IsValue s v → IsValue t v
-  IsValue-more (value.Stored x) h = (more.terms x h).0
-  IsValue-more (value.Number n) h = tt
-  IsValue-more (value.Get m k) h = ((more.terms m h.0).0, (more.terms k h.1).0)
-  IsValue-more (value.Has m k) h = ((more.terms m h.0).0, (more.terms k h.1).0)
-  IsValue-more (value.Size m) h = (more.terms m h).0
-  IsValue-more (value.Sum m) h = (more.terms m h).0
-  IsValue-more (value.Plus' p a q b) h = (IsValue-more a h.0, IsValue-more b h.1)
-  IsValue-more (value.Minus' p a q b) h = (IsValue-more a h.0, IsValue-more b h.1)
+  pub IsValue-stays : (a : Value) → IsValue s a → IsValue t a
+  IsValue-stays (Only a) h = IsPart-stays a h
+  IsValue-stays (Plus a b) h = (IsPart-stays a h.0, IsPart-stays b h.1)
+  IsValue-stays (Minus a b) h = (IsPart-stays a h.0, IsPart-stays b h.1)
+  IsValue-stays (PlusMinus a b c) h = (IsPart-stays a h.0, IsPart-stays b h.1, IsPart-stays c h.2)
 
-  pub draft-more : (d : Draft) → IsDraft s d → draft_formula t d ≡ draft_formula s d
-  draft-more (draft.AtMost a b) h = both_terms Le (value_tree t a) (value_tree t b) (value_tree s a) (value_tree s b) (value-more a h.0) (value-more b h.1)
-  draft-more (draft.Below a b) h = both_terms Lt (value_tree t a) (value_tree t b) (value_tree s a) (value_tree s b) (value-more a h.0) (value-more b h.1)
-  draft-more (draft.Equal a b) h = both_terms Eq (value_tree t a) (value_tree t b) (value_tree s a) (value_tree s b) (value-more a h.0) (value-more b h.1)
-  draft-more (draft.Not' p f) h = ap Not (draft-more f h)
-  draft-more (draft.And' p f q g) h = both_forms And (draft_formula t f) (draft_formula t g) (draft_formula s f) (draft_formula s g) (draft-more f h.0) (draft-more g h.1)
-  draft-more (draft.Or' p f q g) h = both_forms Or (draft_formula t f) (draft_formula t g) (draft_formula s f) (draft_formula s g) (draft-more f h.0) (draft-more g h.1)
-  draft-more (draft.Implies' p f q g) h = both_forms Imp (draft_formula t f) (draft_formula t g) (draft_formula s f) (draft_formula s g) (draft-more f h.0) (draft-more g h.1)
+  pub draft-stays : (d : Draft) → IsDraft s d → draft_formula t d ≡ draft_formula s d
+  draft-stays (draft.Test r a b) h = both (compared r) (value-stays a h.0) (value-stays b h.1)
+  draft-stays (draft.Not' p f) h = ap Not (draft-stays f h)
+  draft-stays (draft.Join' c p f q g) h = both (joined c) (draft-stays f h.0) (draft-stays g h.1)
 
-  pub IsDraft-more : (d : Draft) → IsDraft s d → IsDraft t d
-  IsDraft-more (draft.AtMost a b) h = (IsValue-more a h.0, IsValue-more b h.1)
-  IsDraft-more (draft.Below a b) h = (IsValue-more a h.0, IsValue-more b h.1)
-  IsDraft-more (draft.Equal a b) h = (IsValue-more a h.0, IsValue-more b h.1)
-  IsDraft-more (draft.Not' p f) h = IsDraft-more f h
-  IsDraft-more (draft.And' p f q g) h = (IsDraft-more f h.0, IsDraft-more g h.1)
-  IsDraft-more (draft.Or' p f q g) h = (IsDraft-more f h.0, IsDraft-more g h.1)
-  IsDraft-more (draft.Implies' p f q g) h = (IsDraft-more f h.0, IsDraft-more g h.1)
+  pub IsDraft-stays : (d : Draft) → IsDraft s d → IsDraft t d
+  IsDraft-stays (draft.Test r a b) h = (IsValue-stays a h.0, IsValue-stays b h.1)
+  IsDraft-stays (draft.Not' p f) h = IsDraft-stays f h
+  IsDraft-stays (draft.Join' c p f q g) h = (IsDraft-stays f h.0, IsDraft-stays g h.1)
 
--- ---- what was too large
+-- ---- the parts of a comparison, and of two formulas that make one
 
-over : (a b : ℕ) → limit < a → a ≤ b → limit < b
-over a b h l = omega (arith, h, l)
+pub left_compared : (r : Relation) (a b : Tree) → tree_size a ≤ formula_size (compared r a b)
+unfolding formula_size
+left_compared AtMost a b = omega arith
+left_compared Below a b = omega arith
+left_compared Equal a b = omega arith
 
-pub term_stops : (s t : Stored) (x y : Tree) (e : TermStop) (r : Result TermId TermStop) → BuildsTerm s x (Err e) → r ≡ Err e → tree_size x ≤ tree_size y → BuildsTerm t y r
-term_stops s t x y TooLarge r h is l = subst (BuildsTerm t y) (sym is) (over (tree_size x) (tree_size y) h l)
-term_stops s t x y Memory r h is l = subst (BuildsTerm t y) (sym is) tt
+pub right_compared : (r : Relation) (a b : Tree) → tree_size b ≤ formula_size (compared r a b)
+unfolding formula_size
+right_compared AtMost a b = omega arith
+right_compared Below a b = omega arith
+right_compared Equal a b = omega arith
 
-pub value_stops : (s t : Stored) (x : Tree) (f : Formula) (e : TermStop) (r : Result FormId TermStop) → BuildsTerm s x (Err e) → r ≡ Err e → tree_size x ≤ formula_size f → BuildsForm t f r
-value_stops s t x f TooLarge r h is l = subst (BuildsForm t f) (sym is) (over (tree_size x) (formula_size f) h l)
-value_stops s t x f Memory r h is l = subst (BuildsForm t f) (sym is) tt
+pub left_joined : (c : Connective) (f g : Formula) → formula_size f ≤ formula_size (joined c f g)
+unfolding formula_size
+left_joined connective.And f g = omega arith
+left_joined connective.Or f g = omega arith
+left_joined connective.Implies f g = omega arith
 
-pub form_stops : (s t : Stored) (f g : Formula) (e : TermStop) (r : Result FormId TermStop) → BuildsForm s f (Err e) → r ≡ Err e → formula_size f ≤ formula_size g → BuildsForm t g r
-form_stops s t f g TooLarge r h is l = subst (BuildsForm t g) (sym is) (over (formula_size f) (formula_size g) h l)
-form_stops s t f g Memory r h is l = subst (BuildsForm t g) (sym is) tt
+pub right_joined : (c : Connective) (f g : Formula) → formula_size g ≤ formula_size (joined c f g)
+unfolding formula_size
+right_joined connective.And f g = omega arith
+right_joined connective.Or f g = omega arith
+right_joined connective.Implies f g = omega arith
 
--- ---- the parts of sums
+pub within_not : (f : Formula) → formula_size f ≤ formula_size (Not f)
+unfolding formula_size
+within_not f = omega arith
 
-pub left_add : (a b : Tree) → tree_size a ≤ tree_size (Add a b)
+pub left_less : (a b : Tree) → tree_size a ≤ tree_size (Sub a b)
 unfolding tree_size
-left_add a b = omega arith
-
-pub right_add : (a b : Tree) → tree_size b ≤ tree_size (Add a b)
-unfolding tree_size
-right_add a b = omega arith
-
-pub left_sub : (a b : Tree) → tree_size a ≤ tree_size (Sub a b)
-unfolding tree_size
-left_sub a b = omega arith
-
-pub right_sub : (a b : Tree) → tree_size b ≤ tree_size (Sub a b)
-unfolding tree_size
-right_sub a b = omega arith
-
--- ---- two parts in growing stores
-
-pub two_terms : {X : Type 0} (P : X → Type 0) (f : Tree → Tree → X) (s t u : Stored) (x y : Tree) (a b : TermId) → (IsTerm t a × (tree t a ≡ x)) → Extends t u → (IsTerm u b × (tree u b ≡ y)) → P (f (tree u a) (tree u b)) → P (f x y)
-two_terms P f s t u x y a b ha e hb p = subst (λ (z : Tree). P (f z y)) ((e.terms a ha.0).1 ∙ ha.1) (subst (λ (z : Tree). P (f (tree u a) z)) hb.1 p)
-
-pub two_forms : (P : Formula → Type 0) (f : Formula → Formula → Formula) (s t u : Stored) (x y : Formula) (a b : FormId) → (IsForm t a × (formula t a ≡ x)) → Extends t u → (IsForm u b × (formula u b ≡ y)) → P (f (formula u a) (formula u b)) → P (f x y)
-two_forms P f s t u x y a b ha e hb p = subst (λ (z : Formula). P (f z y)) ((e.forms a ha.0).1 ∙ ha.1) (subst (λ (z : Formula). P (f (formula u a) z)) hb.1 p)
+left_less a b = omega arith

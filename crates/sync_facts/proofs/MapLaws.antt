@@ -1,7 +1,7 @@
 -- Laws of finite maps: what a change leaves at a key, the number of keys, and the sum of the values.
-use Rattle.std.proofs.Common.{◌≡◌, ◌≢◌, ◌⊎◌, inl, inr, ℕ, zero, suc, ◌+◌, ◌-◌, ◌≤◌, ◌<◌, ℤ, pos, ◌+ℤ◌, ◌-ℤ◌, Bool, true, false, cond, ◌&&◌, if◌then◌else◌, List, [], ◌∷◌, map, length, Option, Some, None, is_some, unwrap_or, refl, sym, ap, subst, ◌∙◌, arith}
+use Rattle.std.proofs.Common.{◌≡◌, ◌≢◌, ◌⊎◌, inl, inr, ℕ, zero, suc, ◌+◌, ◌-◌, ◌≤◌, ◌<◌, ℤ, pos, ◌+ℤ◌, ◌-ℤ◌, Bool, true, false, cond, ◌&&◌, if◌then◌else◌, List, [], ◌∷◌, map, length, Option, Some, None, is_some, unwrap_or, Ordering, Less, Equal, Greater, refl, sym, ap, subst, ◌∙◌, arith}
 use Rattle.std.specs.Prelude.{int_lt, ◌≤ℤ◌, ◌<ℤ◌, T}
-use Rattle.std.specs.Ordering.{Ordering, Less, Equal, Greater, int_cmp, int_eq, is_eq, is_lt, eq_by_cmp}
+use Rattle.std.specs.Ordering.{int_cmp, int_eq, is_eq, is_lt, eq_by_cmp}
 use Rattle.std.specs.Cmp.{int_ranked, int_cmp_total}
 use Rattle.std.specs.FinMap as finmap
 use Rattle.std.specs.FinMap.{int_cmp-IsAntisymmetric, get-insert, get-remove, get-empty, get-entries, len-insert, len-remove, len-empty, len-entries, empty_of_len, entries-insert, entries_sorted, same_map, entries}

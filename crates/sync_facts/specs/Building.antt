@@ -1,5 +1,5 @@
 -- What comes of building a term or a formula in a store that has a limit for their sizes.
-use Rattle.std.specs.Prelude.{◌≡◌, ◌<◌, Result, Ok, Err}
+use Rattle.std.specs.Prelude.{◌≡◌, ℕ, ◌<◌, ◌≤◌, Result, IfOk, OnOk, IfErr}
 use Rattle.sync_terms.specs.declared.nodes.TermId.{TermId}
 use Rattle.sync_terms.specs.declared.nodes.FormId.{FormId}
 use Rattle.sync_terms.specs.declared.nodes.Node.{Node}
@@ -12,17 +12,32 @@ use Rattle.sync_terms.specs.Kept.{limit}
 use Rattle.sync_terms.specs.Stored.{Stored, tree, formula, IsTerm, IsForm}
 use Rattle.sync_terms.specs.Trees.{Tree, Lit, Name, Add, Sub, Scale, Get, Has, Size, Sum, Nil, Put, Del, Bump, Formula, Le, Lt, Eq, Not, And, Or, Imp, tree_size, formula_size}
 
--- unless memory was wanting, the store has the term under the id; the term is too large only where it is over the limit
-abbrev pub BuildsTerm : Stored → Tree → Result TermId TermStop → Type 0
-BuildsTerm s t (Ok id) = IsTerm s id × (tree s id ≡ t)
-BuildsTerm s t (Err TooLarge) = limit < tree_size t
-BuildsTerm s t (Err Memory) = Unit {0}
+-- the store has this term under the id
+pub record HasTerm (s : Stored) (t : Tree) (id : TermId) : Type 0 where
+  pub stored : IsTerm s id
+  pub value : tree s id ≡ t
 
--- the same of a formula
-abbrev pub BuildsForm : Stored → Formula → Result FormId TermStop → Type 0
-BuildsForm s f (Ok id) = IsForm s id × (formula s id ≡ f)
-BuildsForm s f (Err TooLarge) = limit < formula_size f
-BuildsForm s f (Err Memory) = Unit {0}
+-- the store has this formula under the id
+pub record HasForm (s : Stored) (f : Formula) (id : FormId) : Type 0 where
+  pub stored : IsForm s id
+  pub value : formula s id ≡ f
+
+-- what has this many nodes is over the limit, or memory was wanting
+abbrev pub Stops : ℕ → TermStop → Type 0
+Stops size TooLarge = limit < size
+Stops size Memory = Unit {0}
+
+-- Unless memory was wanting: the term where it is within the limit, else that it is too large.
+pub record BuildsTerm (s : Stored) (t : Tree) (answer : Result TermId TermStop) : Type 0 where
+  pub value : IfOk answer (HasTerm s t)
+  pub fits : OnOk answer (tree_size t ≤ limit)
+  pub stop : IfErr answer (Stops (tree_size t))
+
+-- Unless memory was wanting: the formula where it is within the limit, else that it is too large.
+pub record BuildsForm (s : Stored) (f : Formula) (answer : Result FormId TermStop) : Type 0 where
+  pub value : IfOk answer (HasForm s f)
+  pub fits : OnOk answer (formula_size f ≤ limit)
+  pub stop : IfErr answer (Stops (formula_size f))
 
 -- the tree of a node, and its formula
 abbrev pub node_tree : Stored → Node → Tree

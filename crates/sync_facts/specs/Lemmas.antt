@@ -52,8 +52,12 @@ size_law (Del m j) = Eq (Size (Del m j)) (Sub (Size m) (Has m j))
 size_law (Bump m j n) = Eq (Size (Bump m j n)) (Sub (Add (Size m) (Has (Bump m j n) j)) (Has m j))
 size_law m = Le zero (Size m)
 
+-- a map that has the key has at least one
+abbrev pub is_present_within : (map key : Tree) → Formula
+is_present_within m k = Le (Has m k) (Size m)
+
 abbrev pub size_fact : (map key : Tree) → Formula
-size_fact m k = And (Le (Has m k) (Size m)) (size_law m)
+size_fact m k = And (is_present_within m k) (size_law m)
 
 -- the sum of a map's values, by that of the map that it was before
 abbrev pub sum_law : (map : Tree) → Formula

@@ -1,13 +1,19 @@
 //! The formulas on maps.
+ghost use Rattle.std.specs.Prelude.{◌≡◌};
 ghost use Rattle.sync_terms.specs.Stored.{Extends, IsTerm, tree};
+ghost use Rattle.sync_terms.specs.Trees.{Add, And, Get};
 ghost use Rattle.sync_facts.specs.Building.{BuildsForm};
-ghost use Rattle.sync_terms.specs.Trees.{Add, Get, And};
-ghost use Rattle.sync_facts.specs.Drafts.{draft_formula, IsDraft};
 ghost use Rattle.sync_facts.specs.Changes.{IsChange};
-ghost use Rattle.sync_facts.specs.Lemmas.{is_there, is_gone, is_raised, small_sums, cong_fact as cong_form, any_read as any_form, changed_read as changed_form, read_fact as read_form, size_fact as size_form, total_fact as total_form};
+ghost use Rattle.sync_facts.specs.Drafts.{draft_formula, IsDraft};
+ghost use Rattle.sync_facts.specs.Lemmas.{is_there, is_gone, is_raised, is_present_within, small_sums, cong_fact as cong_form, any_read as any_form, changed_read as changed_form, read_fact as read_form, size_fact as size_form, size_law as size_law_form, sum_law as sum_law_form, total_fact as total_form};
 
-use crate::drafts::{Draft, Value, formula};
+use crate::drafts::{Connective, Draft, Part, Relation, Value, formula};
 use sync_terms::{FormId, Node, TermId, TermStop, Terms};
+
+use Connective::{And, Implies, Or};
+use Part::{Get, Has, Number, Size, Stored, Sum};
+use Relation::{AtMost, Below, Equal};
+use Value::{Minus, Only, Plus, PlusMinus};
 
 /// At equal keys a map has the same.
 pub fn cong_fact(
@@ -22,11 +28,11 @@ pub fn cong_fact(
     ensures built { BuildsForm terms.new (cong_form (tree terms.old map) (tree terms.old left) (tree terms.old right)) result }
     ensures keeps { Extends terms.old terms.new }
 {
-    let same = Draft::Equal(Value::Stored(left), Value::Stored(right));
-    let values = Draft::Equal(Value::Get(map, left), Value::Get(map, right));
-    let presence = Draft::Equal(Value::Has(map, left), Value::Has(map, right));
-    let alike = Draft::And(&values, &presence);
-    formula(terms, &Draft::Implies(&same, &alike))
+    let same = Draft::Test(Equal, Only(Stored(left)), Only(Stored(right)));
+    let values = Draft::Test(Equal, Only(Get(map, left)), Only(Get(map, right)));
+    let presence = Draft::Test(Equal, Only(Has(map, left)), Only(Has(map, right)));
+    let alike = Draft::Join(And, &values, &presence);
+    formula(terms, &Draft::Join(Implies, &same, &alike))
 }
 
 /// What any map has at a key.
@@ -36,14 +42,14 @@ fn any_read(terms: &mut Terms, map: TermId, key: TermId) -> Result<FormId, TermS
     ensures built { BuildsForm terms.new (any_form (tree terms.old map) (tree terms.old key)) result }
     ensures keeps { Extends terms.old terms.new }
 {
-    let has = Value::Has(map, key);
-    let low = Draft::AtMost(Value::Number(0), has);
-    let high = Draft::AtMost(has, Value::Number(1));
-    let there = Draft::Equal(has, Value::Number(1));
-    let nothing = Draft::Equal(Value::Get(map, key), Value::Number(0));
-    let bounds = Draft::And(&low, &high);
-    let either = Draft::Or(&there, &nothing);
-    formula(terms, &Draft::And(&bounds, &either))
+    let has = Only(Has(map, key));
+    let low = Draft::Test(AtMost, Only(Number(0)), has);
+    let high = Draft::Test(AtMost, has, Only(Number(1)));
+    let there = Draft::Test(Equal, has, Only(Number(1)));
+    let nothing = Draft::Test(Equal, Only(Get(map, key)), Only(Number(0)));
+    let bounds = Draft::Join(And, &low, &high);
+    let either = Draft::Join(Or, &there, &nothing);
+    formula(terms, &Draft::Join(And, &bounds, &either))
 }
 
 /// What the empty map has at a key.
@@ -53,9 +59,9 @@ fn nil_read(terms: &mut Terms, map: TermId, key: TermId) -> Result<FormId, TermS
     ensures built { BuildsForm terms.new (is_gone (tree terms.old map) (tree terms.old key)) result }
     ensures keeps { Extends terms.old terms.new }
 {
-    let nothing = Draft::Equal(Value::Get(map, key), Value::Number(0));
-    let absent = Draft::Equal(Value::Has(map, key), Value::Number(0));
-    formula(terms, &Draft::And(&nothing, &absent))
+    let nothing = Draft::Test(Equal, Only(Get(map, key)), Only(Number(0)));
+    let absent = Draft::Test(Equal, Only(Has(map, key)), Only(Number(0)));
+    formula(terms, &Draft::Join(And, &nothing, &absent))
 }
 
 /// A change of a map at one key: the map, the key that is read, and the map and the key of the change.
@@ -74,13 +80,14 @@ fn changed_read(terms: &mut Terms, of: Change, change: &Draft<'_>) -> Result<For
     ensures built { BuildsForm terms.new (changed_form (tree terms.old of.map) (tree terms.old of.key) (tree terms.old of.inner) (tree terms.old of.at) (draft_formula terms.old change.now)) result }
     ensures keeps { Extends terms.old terms.new }
 {
-    let same = Draft::Equal(Value::Stored(of.key), Value::Stored(of.at));
-    let values = Draft::Equal(Value::Get(of.map, of.key), Value::Get(of.inner, of.key));
-    let presence = Draft::Equal(Value::Has(of.map, of.key), Value::Has(of.inner, of.key));
-    let here = Draft::And(&same, change);
-    let alike = Draft::And(&values, &presence);
-    let elsewhere = Draft::And(&Draft::Not(&same), &alike);
-    formula(terms, &Draft::Or(&here, &elsewhere))
+    let same = Draft::Test(Equal, Only(Stored(of.key)), Only(Stored(of.at)));
+    let values = Draft::Test(Equal, Only(Get(of.map, of.key)), Only(Get(of.inner, of.key)));
+    let presence = Draft::Test(Equal, Only(Has(of.map, of.key)), Only(Has(of.inner, of.key)));
+    let here = Draft::Join(And, &same, change);
+    let apart = Draft::Not(&same);
+    let alike = Draft::Join(And, &values, &presence);
+    let elsewhere = Draft::Join(And, &apart, &alike);
+    formula(terms, &Draft::Join(Or, &here, &elsewhere))
 }
 
 /// A map behind `put`, at a key.
@@ -90,9 +97,9 @@ fn put_read(terms: &mut Terms, of: Change, value: TermId) -> Result<FormId, Term
     ensures built { BuildsForm terms.new (changed_form (tree terms.old of.map) (tree terms.old of.key) (tree terms.old of.inner) (tree terms.old of.at) (is_there (tree terms.old of.map) (tree terms.old of.key) (tree terms.old value))) result }
     ensures keeps { Extends terms.old terms.new }
 {
-    let agrees = Draft::Equal(Value::Get(of.map, of.key), Value::Stored(value));
-    let there = Draft::Equal(Value::Has(of.map, of.key), Value::Number(1));
-    changed_read(terms, of, &Draft::And(&agrees, &there))
+    let agrees = Draft::Test(Equal, Only(Get(of.map, of.key)), Only(Stored(value)));
+    let there = Draft::Test(Equal, Only(Has(of.map, of.key)), Only(Number(1)));
+    changed_read(terms, of, &Draft::Join(And, &agrees, &there))
 }
 
 /// A map behind `del`, at a key.
@@ -101,9 +108,9 @@ fn del_read(terms: &mut Terms, of: Change) -> Result<FormId, TermStop>
     ensures built { BuildsForm terms.new (changed_form (tree terms.old of.map) (tree terms.old of.key) (tree terms.old of.inner) (tree terms.old of.at) (is_gone (tree terms.old of.map) (tree terms.old of.key))) result }
     ensures keeps { Extends terms.old terms.new }
 {
-    let nothing = Draft::Equal(Value::Get(of.map, of.key), Value::Number(0));
-    let absent = Draft::Equal(Value::Has(of.map, of.key), Value::Number(0));
-    changed_read(terms, of, &Draft::And(&nothing, &absent))
+    let nothing = Draft::Test(Equal, Only(Get(of.map, of.key)), Only(Number(0)));
+    let absent = Draft::Test(Equal, Only(Has(of.map, of.key)), Only(Number(0)));
+    changed_read(terms, of, &Draft::Join(And, &nothing, &absent))
 }
 
 /// A map behind `bump`, at a key.
@@ -113,17 +120,18 @@ fn bump_read(terms: &mut Terms, of: Change, count: TermId) -> Result<FormId, Ter
     ensures built { BuildsForm terms.new (changed_form (tree terms.old of.map) (tree terms.old of.key) (tree terms.old of.inner) (tree terms.old of.at) (is_raised (tree terms.old of.map) (tree terms.old of.key) (Add (Get (tree terms.old of.inner) (tree terms.old of.at)) (tree terms.old count)))) result }
     ensures keeps { Extends terms.old terms.new }
 {
-    let before = Value::Get(of.inner, of.at);
-    let raised = Value::Plus(&before, &Value::Stored(count));
-    let agrees = Draft::Equal(Value::Get(of.map, of.key), raised);
-    let there = Draft::Equal(Value::Has(of.map, of.key), Value::Number(1));
-    let nothing = Draft::Equal(Value::Get(of.map, of.key), Value::Number(0));
-    let absent = Draft::Equal(Value::Has(of.map, of.key), Value::Number(0));
-    let positive = Draft::Below(Value::Number(0), raised);
-    let stays = Draft::And(&positive, &Draft::And(&agrees, &there));
-    let not_positive = Draft::AtMost(raised, Value::Number(0));
-    let goes = Draft::And(&not_positive, &Draft::And(&nothing, &absent));
-    changed_read(terms, of, &Draft::Or(&stays, &goes))
+    let raised = Plus(Get(of.inner, of.at), Stored(count));
+    let positive = Draft::Test(Below, Only(Number(0)), raised);
+    let agrees = Draft::Test(Equal, Only(Get(of.map, of.key)), raised);
+    let there = Draft::Test(Equal, Only(Has(of.map, of.key)), Only(Number(1)));
+    let with_it = Draft::Join(And, &agrees, &there);
+    let stays = Draft::Join(And, &positive, &with_it);
+    let not_positive = Draft::Test(AtMost, raised, Only(Number(0)));
+    let nothing = Draft::Test(Equal, Only(Get(of.map, of.key)), Only(Number(0)));
+    let absent = Draft::Test(Equal, Only(Has(of.map, of.key)), Only(Number(0)));
+    let without_it = Draft::Join(And, &nothing, &absent);
+    let goes = Draft::Join(And, &not_positive, &without_it);
+    changed_read(terms, of, &Draft::Join(Or, &stays, &goes))
 }
 
 /// What a map has at a key.
@@ -176,35 +184,44 @@ pub fn read_fact(terms: &mut Terms, map: TermId, key: TermId) -> Result<FormId, 
     }
 }
 
-/// How many keys a map has, at least 1 where it has this key.
-pub fn size_fact(terms: &mut Terms, map: TermId, key: TermId) -> Result<FormId, TermStop>
+/// A law of the number of a map's keys, which is at least 1 where it has this key.
+fn size_with(
+    terms: &mut Terms,
+    map: TermId,
+    key: TermId,
+    law: &Draft<'_>,
+) -> Result<FormId, TermStop>
     requires map { IsTerm terms.old map }
     requires key { IsTerm terms.old key }
-    ensures built { BuildsForm terms.new (size_form (tree terms.old map) (tree terms.old key)) result }
+    requires law { IsDraft terms.old law.now }
+    ensures built { BuildsForm terms.new (And (is_present_within (tree terms.old map) (tree terms.old key)) (draft_formula terms.old law.now)) result }
     ensures keeps { Extends terms.old terms.new }
 {
-    let zero = Value::Number(0);
-    let size = Value::Size(map);
-    let within = Draft::AtMost(Value::Has(map, key), size);
+    let within = Draft::Test(AtMost, Only(Has(map, key)), Only(Size(map)));
+    let both = Draft::Join(And, &within, law);
+    formula(terms, &both)
+}
+
+/// How many keys a map has, by those of the map that it was before.
+fn size_law(terms: &Terms, map: TermId) -> Draft<'static>
+    requires { IsTerm terms.now map }
+    ensures law { draft_formula terms.now result ≡ size_law_form (tree terms.now map) }
+    ensures stored { IsDraft terms.now result }
+{
+    let size = Only(Size(map));
     match terms.term(map) {
-        Node::Nil => formula(terms, &Draft::And(&within, &Draft::Equal(size, zero))),
-        Node::Put(inner, at, _) => {
-            let (before, had) = (Value::Size(inner), Value::Has(inner, at));
-            let more = Value::Plus(&before, &Value::Number(1));
-            let law = Draft::Equal(size, Value::Minus(&more, &had));
-            formula(terms, &Draft::And(&within, &law))
-        }
-        Node::Del(inner, at) => {
-            let (before, had) = (Value::Size(inner), Value::Has(inner, at));
-            let law = Draft::Equal(size, Value::Minus(&before, &had));
-            formula(terms, &Draft::And(&within, &law))
-        }
-        Node::Bump(inner, at, _) => {
-            let (before, had) = (Value::Size(inner), Value::Has(inner, at));
-            let more = Value::Plus(&before, &Value::Has(map, at));
-            let law = Draft::Equal(size, Value::Minus(&more, &had));
-            formula(terms, &Draft::And(&within, &law))
-        }
+        Node::Nil => Draft::Test(Equal, size, Only(Number(0))),
+        Node::Put(inner, at, _) => Draft::Test(
+            Equal,
+            size,
+            PlusMinus(Size(inner), Number(1), Has(inner, at)),
+        ),
+        Node::Del(inner, at) => Draft::Test(Equal, size, Minus(Size(inner), Has(inner, at))),
+        Node::Bump(inner, at, _) => Draft::Test(
+            Equal,
+            size,
+            PlusMinus(Size(inner), Has(map, at), Has(inner, at)),
+        ),
         Node::Lit(_)
         | Node::Name(_)
         | Node::Add(_, _)
@@ -213,8 +230,19 @@ pub fn size_fact(terms: &mut Terms, map: TermId, key: TermId) -> Result<FormId, 
         | Node::Get(_, _)
         | Node::Has(_, _)
         | Node::Size(_)
-        | Node::Sum(_) => formula(terms, &Draft::And(&within, &Draft::AtMost(zero, size))),
+        | Node::Sum(_) => Draft::Test(AtMost, Only(Number(0)), size),
     }
+}
+
+/// How many keys a map has, at least 1 where it has this key.
+pub fn size_fact(terms: &mut Terms, map: TermId, key: TermId) -> Result<FormId, TermStop>
+    requires map { IsTerm terms.old map }
+    requires key { IsTerm terms.old key }
+    ensures built { BuildsForm terms.new (size_form (tree terms.old map) (tree terms.old key)) result }
+    ensures keeps { Extends terms.old terms.new }
+{
+    let law = size_law(terms, map);
+    size_with(terms, map, key, &law)
 }
 
 /// The sum of a map's values beside a law of it.
@@ -230,16 +258,50 @@ fn total_with(
     ensures built { BuildsForm terms.new (And (small_sums (tree terms.old map) (tree terms.old key)) (draft_formula terms.old law.now)) result }
     ensures keeps { Extends terms.old terms.new }
 {
-    let (size, sum) = (Value::Size(map), Value::Sum(map));
-    let no_key = Draft::Equal(size, Value::Number(0));
-    let no_sum = Draft::Equal(sum, Value::Number(0));
-    let empty = Draft::Implies(&no_key, &no_sum);
-    let one_key = Draft::Equal(size, Value::Number(1));
-    let this_key = Draft::Equal(Value::Has(map, key), Value::Number(1));
-    let alone = Draft::And(&one_key, &this_key);
-    let its_value = Draft::Equal(sum, Value::Get(map, key));
-    let single = Draft::Implies(&alone, &its_value);
-    formula(terms, &Draft::And(&Draft::And(&empty, &single), law))
+    let (size, sum) = (Only(Size(map)), Only(Sum(map)));
+    let no_key = Draft::Test(Equal, size, Only(Number(0)));
+    let no_sum = Draft::Test(Equal, sum, Only(Number(0)));
+    let empty = Draft::Join(Implies, &no_key, &no_sum);
+    let one_key = Draft::Test(Equal, size, Only(Number(1)));
+    let this_key = Draft::Test(Equal, Only(Has(map, key)), Only(Number(1)));
+    let alone = Draft::Join(And, &one_key, &this_key);
+    let its_value = Draft::Test(Equal, sum, Only(Get(map, key)));
+    let single = Draft::Join(Implies, &alone, &its_value);
+    let small = Draft::Join(And, &empty, &single);
+    let both = Draft::Join(And, &small, law);
+    formula(terms, &both)
+}
+
+/// The sum of a map's values, by that of the map that it was before.
+fn sum_law(terms: &Terms, map: TermId) -> Draft<'static>
+    requires { IsTerm terms.now map }
+    ensures law { draft_formula terms.now result ≡ sum_law_form (tree terms.now map) }
+    ensures stored { IsDraft terms.now result }
+{
+    let sum = Only(Sum(map));
+    match terms.term(map) {
+        Node::Nil => Draft::Test(Equal, sum, Only(Number(0))),
+        Node::Put(inner, at, value) => Draft::Test(
+            Equal,
+            sum,
+            PlusMinus(Sum(inner), Stored(value), Get(inner, at)),
+        ),
+        Node::Del(inner, at) => Draft::Test(Equal, sum, Minus(Sum(inner), Get(inner, at))),
+        Node::Bump(inner, at, _) => Draft::Test(
+            Equal,
+            sum,
+            PlusMinus(Sum(inner), Get(map, at), Get(inner, at)),
+        ),
+        Node::Lit(_)
+        | Node::Name(_)
+        | Node::Add(_, _)
+        | Node::Sub(_, _)
+        | Node::Scale(_, _)
+        | Node::Get(_, _)
+        | Node::Has(_, _)
+        | Node::Size(_)
+        | Node::Sum(_) => Draft::Test(Equal, Only(Number(0)), Only(Number(0))),
+    }
 }
 
 /// The sum of a map's values.
@@ -249,47 +311,6 @@ pub fn total_fact(terms: &mut Terms, map: TermId, key: TermId) -> Result<FormId,
     ensures built { BuildsForm terms.new (total_form (tree terms.old map) (tree terms.old key)) result }
     ensures keeps { Extends terms.old terms.new }
 {
-    let zero = Value::Number(0);
-    let sum = Value::Sum(map);
-    match terms.term(map) {
-        Node::Nil => total_with(terms, map, key, &Draft::Equal(sum, zero)),
-        Node::Put(inner, at, value) => {
-            let (before, had) = (Value::Sum(inner), Value::Get(inner, at));
-            let more = Value::Plus(&before, &Value::Stored(value));
-            total_with(
-                terms,
-                map,
-                key,
-                &Draft::Equal(sum, Value::Minus(&more, &had)),
-            )
-        }
-        Node::Del(inner, at) => {
-            let (before, had) = (Value::Sum(inner), Value::Get(inner, at));
-            total_with(
-                terms,
-                map,
-                key,
-                &Draft::Equal(sum, Value::Minus(&before, &had)),
-            )
-        }
-        Node::Bump(inner, at, _) => {
-            let (before, had) = (Value::Sum(inner), Value::Get(inner, at));
-            let more = Value::Plus(&before, &Value::Get(map, at));
-            total_with(
-                terms,
-                map,
-                key,
-                &Draft::Equal(sum, Value::Minus(&more, &had)),
-            )
-        }
-        Node::Lit(_)
-        | Node::Name(_)
-        | Node::Add(_, _)
-        | Node::Sub(_, _)
-        | Node::Scale(_, _)
-        | Node::Get(_, _)
-        | Node::Has(_, _)
-        | Node::Size(_)
-        | Node::Sum(_) => total_with(terms, map, key, &Draft::Equal(zero, zero)),
-    }
+    let law = sum_law(terms, map);
+    total_with(terms, map, key, &law)
 }

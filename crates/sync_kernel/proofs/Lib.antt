@@ -12,6 +12,9 @@ pub mod Names
 pub mod Fitting
 pub mod Stacking
 pub mod Stepping
+pub mod Adding
+pub mod Instancing
+pub mod Checking
 pub mod Parts
 pub mod LineRows
 pub mod SameSteps

@@ -16,7 +16,10 @@ use Rattle.sync_linear.specs.Lines.{Line, IsLine}
 use Rattle.sync_linear.specs.Forms.{constant_of, Narrow}
 use Rattle.sync_linear.specs.Stores.{IsLineOf}
 use Rattle.sync_kernel.specs.declared.literals.Literal.{Literal}
+use Rattle.std.proofs.lemmas.List.{length-map, get_or-map}
 use Rattle.sync_kernel.specs.declared.branches.Said.{Said}
+use Rattle.sync_kernel.specs.declared.branches.Held.{Held}
+use Rattle.sync_kernel.specs.Stacks.{saids}
 use Rattle.sync_kernel.specs.declared.rows.Shape.{Shape}
 use Rattle.sync_kernel.specs.declared.rows.Kind.{Kind}
 use Rattle.sync_kernel.specs.declared.rows.Kind.TheVariants.{AtMostZero, Zero, NotZero}
@@ -168,3 +171,15 @@ or_none false b e f = f
 
 pub none_closes : (test : Fact → Bool) (fs : List Fact) (f : Fact) → list_any test fs ≡ false → test f ≡ false → list_any test (fs ++ f ∷ []) ≡ false
 none_closes test fs f h t = any_push test fs f ∙ or_none (list_any test fs) (test f) h t
+
+-- ---- over the stack
+pub held_closes : (test : Fact → Bool) (s : Stored) (hs : List Held) (i : ℕ) (x : Held) → i < length hs → x ≡ get_or hs i x → test (said_fact s x.said) ≡ true → list_any test (facts_in s (saids hs)) ≡ true
+held_closes test s hs i x lt e t =
+    one_closes test s (saids hs) i x.said (omega (arith, length-map hs (λ (y : Held). y.said), lt))
+    (ap (λ (y : Said). test (said_fact s y)) (get_or-map (λ (y : Held). y.said) hs i x x.said lt) ∙ ap (λ (y : Held). test (said_fact s y.said)) (sym e) ∙ t)
+
+pub and_left_no : (a b : Bool) → a ≡ false → (a && b) ≡ false
+and_left_no a b e = ap (λ (x : Bool). x && b) e
+
+pub and_right_no : (a b : Bool) → b ≡ false → (a && b) ≡ false
+and_right_no a b e = ap (λ (x : Bool). a && x) e ∙ and_no a

@@ -1,8 +1,8 @@
 -- The stack of a branch: the places of the newest facts, by their names, while facts come and go.
-use Rattle.std.proofs.Common.{◌≡◌, ◌⊎◌, inl, inr, ℕ, zero, suc, ◌+◌, ◌-◌, ◌^◌, ◌<◌, ◌≤◌, min, Bool, true, false, cond, if◌then◌else◌, List, [], ◌∷◌, ◌++◌, map, length, take, get_or, Option, Some, None, refl, sym, ap, subst, ◌∙◌, arith}
-use Rattle.std.specs.Prelude.{nat_eq, option_map}
-use Rattle.std.proofs.lemmas.Bool.{cases_lt, cond-true, cond-false, eqb-true, both_ways}
-use Rattle.std.proofs.lemmas.List.{map_push, length-map, length_push, get_or_append_left, get_or_push, take-append-le, take_all, get_or-map, take-map, append-nil}
+use Rattle.std.proofs.Common.{◌≡◌, ◌⊎◌, inl, inr, ℕ, zero, suc, ◌+◌, ◌-◌, ◌^◌, ◌<◌, ◌≤◌, min, Bool, true, false, cond, if◌then◌else◌, List, [], ◌∷◌, ◌++◌, map, length, take, get_or, Option, Some, None, Result, Ok, Err, refl, sym, ap, subst, ◌∙◌, arith}
+use Rattle.std.specs.Prelude.{nat_eq, option_map, OnOk, OnErr, IsOk, is_ok}
+use Rattle.std.proofs.lemmas.Bool.{cases_lt, cond-true, cond-false, eqb-true, eq-eqb, both_ways}
+use Rattle.std.proofs.lemmas.List.{map_push, length-map, length_push, get_or_append_left, get_or_push, take-append-le, take_all, get_or-map, take-map, take_more, append-nil}
 use Rattle.sync_base.specs.Outcome.{first}
 use Rattle.sync_terms.specs.declared.nodes.Sym.{Sym}
 use Rattle.sync_terms.specs.declared.scripts.HypName.{HypName}
@@ -11,7 +11,7 @@ use Rattle.sync_terms.specs.Stored.{Stored}
 use Rattle.sync_kernel.specs.declared.branches.Said.{Said}
 use Rattle.sync_kernel.specs.declared.branches.Held.{Held}
 use Rattle.sync_kernel.specs.Facts.{Fact, same_name, newest}
-use Rattle.sync_kernel.specs.Branches.{said_fact, facts_in, newest_said, place_from, said_size, capped}
+use Rattle.sync_kernel.specs.Branches.{said_fact, facts_in, IsSaid, AreSaid, newest_said, place_from, said_size, capped}
 use Rattle.sync_kernel.specs.Holding.{equal_names}
 use Rattle.sync_kernel.specs.Stacks.{saids, IsStack}
 use Rattle.sync_kernel.proofs.Names.{names_equal}
@@ -198,3 +198,44 @@ last_total hs h k =
 
 pub stack_empty : IsStack []
 stack_empty = stack_from [] (λ i d lt. absurd (omega (arith, lt)))
+
+-- ---- what the code knows of a stack
+
+name_same : (a : HypName) → same_name a a ≡ true
+name_same (Label m) = eq-eqb m m refl
+name_same Denied = refl
+name_same (At m) = eq-eqb m m refl
+name_same (Low m) = eq-eqb m m refl
+name_same (High m) = eq-eqb m m refl
+
+some_not_none : (n : ℕ) → ◌≡◌ {A = Option ℕ} (Some n) None → ⊥
+some_not_none n e = cc
+
+-- the name of the last fact has a place
+pub last_place : (xs : List Said) (x : Said) → place_from 0 x.name (xs ++ x ∷ []) ≡ None → ⊥
+last_place xs x e =
+    some_not_none (0 + length xs) (sym (cond-true (same_name x.name x.name) (Some (0 + length xs)) (place_from 0 x.name xs) (name_same x.name)) ∙ sym (place_push 0 x.name xs x) ∙ e)
+
+pub is_ok_from : {A E : Type 0} (r : Result A E) (P : Type 0) → OnErr r P → (P → ⊥) → IsOk r
+is_ok_from (Ok x) P h f = tt
+is_ok_from (Err e) P h f = absurd (f h)
+
+pub on_ok : {A E : Type 0} (r : Result A E) (a : A) (P : Type 0) → r ≡ Ok a → OnOk r P → P
+on_ok (Ok x) a P e h = h
+on_ok (Err x) a P e h = absurd (cc)
+
+pub after_push : {E : Type 0} (r : Result (Unit {0}) E) (u : Unit {0}) (new old was : List Held) (h : Held) → r ≡ Ok u → new ≡ (if is_ok r then old ++ h ∷ [] else old) → old ≡ was → new ≡ was ++ h ∷ []
+after_push (Ok x) u new old was h e f g = f ∙ ap (λ (hs : List Held). hs ++ h ∷ []) g
+after_push (Err x) u new old was h e f g = absurd (cc)
+
+-- the fact at a place
+pub said_at : (s : Stored) (hs : List Held) (i : ℕ) (d : Held) → AreSaid s (saids hs) → i < length hs → IsSaid s (get_or hs i d).said
+said_at s [] i d h lt = absurd (omega (arith, lt))
+said_at s (x ∷ xs) zero d h lt = h.0
+said_at s (x ∷ xs) (suc i) d h lt = said_at s xs i d h.1 (omega (arith, lt))
+
+-- one fact more of a list
+pub said_more : (s : Stored) (hs : List Held) (i : ℕ) (x : Held) → i < length hs → x ≡ get_or hs i x → facts_in s (saids (take (i + 1) hs)) ≡ facts_in s (saids (take i hs)) ++ said_fact s x.said ∷ []
+said_more s hs i x lt e =
+    ap (λ (ys : List Held). facts_in s (saids ys)) (take_more hs i x lt) ∙ ap (facts_in s) (saids_push (take i hs) (get_or hs i x)) ∙ map_push (said_fact s) (saids (take i hs)) (get_or hs i x).said
+    ∙ ap (λ (y : Held). facts_in s (saids (take i hs)) ++ said_fact s y.said ∷ []) (sym e)

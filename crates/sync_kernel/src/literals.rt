@@ -1,6 +1,6 @@
 //! Formulas of a store and their negations.
 ghost use Rattle.std.specs.Prelude.{◌≡◌, ◌≤◌, false};
-ghost use Rattle.sync_terms.specs.Stored.{IsForm, formula};
+ghost use Rattle.sync_terms.specs.Stored.{IsForm, IsShared, formula};
 ghost use Rattle.sync_terms.specs.Trees.{neg, formula_size};
 
 use sync_terms::{FormId, FormNode, Terms};
@@ -51,11 +51,13 @@ impl Literal {
         ensures form { literal_form terms.now result ≡ literal_form terms.now self }
         ensures stored { IsLiteral terms.now result }
         ensures bare { IsBare terms.now result }
+        ensures shared { IsShared terms.now }
     {
+        let node = terms.form(self.form);
         if self.negated {
             return self;
         }
-        match terms.form(self.form) {
+        match node {
             FormNode::Not(inner) => Literal {
                 form: inner,
                 negated: true,

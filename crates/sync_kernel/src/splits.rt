@@ -92,7 +92,10 @@ fn cases_of_not(terms: &mut Terms, node: FormNode) -> Result<Option<Pair>, TermS
             left: Literal::denial(terms, a),
             right: Literal::denial(terms, b),
         })),
-        FormNode::Eq(t, u) => orders(terms, t, u).map(Some),
+        FormNode::Eq(t, u) => match orders(terms, t, u) {
+            Ok(pair) => Ok(Some(pair)),
+            Err(stop) => Err(stop),
+        },
         FormNode::Le(_, _)
         | FormNode::Lt(_, _)
         | FormNode::Not(_)

@@ -60,12 +60,23 @@ fn add(
     Ok(())
 }
 
-/// A formula that was built, or why not.
-fn built(form: Result<FormId, TermStop>, line: u32) -> Result<Literal, Stop>
-    ensures { (s : Stored) (f : Formula) → BuildsForm s f form → Makes s line result (Ok f) }
+/// Adds a formula that was built; K8 where it, or the facts of the branch with it, are too large.
+fn add_built(
+    alloc: Global,
+    terms: &Terms,
+    branch: &mut Branch,
+    form: Result<FormId, TermStop>,
+    name: u32,
+    line: u32,
+) -> Result<(), Stop>
+    requires branch { AreSaid terms.now branch.old }
+    requires form { IfOk form (IsForm terms.now) }
+    ensures leaves { (f : Formula) → BuildsForm terms.now f form → Leaves line result (λ _ known. facts_in terms.now branch.new ≡ known) (fitting (with_fact (facts_in terms.now branch.old) name f)) }
+    ensures said { OnOk result (AreSaid terms.now branch.new) }
+    ensures begins { OnOk result (Begins branch.old branch.new) }
 {
     match form {
-        Ok(form) => Ok(Literal::plain(form)),
+        Ok(form) => add(alloc, terms, branch, name, Literal::plain(form), line),
         Err(stop) => Err(too_large(stop, line)),
     }
 }
@@ -75,11 +86,8 @@ fn paired(alloc: Global, params: &[Sym], list: &[TermId]) -> Result<Vec<(Sym, Te
     requires { length params.now ≡ length list.now }
     ensures { IfOk result (λ v. v.items ≡ zip params.now list.now) }
 {
-    let mut pairs = Vec::new(alloc);
-    for (param, term) in params.iter().zip(list) {
-        pairs.push((*param, *term))?;
-    }
-    Ok(pairs)
+    let terms = list.iter().copied();
+    params.iter().copied().zip(terms).collect(alloc)
 }
 
 /// The newest fact of a name, with terms for its parameters: K1 where there is none, K3 where it has another number of
@@ -236,8 +244,8 @@ pub(crate) fn read(
     ensures begins { OnOk result (Begins branch.old branch.new) }
     ensures keeps { Extends terms.old terms.new }
 {
-    let says = built(read_fact(terms, map, key), line)?;
-    add(alloc, terms, branch, name, says, line)
+    let form = read_fact(terms, map, key);
+    add_built(alloc, terms, branch, form, name, line)
 }
 
 /// `size`: adds how many keys a map has.
@@ -258,8 +266,8 @@ pub(crate) fn size(
     ensures begins { OnOk result (Begins branch.old branch.new) }
     ensures keeps { Extends terms.old terms.new }
 {
-    let says = built(size_fact(terms, map, key), line)?;
-    add(alloc, terms, branch, name, says, line)
+    let form = size_fact(terms, map, key);
+    add_built(alloc, terms, branch, form, name, line)
 }
 
 /// `total`: adds the sum of a map's values.
@@ -280,8 +288,8 @@ pub(crate) fn total(
     ensures begins { OnOk result (Begins branch.old branch.new) }
     ensures keeps { Extends terms.old terms.new }
 {
-    let says = built(total_fact(terms, map, key), line)?;
-    add(alloc, terms, branch, name, says, line)
+    let form = total_fact(terms, map, key);
+    add_built(alloc, terms, branch, form, name, line)
 }
 
 /// `cong`: adds that a map has the same at equal keys.
@@ -304,6 +312,6 @@ pub(crate) fn cong(
     ensures begins { OnOk result (Begins branch.old branch.new) }
     ensures keeps { Extends terms.old terms.new }
 {
-    let says = built(cong_fact(terms, map, left, right), line)?;
-    add(alloc, terms, branch, name, says, line)
+    let form = cong_fact(terms, map, left, right);
+    add_built(alloc, terms, branch, form, name, line)
 }
