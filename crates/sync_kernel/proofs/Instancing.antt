@@ -6,6 +6,7 @@ use Rattle.std.specs.List.{All, zip}
 use Rattle.std.proofs.lemmas.Bool.{eq-eqb, ne_eqb, cond-true, cond-false}
 use Rattle.std.proofs.lemmas.List.{length-map}
 use Rattle.std.proofs.lemmas.Slice.Zip.{length-zip, get_or-zip}
+use Rattle.sync_base.specs.Outcome.{first}
 use Rattle.sync_base.specs.declared.stops.Rule.{Rule}
 use Rattle.sync_base.specs.declared.stops.Rule.TheVariants.{K1, K3, K8}
 use Rattle.sync_base.specs.declared.stops.Stop.{Stop}
@@ -23,9 +24,9 @@ use Rattle.sync_terms.specs.Stored.{Stored, tree, formula, IsTerm, IsForm}
 use Rattle.sync_terms.specs.Substitution.{term_of, substitution}
 use Rattle.sync_kernel.specs.declared.literals.Literal.{Literal}
 use Rattle.sync_kernel.specs.declared.branches.Said.{Said}
-use Rattle.sync_kernel.specs.Facts.{Fact, newest}
+use Rattle.sync_kernel.specs.Facts.{Fact, same_name, newest}
 use Rattle.sync_kernel.specs.Literals.{literal_form, IsLiteral}
-use Rattle.sync_kernel.specs.Branches.{said_fact, facts_in, newest_said}
+use Rattle.sync_kernel.specs.Branches.{said_fact, facts_in, IsSaid, AreSaid, newest_said}
 use Rattle.sync_kernel.specs.Taking.{by_params, instance}
 use Rattle.sync_kernel.specs.Holding.{Makes, large_stop}
 use Rattle.sync_kernel.proofs.Stacking.{newest_in}
@@ -101,3 +102,18 @@ module _ (s t : Stored) (line : ℕ) (x : Said) (ids : List TermId) (wanted : Re
       subst (Makes t line (Err e)) (sym is)
       (large_stops t line stop e (instance_form s x ids) at
       (λ q. size_by s (by_params (numbers x.params) (map (tree s) ids)) x.says.form x.says.negated (subst (λ (f : ℕ → Tree). limit < formula_size (replaced_in f (formula s x.says.form))) (pairs_are s x.params ids) (h q))))
+
+-- ---- the newest fact of a name is stored
+
+newest_or : (s : Stored) (b : Bool) (x y : Said) (o : Option Said) → IsSaid s x → (o ≡ Some y → IsSaid s y) → first o (if b then Some x else None) ≡ Some y → IsSaid s y
+newest_or s b x y (Some z) h k e = k e
+newest_or s true x y None h k e = subst (IsSaid s) (let p : x ≡ y = cc in p) h
+newest_or s false x y None h k e = absurd (cc)
+
+pub found_said : (s : Stored) (name : HypName) (xs : List Said) (y : Said) → AreSaid s xs → newest_said name xs ≡ Some y → IsSaid s y
+found_said s name [] y h e = absurd (cc)
+found_said s name (x ∷ xs) y h e = newest_or s (same_name x.name name) x y (newest_said name xs) h.0 (found_said s name xs y h.1) e
+
+pub makes_rule : (s : Stored) (line : ℕ) (e : Stop) (rule : Rule) (wanted : Result Formula Rule) → e ≡ Refused (record { line = line; rule = rule }) → wanted ≡ Err rule → Makes s line (Err e) wanted
+makes_rule s line e rule wanted is w =
+    subst (λ (x : Stop). Makes s line (Err x) wanted) (sym is) (subst (Makes s line (Err (Refused (record { line = line; rule = rule })))) (sym w) refl)

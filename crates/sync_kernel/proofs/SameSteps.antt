@@ -1,5 +1,5 @@
 -- `same`, one fact after the other: what the code answers against what is defined.
-use Rattle.std.proofs.Common.{rules, ◌≡◌, ◌≢◌, ℕ, zero, suc, ◌+◌, ◌<◌, ◌≤◌, length, get_or, take, map, ℤ, pos, Bool, true, false, ◌&&◌, ◌||◌, if◌then◌else◌, List, [], ◌∷◌, ◌++◌, Option, Some, None, refl, sym, ap, subst, ◌∙◌, arith}
+use Rattle.std.proofs.Common.{rules, ◌≡◌, ◌≢◌, ℕ, zero, suc, ◌+◌, ◌<◌, ◌≤◌, length, get_or, take, map, ℤ, pos, Bool, true, false, cond, ◌&&◌, ◌||◌, if◌then◌else◌, List, [], ◌∷◌, ◌++◌, Option, Some, None, refl, sym, ap, subst, ◌∙◌, arith}
 use Rattle.std.specs.Prelude.{nat_eq, not, int_lt, ◌<ℤ◌, option_map}
 use Rattle.std.specs.Bool.{beq}
 use Rattle.std.specs.Ordering.{int_eq}
@@ -183,3 +183,9 @@ and_left_no a b e = ap (λ (x : Bool). x && b) e
 
 pub and_right_no : (a b : Bool) → b ≡ false → (a && b) ≡ false
 and_right_no a b e = ap (λ (x : Bool). a && x) e ∙ and_no a
+
+pub cond_or : (a b : Bool) → cond a true b ≡ (b || a)
+cond_or true true = refl
+cond_or true false = refl
+cond_or false true = refl
+cond_or false false = refl

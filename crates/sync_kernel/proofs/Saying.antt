@@ -1,12 +1,12 @@
 -- What formulas of a store say, by their nodes.
-use Rattle.std.proofs.Common.{◌≡◌, ◌⊎◌, inl, inr, Bool, true, false, if◌then◌else◌, Option, Some, None, Result, Ok, Err, refl, sym, ap, subst, ◌∙◌}
+use Rattle.std.proofs.Common.{◌≡◌, ◌⊎◌, inl, inr, Bool, true, false, if◌then◌else◌, Option, Some, None, Result, Ok, Err, refl, sym, ap, subst, ◌∙◌, arith}
 use Rattle.std.proofs.lemmas.Bool.{cond-true, cond-false}
 use Rattle.sync_terms.specs.declared.nodes.TermId.{TermId}
 use Rattle.sync_terms.specs.declared.nodes.FormId.{FormId}
 use Rattle.sync_terms.specs.declared.nodes.FormNode.{FormNode}
 use Rattle.sync_terms.specs.declared.nodes.FormNode.TheVariants as form
 use Rattle.sync_terms.specs.Trees.{Tree, Formula, Lt, Not, neg, formula_size}
-use Rattle.sync_terms.specs.Stored.{Stored, tree, formula, form_shape}
+use Rattle.sync_terms.specs.Stored.{Stored, tree, formula, form_shape, IsTerm, IsForm, Extends}
 use Rattle.sync_kernel.specs.declared.literals.Literal.{Literal}
 use Rattle.sync_kernel.specs.Literals.{literal_form, is_negation, pair_forms, IsPair, TakesApart}
 use Rattle.sync_kernel.specs.Taking.{Two, parts_of, parts_of_not, cases_of, cases_of_not}
@@ -158,3 +158,30 @@ module _ (s t : Stored) (a b : TermId) (n : FormNode) (e : n ≡ form.Eq a b) wh
   unfolding form_shape tree
   orders_stop TooLarge f = subst (λ (x : FormNode). TakesApart t (Err TooLarge) (cases_of_not (form_shape s x))) (sym e) (f refl)
   orders_stop Memory f = subst (λ (x : FormNode). TakesApart t (Err Memory) (cases_of_not (form_shape s x))) (sym e) tt
+
+-- one order of two terms, and the other
+swapped_size : (x y : Tree) → limit < formula_size (Lt x y) → limit < formula_size (Lt y x)
+unfolding formula_size
+swapped_size x y h = omega (arith, h)
+
+lt_shape : (s : Stored) (a b : TermId) → form_shape s (form.Lt a b) ≡ Lt (tree s a) (tree s b)
+unfolding form_shape tree
+lt_shape s a b = refl
+
+module _ (s t : Stored) (a b : TermId) (more : Extends s t) (p : IsTerm s a) (q : IsTerm s b) where
+  lt_more : form_shape t (form.Lt b a) ≡ Lt (tree s b) (tree s a)
+  lt_more = lt_shape t b a ∙ ap (λ (x : Tree). Lt x (tree t a)) (more.terms b q).1 ∙ ap (Lt (tree s b)) (more.terms a p).1
+
+  pub orders_above : limit < formula_size (form_shape t (form.Lt b a)) → limit < formula_size (Lt (tree s a) (tree s b))
+  orders_above h = swapped_size (tree s b) (tree s a) (subst (λ (f : Formula). limit < formula_size f) lt_more h)
+
+  pub orders_forms : (u : Stored) (below above : FormId) (l r : Literal) → Extends t u → IsForm t below → formula t below ≡ form_shape s (form.Lt a b) → formula u above ≡ form_shape t (form.Lt b a)
+      → l ≡ record { form = below; negated = false } → r ≡ record { form = above; negated = false }
+      → pair_forms u (record { left = l; right = r }) ≡ record { left = Lt (tree s a) (tree s b); right = Lt (tree s b) (tree s a) }
+  orders_forms u below above l r grows stored e f g h =
+      let one = plain_says u l below g ∙ (grows.forms below stored).1 ∙ e ∙ lt_shape s a b in
+      let two = plain_says u r above h ∙ f ∙ lt_more in
+      ap (λ (x : Formula). record { left = x; right = literal_form u r }) one ∙ ap (λ (x : Formula). record { left = Lt (tree s a) (tree s b); right = x }) two
+
+pub orders_below : (s : Stored) (a b : TermId) → limit < formula_size (form_shape s (form.Lt a b)) → limit < formula_size (Lt (tree s a) (tree s b))
+orders_below s a b h = subst (λ (f : Formula). limit < formula_size f) (lt_shape s a b) h

@@ -9,7 +9,7 @@ use Rattle.sync_terms.specs.declared.scripts.HypName.{HypName}
 use Rattle.sync_terms.specs.declared.scripts.Part.{Part}
 use Rattle.sync_terms.specs.declared.scripts.ScriptStep.{ScriptStep, fold-ScriptStep, fold_out-ScriptStep}
 use Rattle.sync_terms.specs.declared.scripts.Block.{Block, fold-Block, fold_out-Block}
-use Rattle.sync_terms.specs.declared.scripts.StepKind.{StepKind, fold-StepKind, map-StepKind, fold_out-StepKind}
+use Rattle.sync_terms.specs.declared.scripts.StepKind.{StepKind, roll-StepKind, fold-StepKind, map-StepKind, fold_out-StepKind, fold-roll-StepKind}
 use Rattle.sync_terms.specs.declared.scripts.StepKind.TheViews.{out-ScriptStep, out-StepKind, out-Block}
 use Rattle.sync_terms.specs.declared.scripts.StepKind.TheOpen.{StepKind-F}
 use Rattle.sync_terms.specs.Trees.{Tree, Nil, Formula, Eq}
@@ -38,9 +38,15 @@ then_reads s x rest =
     ap (λ (f : Then). f rest) (fold_out-ScriptStep (ℕ → Then) Plan Then (kind_plan s) block_plan step_plan x)
     ∙ ap (λ (f : ℕ → Then). f (line_of x) rest) (fold_out-StepKind (ℕ → Then) Plan Then (kind_plan s) block_plan step_plan (out-ScriptStep x).what)
 
+abbrev pub what_of : ScriptStep → StepKind
+what_of x = (out-ScriptStep x).what
+
 -- a step of a known kind
-pub then_is : (s : Stored) (x : ScriptStep) (k : Kind) → kind_of x ≡ k → (rest : Plan) → then_of s x rest ≡ kind_plan s (read_in s k) (line_of x) rest
-then_is s x k e rest = then_reads s x rest ∙ ap (λ (j : Kind). kind_plan s (read_in s j) (line_of x) rest) e
+pub then_is : (s : Stored) (x : ScriptStep) (k : Kind) → what_of x ≡ roll-StepKind k → (rest : Plan) → then_of s x rest ≡ kind_plan s (read_in s k) (line_of x) rest
+then_is s x k e rest =
+    ap (λ (f : Then). f rest) (fold_out-ScriptStep (ℕ → Then) Plan Then (kind_plan s) block_plan step_plan x)
+    ∙ ap (λ (w : StepKind). fold-StepKind (ℕ → Then) Plan Then (kind_plan s) block_plan step_plan w (line_of x) rest) e
+    ∙ ap (λ (f : ℕ → Then). f (line_of x) rest) (fold-roll-StepKind (ℕ → Then) Plan Then (kind_plan s) block_plan step_plan k)
 
 -- a block is its steps and its end
 pub plan_is : (s : Stored) (b : Block) → plan_of s b ≡ steps_before (map (then_of s) (out-Block b).steps) (End (out-Block b).end_line)
@@ -158,7 +164,7 @@ abbrev second_in : Plan → Plan
 second_in (Split line hyp name one two rest) = two
 second_in _ = End 0
 
-module _ (s : Stored) (x : ScriptStep) (h : IsStepOf s x) (k : Kind) (is : kind_of x ≡ k) where
+module _ (s : Stored) (x : ScriptStep) (h : IsStepOf s x) (k : Kind) (is : what_of x ≡ roll-StepKind k) where
   same_plan : (t : Stored) → Extends s t → kind_plan t (read_in t k) (line_of x) (End 0) ≡ kind_plan s (read_in s k) (line_of x) (End 0)
   same_plan t e = sym (then_is t x k is (End 0)) ∙ h t e (End 0) ∙ then_is s x k is (End 0)
 
@@ -166,28 +172,28 @@ module _ (s : Stored) (x : ScriptStep) (h : IsStepOf s x) (k : Kind) (is : kind_
   stays_in f t e = ap f (same_plan t e)
 
 module _ (s : Stored) (x : ScriptStep) (h : IsStepOf s x) where
-  pub inst_ids : (hyp : HypName) (ids : List TermId) (name : ℕ) → kind_of x ≡ StepKind-F.Inst hyp ids name → All (IsTerm s) ids
+  pub inst_ids : (hyp : HypName) (ids : List TermId) (name : ℕ) → what_of x ≡ roll-StepKind (StepKind-F.Inst hyp ids name) → All (IsTerm s) ids
   inst_ids hyp ids name is = stay_terms s ids (λ t e. stays_in s x h (StepKind-F.Inst hyp ids name) is terms_in t e)
 
-  pub cut_id : (id : FormId) (name : ℕ) (b : Block) → kind_of x ≡ StepKind-F.Cut id name b → IsForm s id
+  pub cut_id : (id : FormId) (name : ℕ) (b : Block) → what_of x ≡ roll-StepKind (StepKind-F.Cut id name b) → IsForm s id
   cut_id id name b is = stays_form s id (λ t e. stays_in s x h (StepKind-F.Cut id name b) is form_in t e)
 
-  pub cut_script : (id : FormId) (name : ℕ) (b : Block) → kind_of x ≡ StepKind-F.Cut id name b → IsScriptOf s b
+  pub cut_script : (id : FormId) (name : ℕ) (b : Block) → what_of x ≡ roll-StepKind (StepKind-F.Cut id name b) → IsScriptOf s b
   cut_script id name b is = λ t e. stays_in s x h (StepKind-F.Cut id name b) is first_in t e
 
-  pub split_scripts : (hyp : HypName) (name : ℕ) (b c : Block) → kind_of x ≡ StepKind-F.Split hyp name b c → IsScriptOf s b × IsScriptOf s c
+  pub split_scripts : (hyp : HypName) (name : ℕ) (b c : Block) → what_of x ≡ roll-StepKind (StepKind-F.Split hyp name b c) → IsScriptOf s b × IsScriptOf s c
   split_scripts hyp name b c is = (λ t e. stays_in s x h (StepKind-F.Split hyp name b c) is first_in t e, λ t e. stays_in s x h (StepKind-F.Split hyp name b c) is second_in t e)
 
-  pub read_ids : (m k : TermId) (name : ℕ) → kind_of x ≡ StepKind-F.Read m k name → IsTerm s m × IsTerm s k
+  pub read_ids : (m k : TermId) (name : ℕ) → what_of x ≡ roll-StepKind (StepKind-F.Read m k name) → IsTerm s m × IsTerm s k
   read_ids m k name is = (stays_term s m (λ t e. stays_in s x h (StepKind-F.Read m k name) is map_in t e), stays_term s k (λ t e. stays_in s x h (StepKind-F.Read m k name) is key_in t e))
 
-  pub size_ids : (m k : TermId) (name : ℕ) → kind_of x ≡ StepKind-F.Size m k name → IsTerm s m × IsTerm s k
+  pub size_ids : (m k : TermId) (name : ℕ) → what_of x ≡ roll-StepKind (StepKind-F.Size m k name) → IsTerm s m × IsTerm s k
   size_ids m k name is = (stays_term s m (λ t e. stays_in s x h (StepKind-F.Size m k name) is map_in t e), stays_term s k (λ t e. stays_in s x h (StepKind-F.Size m k name) is key_in t e))
 
-  pub total_ids : (m k : TermId) (name : ℕ) → kind_of x ≡ StepKind-F.Total m k name → IsTerm s m × IsTerm s k
+  pub total_ids : (m k : TermId) (name : ℕ) → what_of x ≡ roll-StepKind (StepKind-F.Total m k name) → IsTerm s m × IsTerm s k
   total_ids m k name is = (stays_term s m (λ t e. stays_in s x h (StepKind-F.Total m k name) is map_in t e), stays_term s k (λ t e. stays_in s x h (StepKind-F.Total m k name) is key_in t e))
 
-  pub cong_ids : (m j k : TermId) (name : ℕ) → kind_of x ≡ StepKind-F.Cong m j k name → IsTerm s m × IsTerm s j × IsTerm s k
+  pub cong_ids : (m j k : TermId) (name : ℕ) → what_of x ≡ roll-StepKind (StepKind-F.Cong m j k name) → IsTerm s m × IsTerm s j × IsTerm s k
   cong_ids m j k name is = (
     stays_term s m (λ t e. stays_in s x h (StepKind-F.Cong m j k name) is map_in t e),
     stays_term s j (λ t e. stays_in s x h (StepKind-F.Cong m j k name) is left_in t e),

@@ -1,5 +1,5 @@
 -- The stack of a branch: the places of the newest facts, by their names, while facts come and go.
-use Rattle.std.proofs.Common.{◌≡◌, ◌⊎◌, inl, inr, ℕ, zero, suc, ◌+◌, ◌-◌, ◌^◌, ◌<◌, ◌≤◌, min, Bool, true, false, cond, if◌then◌else◌, List, [], ◌∷◌, ◌++◌, map, length, take, get_or, Option, Some, None, Result, Ok, Err, refl, sym, ap, subst, ◌∙◌, arith}
+use Rattle.std.proofs.Common.{rules, ◌≡◌, ◌⊎◌, inl, inr, ℕ, zero, suc, ◌+◌, ◌-◌, ◌^◌, ◌<◌, ◌≤◌, min, Bool, true, false, cond, if◌then◌else◌, List, [], ◌∷◌, ◌++◌, map, length, take, get_or, Option, Some, None, Result, Ok, Err, refl, sym, ap, subst, ◌∙◌, arith}
 use Rattle.std.specs.Prelude.{nat_eq, option_map, OnOk, OnErr, IsOk, is_ok}
 use Rattle.std.proofs.lemmas.Bool.{cases_lt, cond-true, cond-false, eqb-true, eq-eqb, both_ways}
 use Rattle.std.proofs.lemmas.List.{map_push, length-map, length_push, get_or_append_left, get_or_push, take-append-le, take_all, get_or-map, take-map, take_more, append-nil}
@@ -217,7 +217,7 @@ last_place xs x e =
     some_not_none (0 + length xs) (sym (cond-true (same_name x.name x.name) (Some (0 + length xs)) (place_from 0 x.name xs) (name_same x.name)) ∙ sym (place_push 0 x.name xs x) ∙ e)
 
 pub is_ok_from : {A E : Type 0} (r : Result A E) (P : Type 0) → OnErr r P → (P → ⊥) → IsOk r
-is_ok_from (Ok x) P h f = tt
+is_ok_from (Ok x) P h f = search rules
 is_ok_from (Err e) P h f = absurd (f h)
 
 pub on_ok : {A E : Type 0} (r : Result A E) (a : A) (P : Type 0) → r ≡ Ok a → OnOk r P → P

@@ -7,14 +7,14 @@ use Rattle.sync_base.specs.declared.stops.Stop.TheVariants.{Refused}
 use Rattle.sync_kernel.specs.declared.branches.Held.{Held}
 use Rattle.sync_kernel.specs.declared.branches.Said.{Said}
 use Rattle.sync_kernel.specs.Facts.{Fact}
-use Rattle.sync_kernel.specs.Branches.{facts_in, said_fact}
-use Rattle.sync_kernel.specs.Literals.{literal_form}
+use Rattle.sync_kernel.specs.Branches.{facts_in, said_fact, AreSaid}
+use Rattle.sync_kernel.specs.Literals.{IsLiteral}
 use Rattle.sync_kernel.specs.Opposed.{closes_same, is_closing}
 use Rattle.sync_kernel.specs.Stacks.{saids}
 use Rattle.sync_kernel.specs.Steps.{at_line, same_fault, is_plain}
 use Rattle.sync_kernel.proofs.Names.{plain_is}
 use Rattle.sync_kernel.proofs.SameSteps.{fault_none, fault_some, held_closes, none_closes, and_left_no, and_right_no}
-use Rattle.sync_kernel.proofs.Stacking.{said_more}
+use Rattle.sync_kernel.proofs.Stacking.{said_at, said_more}
 use Rattle.sync_kernel.proofs.Stepping.{passes_err}
 use Rattle.sync_kernel.proofs.sames.same.Goals as goal
 use Rattle.sync_kernel.proofs.sames.same.Goals.{else-is_empty-via-then-is_empty+in_ok-is_closing+else-branch, else-is_empty-via-else-is_empty}
@@ -56,3 +56,8 @@ returns c =
     (fault_some c.args.line fs
     (ap (λ (ys : List Said). list_any (closes_same fs) (facts_in s ys)) (sym c.held-facts.ensures)
     ∙ ap (λ (ys : List Held). list_any (closes_same fs) (facts_in s (saids ys))) (sym (take_all c.loop-held.held-index hs c.loop-held-test.false)) ∙ c.loop-held.invariant))
+
+pub is_closing-requires-clause-says : goal.is_closing-requires-clause-says
+is_closing-requires-clause-says c =
+    subst (λ (h : Held). IsLiteral c.args.terms.now h.said.says) (sym c.held-item.is)
+    (said_at c.args.terms.now c.held-facts.result.now c.loop-held.held-index c.held-item.result (subst (AreSaid c.args.terms.now) (sym c.held-facts.ensures) c.requires) c.loop-held-test.true).0

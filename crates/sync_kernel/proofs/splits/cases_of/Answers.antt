@@ -1,7 +1,7 @@
 use Rattle.std.proofs.Common.{Option, sym, ap, subst, ◌∙◌}
 use Rattle.sync_terms.specs.Stored.{formula}
 use Rattle.sync_terms.proofs.Extending.{Extends-refl}
-use Rattle.sync_kernel.specs.Literals.{literal_form, TakesApart}
+use Rattle.sync_kernel.specs.Literals.{literal_form, IsLiteral, TakesApart}
 use Rattle.sync_kernel.specs.Taking.{Two, cases_of, cases_of_not}
 use Rattle.sync_kernel.proofs.Saying.{or_cases_of, imp_cases_of, not_cases, no_cases, taken_some, taken_none, plain_says, says_plain}
 use Rattle.sync_kernel.proofs.splits.cases_of.Goals as goal
@@ -12,7 +12,8 @@ returns-in-Or-clause-cases c =
     taken_some s (record { left = c.plain.result; right = c.plain-in-Or.result }) (cases_of (literal_form s c.args.says))
     (or_cases_of s c.form-node.result c.in-Or.a c.in-Or.b c.plain.result c.plain-in-Or.result (formula s c.args.says.form) c.form-node.ensures.value c.in-Or.is
     (plain_says s c.plain.result c.in-Or.a c.plain.ensures) (plain_says s c.plain-in-Or.result c.in-Or.b c.plain-in-Or.ensures)
-    ∙ ap cases_of (sym (says_plain s c.args.says c.if-says.false))) ?
+    ∙ ap cases_of (sym (says_plain s c.args.says c.if-says.false)))
+    (subst (IsLiteral s) (sym c.plain.ensures) c.in-Or.ensures.children.0, subst (IsLiteral s) (sym c.plain-in-Or.ensures) c.in-Or.ensures.children.1)
 
 pub returns-in-Imp-clause-cases : goal.returns-in-Imp-clause-cases
 returns-in-Imp-clause-cases c =
@@ -20,7 +21,8 @@ returns-in-Imp-clause-cases c =
     taken_some s (record { left = c.denial.result; right = c.plain-in-Imp.result }) (cases_of (literal_form s c.args.says))
     (imp_cases_of s c.form-node.result c.in-Imp.a c.in-Imp.b c.denial.result c.plain-in-Imp.result (formula s c.args.says.form) c.form-node.ensures.value c.in-Imp.is
     c.denial.ensures.form (plain_says s c.plain-in-Imp.result c.in-Imp.b c.plain-in-Imp.ensures)
-    ∙ ap cases_of (sym (says_plain s c.args.says c.if-says.false))) ?
+    ∙ ap cases_of (sym (says_plain s c.args.says c.if-says.false)))
+    (c.denial.ensures.stored, subst (IsLiteral s) (sym c.plain-in-Imp.ensures) c.in-Imp.ensures.children.1)
 
 pub returns-in-Not-clause-cases : goal.returns-in-Not-clause-cases
 returns-in-Not-clause-cases c =

@@ -21,9 +21,9 @@ returns-in-Err c =
     let r = row_shaped c.args.terms.now c.in-Some-shape_known.shape in
     λ sum o i h.
     let k = subst (λ (x : Option Known). IsKnown c.args.terms.now x o) c.in-Some.is h in
-    as_part c.args.terms.now c.args.line (Err c.stopped.result) (with_part o sum c.args.part.now) (with_row (Some r) sum c.args.part.now)
+    as_part c.args.terms.now c.args.line (Err c.too_wide.result) (with_part o sum c.args.part.now) (with_row (Some r) sum c.args.part.now)
     (part_is c.args.terms.now c.in-Some.known o c.shape_known.result c.in-Some-shape_known.shape sum c.args.part.now k c.shape_known.ensures.row c.in-Some-shape_known.is)
-    (line_stops c.args.terms.now c.args.line r sum c.args.part.now c.in-Err.stop c.stopped.result c.stopped.ensures (λ e. c.in-Err.ensures.width (ap Err e)) (sym c.turned.ensures ∙ c.if-turned.false))
+    (line_stops c.args.terms.now c.args.line r sum c.args.part.now c.in-Err.stop c.too_wide.result c.too_wide.ensures (λ e. c.in-Err.ensures.width (ap Err e)) (sym c.turned.ensures ∙ c.if-turned.false))
 
 pub returns-in-Ok-changed : goal.returns-in-Ok-changed
 returns-in-Ok-changed c =
@@ -47,8 +47,8 @@ returns c =
     let same = to_z-of_z w128 c.args.part.now.times f in
     λ sum o i h.
     let k = subst (λ (x : Option Known). IsKnown c.args.terms.now x o) c.in-Some.is h in
-    as_part c.args.terms.now c.args.line (Err c.stopped-in-Err-changed.result) (with_part o sum c.args.part.now) (with_row (Some r) sum c.args.part.now)
+    as_part c.args.terms.now c.args.line (Err c.too_wide-in-Err-changed.result) (with_part o sum c.args.part.now) (with_row (Some r) sum c.args.part.now)
     (part_is c.args.terms.now c.in-Some.known o c.shape_known.result c.in-Some-shape_known.shape sum c.args.part.now k c.shape_known.ensures.row c.in-Some-shape_known.is)
-    (sum_stops c.args.terms.now c.args.line r sum c.args.part.now c.in-Err-changed.stop c.stopped-in-Err-changed.result c.args.total c.in-Ok.row i c.in-Ok.ensures.line c.stopped-in-Err-changed.ensures
+    (sum_stops c.args.terms.now c.args.line r sum c.args.part.now c.in-Err-changed.stop c.too_wide-in-Err-changed.result c.args.total c.in-Ok.row i c.in-Ok.ensures.line c.too_wide-in-Err-changed.ensures
     (λ e l. c.in-Err-changed.ensures.width (ap Err e) (subst (λ (z : ℤ). LineFits (change.Times z) c.args.total c.in-Ok.row) (sym same) l))
     (sym c.turned.ensures ∙ c.if-turned.false))

@@ -5,11 +5,12 @@ use Rattle.sync_kernel.proofs.literals.Literal.bare.Goals as goal
 
 pub returns-in-Not-clause-form : goal.returns-in-Not-clause-form
 returns-in-Not-clause-form c =
-    inner_not c.args.terms.now (formula c.args.terms.now c.args.self.form) c.form.result c.in-Not.inner c.form.ensures.value c.in-Not.is ∙ sym (says_plain c.args.terms.now c.args.self c.if-self.false)
+    inner_not c.args.terms.now (formula c.args.terms.now c.args.self.form) c.form-node.result c.in-Not.inner c.form-node.ensures.value c.in-Not.is ∙ sym (says_plain c.args.terms.now c.args.self c.if-self.false)
 
 pub returns-in-Le : goal.returns-in-Le
 returns-in-Le c = record {
   form = refl;
   stored = c.requires;
-  bare = λ _. (other_plain c.args.terms.now (formula c.args.terms.now c.args.self.form) c.form.result c.form.ensures.value c.in-Le.is).bare;
+  shared = c.form-node.ensures.shared;
+  bare = λ _. (other_plain c.args.terms.now (formula c.args.terms.now c.args.self.form) c.form-node.result c.form-node.ensures.value c.in-Le.is).bare;
 }
