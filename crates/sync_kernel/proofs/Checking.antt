@@ -1,6 +1,8 @@
 -- Blocks, step by step: what the code answers against what is defined.
-use Rattle.std.proofs.Common.{◌≡◌, ℕ, ◌+◌, ◌<◌, ◌≤◌, List, [], ◌∷◌, ◌++◌, map, length, take, drop, get_or, Option, Some, None, Result, Ok, Err, refl, sym, ap, subst, ◌∙◌, arith}
-use Rattle.std.proofs.lemmas.List.{length_push, take-append-le, take_all, take-take}
+use denote.Enum.Bare.{sameb}
+use Rattle.std.proofs.lemmas.Bool.{both_ways}
+use Rattle.std.proofs.Common.{rules, ◌≡◌, Bool, true, false, ℕ, ◌+◌, ◌<◌, ◌≤◌, List, [], ◌∷◌, ◌++◌, map, length, take, drop, get_or, Option, Some, None, Result, Ok, Err, refl, sym, ap, subst, ◌∙◌, arith}
+use Rattle.std.proofs.lemmas.List.{length_push, take-append-le, take_all, take-take, drop_more}
 use Rattle.sync_base.specs.Outcome.{first, Passes}
 use Rattle.sync_base.specs.declared.stops.Refusal.{Refusal}
 use Rattle.sync_base.specs.declared.stops.Rule.{Rule}
@@ -21,6 +23,7 @@ use Rattle.sync_terms.proofs.Extending.{Extends-refl, Extends-trans}
 use Rattle.sync_kernel.specs.declared.literals.Literal.{Literal}
 use Rattle.sync_kernel.specs.declared.splits.Pair.{Pair}
 use Rattle.sync_kernel.specs.declared.branches.Said.{Said}
+use Rattle.sync_kernel.specs.contracts.steps.Left.{the_type}
 use Rattle.sync_kernel.specs.declared.steps.Left.{Left}
 use Rattle.sync_kernel.specs.declared.steps.Left.TheVariants.{Open, Closed}
 use Rattle.sync_kernel.specs.Facts.{Fact, named}
@@ -214,4 +217,17 @@ pub fact_goes : (s t : Stored) (xs ys : List Said) (x : ScriptStep) (k : Kind) (
     → block_fault (facts_in s xs) (kind_plan s (read_in s k) (line_of x) rest) ≡ going (line_of x) wanted (λ (known : List Fact). block_fault known rest)
     → Leaves {A = Unit {0}} (line_of x) (Ok tt) (λ _ known. facts_in t ys ≡ known) wanted → block_fault (facts_in s xs) (then_of s x rest) ≡ block_fault (facts_in t ys) rest
 fact_goes s t xs ys x k rest wanted is f h =
-    ap (block_fault (facts_in s xs)) (then_is s x k is rest) ∙ f ∙ goes_on (line_of x) tt (facts_in t ys) wanted (λ (known : List Fact). block_fault known rest) h
+    ap (block_fault (facts_in s xs)) (then_is s x k is rest) ∙ f ∙ goes_on {A = Unit {0}} (line_of x) tt (facts_in t ys) wanted (λ (known : List Fact). block_fault known rest) h
+
+-- a branch that was not closed is open
+pub left_open : (l : Left) (b : Bool) → b ≡ sameb the_type l Closed → b ≡ false → l ≡ Open
+left_open Open b e f = refl
+left_open Closed b e f = absurd (both_ways b f (e ∙ search rules))
+
+pub drop_item : (xs ys : List ScriptStep) (i : ℕ) (x : ScriptStep) → xs ≡ ys → x ≡ get_or xs i x → i < length xs → drop i ys ≡ x ∷ drop (i + 1) ys
+drop_item xs ys i x e is lt =
+    subst (λ (zs : List ScriptStep). drop i zs ≡ x ∷ drop (i + 1) zs) e (drop_more xs i x lt ∙ ap (λ (y : ScriptStep). y ∷ drop (i + 1) xs) (sym is))
+
+pub item_of : (s : Stored) (b : Block) (xs : List ScriptStep) (i : ℕ) (x : ScriptStep) → IsScriptOf s b → xs ≡ (out-Block b).steps → x ≡ get_or xs i x → i < length xs → IsStepOf s x
+item_of s b xs i x of e is lt =
+    subst (IsStepOf s) (sym (is ∙ ap (λ (ys : List ScriptStep). get_or ys i x) e)) (step_of_script s b of i x (subst (λ (ys : List ScriptStep). i < length ys) e lt))
