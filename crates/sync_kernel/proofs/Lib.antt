@@ -19,3 +19,4 @@ pub mod Parts
 pub mod LineRows
 pub mod SameSteps
 pub mod Stays
+pub mod Making

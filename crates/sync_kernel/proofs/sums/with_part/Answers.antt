@@ -1,16 +1,13 @@
-use Rattle.std.proofs.Common.{rules, ◌≡◌, ◌∙◌, ℤ, Ok, Err, sym, ap, subst}
+use Rattle.std.proofs.Common.{rules, ◌∙◌, ℤ, Ok, Err, sym, ap, subst}
 use Rattle.std.specs.Prelude.{FitsSigned}
 use Rattle.std.specs.Int.{w128}
 use Rattle.std.proofs.lemmas.Int.{to_z-of_z}
 use mir.Val.{to_z, of_z}
 use Rattle.sync_linear.specs.declared.changes.Change.TheVariants as change
 use Rattle.sync_linear.specs.Lines.{IsChanged, LineFits}
-use Rattle.sync_terms.specs.Stored.{Stored}
 use Rattle.sync_kernel.specs.declared.branches.Known.{Known}
-use Rattle.sync_kernel.specs.Facts.{Fact}
-use Rattle.sync_kernel.specs.Rows.{Row}
-use Rattle.std.proofs.Common.{Option, Some, false, Bool}
-use Rattle.sync_kernel.specs.Steps.{with_part, with_row, is_turned}
+use Rattle.std.proofs.Common.{Option, Some}
+use Rattle.sync_kernel.specs.Steps.{with_part, with_row}
 use Rattle.sync_kernel.specs.Shapes.{row_shaped}
 use Rattle.sync_kernel.specs.Holding.{IsKnown}
 use Rattle.sync_kernel.proofs.Parts.{part_is, line_stops, sum_stops, sum_goes, as_part}
