@@ -1,10 +1,9 @@
 -- The steps that add facts, one by one: what the code answers against what is defined.
-use Rattle.std.proofs.Common.{◌≡◌, ℕ, ◌+◌, ◌<◌, Bool, true, false, ◌&&◌, ◌||◌, if◌then◌else◌, List, [], ◌∷◌, ◌++◌, map, length, take, Option, Some, None, Result, Ok, Err, refl, sym, ap, subst, ◌∙◌, arith}
+use Rattle.std.proofs.Common.{◌≡◌, ℕ, ◌+◌, Bool, true, false, if◌then◌else◌, List, [], ◌∷◌, ◌++◌, map, Option, Some, None, Result, Ok, Err, refl, sym, ap, subst, ◌∙◌}
 use Rattle.std.specs.Prelude.{not, nat_lt, option_map, IfOk}
-use Rattle.std.proofs.lemmas.Bool.{cond-true, cond-false, cases_Bool}
+use Rattle.std.proofs.lemmas.Bool.{cond-true, cond-false}
 use Rattle.std.proofs.lemmas.List.{map_push}
-use Rattle.sync_base.specs.Outcome.{first, Passes, ◌>>=◌}
-use Rattle.sync_base.specs.declared.stops.Rule.{Rule}
+use Rattle.sync_base.specs.Outcome.{◌>>=◌}
 use Rattle.sync_base.specs.declared.stops.Rule.TheVariants.{K1, K2, K8}
 use Rattle.sync_base.specs.declared.stops.Stop.{Stop}
 use Rattle.sync_base.specs.declared.stops.Stop.TheVariants.{Refused, Memory}
@@ -24,14 +23,14 @@ use Rattle.sync_kernel.specs.declared.splits.Pair.{Pair}
 use Rattle.sync_kernel.specs.declared.branches.Said.{Said}
 use Rattle.sync_kernel.specs.declared.branches.Known.{Known}
 use Rattle.sync_kernel.specs.declared.sequents.Hyp.{Hyp}
-use Rattle.sync_kernel.specs.Facts.{Fact, fact_of, denied, denial, given, named, facts_size}
+use Rattle.sync_kernel.specs.Facts.{Fact, fact_of, denied, given, named, facts_size}
 use Rattle.sync_kernel.specs.Steps.{is_plain}
-use Rattle.sync_kernel.specs.Literals.{literal_form, IsLiteral, pair_forms, IsPair, TakesApart}
+use Rattle.sync_kernel.specs.Literals.{literal_form, IsLiteral, pair_forms, TakesApart}
 use Rattle.sync_kernel.specs.Branches.{said_fact, facts_in, IsSaid, AreSaid, said_size, Begins}
-use Rattle.sync_kernel.specs.Taking.{Two, parts_of, cases_of, plain_fact, taken}
+use Rattle.sync_kernel.specs.Taking.{Two, parts_of, plain_fact, taken}
 use Rattle.sync_kernel.specs.Scripts.{with_fact, fitting, Cases, cases_with, both_fitting}
 use Rattle.sync_kernel.specs.Holding.{IsKnown, StopsFor, Leaves, large_stop}
-use Rattle.sync_kernel.proofs.Fitting.{facts-push, facts-more, fits_with, fitting_if, not_fitting, still_not_fitting, both_not_fitting, both_if, AreSaid-push, Begins-refl, Begins-push}
+use Rattle.sync_kernel.proofs.Fitting.{facts-push, facts-more, fits_with, fitting_if, not_fitting, still_not_fitting, both_not_fitting, AreSaid-push, Begins-refl, Begins-push}
 use Rattle.sync_kernel.proofs.Stepping.{leaves_ok, stops_at, stops_memory}
 
 -- ---- one fact more

@@ -1,14 +1,13 @@
 -- Blocks, step by step: what the code answers against what is defined.
 use denote.Enum.Bare.{sameb}
 use Rattle.std.proofs.lemmas.Bool.{both_ways}
-use Rattle.std.proofs.Common.{rules, ◌≡◌, Bool, true, false, ℕ, ◌+◌, ◌<◌, ◌≤◌, List, [], ◌∷◌, ◌++◌, map, length, take, drop, get_or, Option, Some, None, Result, Ok, Err, refl, sym, ap, subst, ◌∙◌, arith}
+use Rattle.std.proofs.Common.{rules, ◌≡◌, Bool, false, ℕ, ◌+◌, ◌<◌, ◌≤◌, List, [], ◌∷◌, ◌++◌, map, length, take, drop, get_or, Option, Some, None, Result, Ok, Err, refl, sym, ap, subst, ◌∙◌, arith}
 use Rattle.std.proofs.lemmas.List.{length_push, take-append-le, take_all, take-take, drop_more}
-use Rattle.sync_base.specs.Outcome.{first, Passes}
+use Rattle.sync_base.specs.Outcome.{first}
 use Rattle.sync_base.specs.declared.stops.Refusal.{Refusal}
 use Rattle.sync_base.specs.declared.stops.Rule.{Rule}
 use Rattle.sync_base.specs.declared.stops.Rule.TheVariants.{K9}
 use Rattle.sync_base.specs.declared.stops.Stop.{Stop}
-use Rattle.sync_base.specs.declared.stops.Stop.TheVariants.{Refused, Memory}
 use Rattle.sync_terms.specs.declared.nodes.FormId.{FormId}
 use Rattle.sync_terms.specs.declared.scripts.HypName.{HypName}
 use Rattle.sync_terms.specs.declared.scripts.StepKind.{roll-StepKind}
@@ -32,7 +31,7 @@ use Rattle.sync_kernel.specs.Literals.{literal_form, IsLiteral, pair_forms}
 use Rattle.sync_kernel.specs.Scripts.{then_of, IsStepOf, with_fact, Cases, cases_with, with_cases, with_cut, after, going, block_fault}
 use Rattle.sync_kernel.specs.Holding.{Refuses, StopsFor, Leaves, StepPasses}
 use Rattle.sync_kernel.proofs.Fitting.{facts-more, facts-push, literal-more, Begins-refl}
-use Rattle.sync_kernel.proofs.Scripting.{Kind, read_in, line_of, what_of, then_is, plan_is, after_step, step_of_script, step-more}
+use Rattle.sync_kernel.proofs.Scripting.{Kind, read_in, line_of, what_of, then_is, plan_is, after_step, step_of_script}
 use Rattle.sync_kernel.proofs.Stepping.{refuses, refuses_first, goes_on, goes_to}
 
 -- ---- where a branch begins

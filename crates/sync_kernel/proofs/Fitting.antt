@@ -1,16 +1,13 @@
 -- The nodes of the facts of a branch, as the code counts them.
-use Rattle.std.proofs.Common.{◌≡◌, ℕ, zero, suc, ◌+◌, ◌^◌, ◌-◌, ◌<◌, ◌≤◌, min, Bool, true, false, ◌||◌, ◌&&◌, if◌then◌else◌, List, [], ◌∷◌, ◌++◌, map, length, take, Option, Some, None, Result, Ok, Err, refl, sym, ap, subst, ◌∙◌, arith}
-use Rattle.std.specs.Prelude.{not, nat_lt, nat_le}
-use Rattle.std.specs.List.{AllByRecursion}
-use Rattle.std.proofs.lemmas.Bool.{cond-true, cond-false, lt-ltb, ltb-true, cases_Bool, both_ways, or_left, or_right}
-use Rattle.std.proofs.lemmas.List.{map_push, append_assoc, take-append-le, take_all, length_push, take-map}
-use Rattle.sync_base.specs.declared.stops.Rule.{Rule}
+use Rattle.std.proofs.Common.{◌≡◌, ℕ, zero, suc, ◌+◌, ◌<◌, Bool, true, false, ◌||◌, ◌&&◌, if◌then◌else◌, List, [], ◌∷◌, ◌++◌, map, length, take, Ok, Err, refl, sym, ap, ◌∙◌, arith}
+use Rattle.std.specs.Prelude.{not, nat_lt}
+use Rattle.std.proofs.lemmas.Bool.{cond-true, cond-false, lt-ltb, ltb-true, or_left}
+use Rattle.std.proofs.lemmas.List.{map_push, take-append-le, take_all, length_push}
 use Rattle.sync_base.specs.declared.stops.Rule.TheVariants.{K8}
 use Rattle.sync_terms.specs.declared.nodes.Sym.{Sym}
-use Rattle.sync_terms.specs.declared.nodes.FormId.{FormId}
 use Rattle.sync_terms.specs.Kept.{limit}
 use Rattle.sync_terms.specs.Trees.{Formula, Not, formula_size}
-use Rattle.sync_terms.specs.Stored.{Stored, formula, IsForm, Extends}
+use Rattle.sync_terms.specs.Stored.{Stored, formula, Extends}
 use Rattle.sync_kernel.specs.declared.literals.Literal.{Literal}
 use Rattle.sync_kernel.specs.declared.splits.Pair.{Pair}
 use Rattle.sync_kernel.specs.declared.branches.Said.{Said}
@@ -18,7 +15,7 @@ use Rattle.sync_kernel.specs.Facts.{Fact, named, facts_size}
 use Rattle.sync_kernel.specs.Literals.{literal_form, IsLiteral, pair_forms, IsPair}
 use Rattle.sync_kernel.specs.Branches.{said_fact, facts_in, IsSaid, AreSaid, said_size, Begins}
 use Rattle.sync_kernel.specs.Taking.{Two}
-use Rattle.sync_kernel.specs.Scripts.{with_fact, fitting, Cases, cases_with, both_fitting}
+use Rattle.sync_kernel.specs.Scripts.{with_fact, fitting, cases_with, both_fitting}
 
 -- ---- while the store grows
 

@@ -1,5 +1,5 @@
 -- An id whose tree stays the same whatever the store gains is an id of the store.
-use Rattle.std.proofs.Common.{◌≡◌, ◌⊎◌, inl, inr, ℕ, zero, suc, ◌+◌, ◌-◌, ◌<◌, ◌≤◌, pos, Bool, true, false, List, [], ◌∷◌, ◌++◌, length, map, get_or, fold, replicate, refl, sym, ap, subst, ◌∙◌, arith}
+use Rattle.std.proofs.Common.{◌≡◌, inl, inr, ℕ, zero, suc, ◌+◌, ◌-◌, ◌<◌, ◌≤◌, pos, List, [], ◌∷◌, ◌++◌, length, map, get_or, fold, replicate, refl, sym, ap, ◌∙◌, arith}
 use Rattle.std.specs.Prelude.{nat_lt, if◌then◌else◌}
 use Rattle.std.specs.List.{All}
 use Rattle.std.proofs.lemmas.List.{append-nil, append_assoc, length-append, length-map, length-replicate, get_or_append_left, get_or-append_right, get_or-replicate, get_or_past, get_or_at, get_or-map}
@@ -12,7 +12,7 @@ use Rattle.sync_terms.specs.declared.nodes.Node.TheVariants as node
 use Rattle.sync_terms.specs.declared.nodes.FormNode.{FormNode}
 use Rattle.sync_terms.specs.declared.nodes.FormNode.TheVariants as form
 use Rattle.sync_terms.specs.Trees.{Tree, Lit, Nil, Formula, Le, Lt, Eq}
-use Rattle.sync_terms.specs.Stored.{Stored, tree_at, grown, next_tree, trees, tree, formula_at, grown_form, next_formula, formulas, formula, IsTerm, IsForm, Extends}
+use Rattle.sync_terms.specs.Stored.{Stored, tree_at, next_tree, trees, tree, grown_form, next_formula, formulas, formula, IsTerm, IsForm, Extends}
 use Rattle.sync_terms.proofs.Growth.{length-trees, length-formulas}
 
 abbrev lit : Node

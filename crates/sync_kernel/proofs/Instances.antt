@@ -1,11 +1,10 @@
 -- Where a fact holds whatever its parameters stand for, it holds with terms for them.
-use Rattle.std.proofs.Common.{◌≡◌, ℕ, ℤ, Bool, true, false, ◌||◌, if◌then◌else◌, List, [], ◌∷◌, length, refl, sym, ap, subst, ◌∙◌}
+use Rattle.std.proofs.Common.{◌≡◌, ℕ, Bool, true, false, List, [], ◌∷◌, refl, sym, ap, subst, ◌∙◌}
 use Rattle.std.specs.Prelude.{nat_eq}
 use Rattle.std.specs.List.{list_any}
 use Rattle.std.proofs.lemmas.Bool.{or_parts, or_from, cond-true, cond-false, eqb-true, ne_eqb, eq-eqb, both_ways}
 use Rattle.sync_terms.specs.Trees.{Tree, Name, Formula, replaced_in}
-use Rattle.sync_terms.specs.Values.{Valuation, num, mapped, truth, Holds, with_value, with_terms, HoldsForAll}
-use Rattle.sync_terms.specs.Maps as maps
+use Rattle.sync_terms.specs.Values.{Valuation, num, mapped, Holds, with_value, with_terms, HoldsForAll}
 use Rattle.sync_terms.proofs.Meaning.{truth-replaced_in}
 use Rattle.sync_kernel.specs.Taking.{by_params}
 

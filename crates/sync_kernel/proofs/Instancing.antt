@@ -1,5 +1,5 @@
 -- `inst`: what the code makes of the newest fact of a name.
-use Rattle.std.proofs.Common.{◌≡◌, ℕ, ◌+◌, ◌<◌, Bool, true, false, if◌then◌else◌, List, [], ◌∷◌, map, length, get_or, Option, Some, None, Result, Ok, Err, refl, sym, ap, subst, ◌∙◌, arith}
+use Rattle.std.proofs.Common.{◌≡◌, ℕ, ◌<◌, Bool, true, false, if◌then◌else◌, List, [], ◌∷◌, map, length, Option, Some, None, Result, Ok, Err, refl, sym, ap, subst, ◌∙◌, arith}
 use Rattle.std.specs.Prelude.{nat_eq, option_map}
 use Rattle.std.specs.Option.{option_map_or}
 use Rattle.std.specs.List.{All, zip}
@@ -8,10 +8,9 @@ use Rattle.std.proofs.lemmas.List.{length-map}
 use Rattle.std.proofs.lemmas.Slice.Zip.{length-zip, get_or-zip}
 use Rattle.sync_base.specs.Outcome.{first}
 use Rattle.sync_base.specs.declared.stops.Rule.{Rule}
-use Rattle.sync_base.specs.declared.stops.Rule.TheVariants.{K1, K3, K8}
+use Rattle.sync_base.specs.declared.stops.Rule.TheVariants.{K1, K3}
 use Rattle.sync_base.specs.declared.stops.Stop.{Stop}
-use Rattle.sync_base.specs.declared.stops.Stop.TheVariants.{Refused, Memory}
-use Rattle.sync_base.specs.declared.stops.Refusal.{Refusal}
+use Rattle.sync_base.specs.declared.stops.Stop.TheVariants.{Refused}
 use Rattle.sync_terms.specs.declared.nodes.Sym.{Sym}
 use Rattle.sync_terms.specs.declared.nodes.TermId.{TermId}
 use Rattle.sync_terms.specs.declared.nodes.FormId.{FormId}
@@ -22,10 +21,9 @@ use Rattle.sync_terms.specs.Kept.{limit}
 use Rattle.sync_terms.specs.Trees.{Tree, Name, Formula, Not, formula_size, replaced_in}
 use Rattle.sync_terms.specs.Stored.{Stored, tree, formula, IsTerm, IsForm}
 use Rattle.sync_terms.specs.Substitution.{term_of, substitution}
-use Rattle.sync_kernel.specs.declared.literals.Literal.{Literal}
 use Rattle.sync_kernel.specs.declared.branches.Said.{Said}
 use Rattle.sync_kernel.specs.Facts.{Fact, same_name, newest}
-use Rattle.sync_kernel.specs.Literals.{literal_form, IsLiteral}
+use Rattle.sync_kernel.specs.Literals.{literal_form}
 use Rattle.sync_kernel.specs.Branches.{said_fact, facts_in, IsSaid, AreSaid, newest_said}
 use Rattle.sync_kernel.specs.Taking.{by_params, instance}
 use Rattle.sync_kernel.specs.Holding.{Makes, large_stop}

@@ -15,7 +15,9 @@ pub mod Stepping
 pub mod Adding
 pub mod Instancing
 pub mod Checking
+pub mod Keeping
 pub mod Parts
 pub mod LineRows
 pub mod SameSteps
 pub mod Stays
+pub mod Making

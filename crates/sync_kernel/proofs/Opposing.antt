@@ -1,9 +1,8 @@
 -- `same`: facts that are each other's negation, found by the ids of formulas.
-use Rattle.std.proofs.Common.{rules, ◌≡◌, ◌≢◌, ◌⊎◌, inl, inr, ℕ, ◌<◌, length, Bool, true, false, cond, ◌&&◌, ◌||◌, if◌then◌else◌, List, [], ◌∷◌, ◌++◌, map, Option, Some, None, Result, Ok, Err, refl, sym, ap, subst, ◌∙◌}
-use Rattle.std.specs.Prelude.{nat_eq, not}
-use Rattle.std.specs.List.{AllByRecursion, list_any}
-use Rattle.std.proofs.lemmas.Bool.{and_parts, and_from, or_cases, or_left, or_right, cases_Bool, cond-true, cond-false, both_ways, eqb-true, eq-eqb, false_from_ne_true}
-use Rattle.sync_base.specs.declared.stops.Rule.{Rule}
+use Rattle.std.proofs.Common.{◌≡◌, ◌⊎◌, inl, inr, ℕ, Bool, true, false, ◌&&◌, ◌||◌, if◌then◌else◌, List, [], ◌∷◌, ◌++◌, Some, None, refl, sym, ap, subst, ◌∙◌}
+use Rattle.std.specs.Prelude.{nat_eq}
+use Rattle.std.specs.List.{list_any}
+use Rattle.std.proofs.lemmas.Bool.{and_parts, and_from, or_cases, or_left, or_right, eqb-true, eq-eqb}
 use Rattle.sync_base.specs.declared.stops.Rule.TheVariants.{K4}
 use Rattle.sync_terms.specs.declared.nodes.FormId.{FormId}
 use Rattle.sync_terms.specs.Trees.{Tree, Formula, Le, Lt, Eq, Not, And, Or, Imp, neg}
@@ -13,8 +12,8 @@ use Rattle.sync_linear.specs.Forms.{tree_eq}
 use Rattle.sync_linear.proofs.Trees.{same_tree, tree_is}
 use Rattle.sync_kernel.specs.Facts.{Fact}
 use Rattle.sync_kernel.specs.Rows.{row_of, formula_eq}
-use Rattle.sync_kernel.specs.Steps.{no_params, is_plain, is_opposed, is_false_row, same_fault}
-use Rattle.sync_kernel.specs.Opposed.{is_fact, is_undone, is_closing, closes_same}
+use Rattle.sync_kernel.specs.Steps.{is_plain, is_opposed, is_false_row, same_fault}
+use Rattle.sync_kernel.specs.Opposed.{is_undone, closes_same}
 use Rattle.sync_kernel.proofs.Sound.{AllHold, truth_neg, false_row_refutes, not_true}
 
 -- ---- equality of formulas by a test

@@ -1,18 +1,16 @@
 -- One part of a `sum`: what the code answers against what is defined.
-use Rattle.std.proofs.Common.{rules, ◌≡◌, ◌≢◌, ◌⊎◌, inl, inr, ℕ, ℤ, pos, Bool, true, false, cond, ◌&&◌, if◌then◌else◌, List, [], ◌∷◌, ◌++◌, drop, take, map, Option, Some, None, Result, Ok, Err, refl, sym, ap, subst, ◌∙◌}
+use Rattle.std.proofs.Common.{◌≡◌, ℕ, ℤ, pos, Bool, true, false, ◌&&◌, if◌then◌else◌, List, [], ◌∷◌, ◌++◌, Option, Some, None, Result, Ok, Err, refl, sym, ap, subst, ◌∙◌}
 use Rattle.std.specs.Prelude.{option_map, IfSome}
-use Rattle.std.specs.List.{AllByRecursion, list_all}
-use Rattle.std.specs.Ordering.{int_eq}
-use Rattle.std.proofs.lemmas.Bool.{and_parts, and_from, cases_Bool, cond-true, cond-false, false_from_ne_true}
+use Rattle.std.specs.List.{list_all}
+use Rattle.std.proofs.lemmas.Bool.{and_parts, and_from, cond-false, false_from_ne_true}
 use Rattle.sync_base.specs.declared.stops.Rule.{Rule}
-use Rattle.sync_base.specs.declared.stops.Rule.TheVariants.{K1, K2, K5, K6, K7}
+use Rattle.sync_base.specs.declared.stops.Rule.TheVariants.{K6, K7}
 use Rattle.sync_base.specs.declared.stops.Stop.{Stop}
 use Rattle.sync_base.specs.declared.stops.Stop.TheVariants.{Refused, Memory}
 use Rattle.sync_base.specs.declared.stops.Refusal.{Refusal}
-use Rattle.sync_base.specs.Outcome.{first, Passes}
-use Rattle.sync_terms.specs.declared.scripts.HypName.{HypName}
+use Rattle.sync_base.specs.Outcome.{Passes}
 use Rattle.sync_terms.specs.declared.scripts.Part.{Part}
-use Rattle.sync_terms.specs.Trees.{Tree, Lit, Add, Scale, Formula, neg}
+use Rattle.sync_terms.specs.Trees.{Tree, Lit, Add, Scale, Formula}
 use Rattle.sync_terms.specs.Stored.{Stored}
 use Rattle.sync_linear.specs.declared.stops.LinearStop.{LinearStop}
 use Rattle.sync_linear.specs.declared.stops.LinearStop.TheVariants as linear
@@ -24,13 +22,11 @@ use Rattle.sync_linear.proofs.Spines.{zero_line}
 use Rattle.sync_linear.proofs.Joins.{join_line, join_fits, fits_line}
 use Rattle.sync_kernel.specs.declared.branches.Known.{Known}
 use Rattle.sync_kernel.specs.declared.rows.Shape.{Shape}
-use Rattle.sync_kernel.specs.declared.rows.Kind.{Kind}
-use Rattle.sync_kernel.specs.declared.rows.Kind.TheVariants.{AtMostZero, Zero, NotZero}
 use Rattle.sync_kernel.specs.declared.rows.Used.{Used}
 use Rattle.sync_kernel.specs.declared.sums.Summed.{Summed}
-use Rattle.sync_kernel.specs.Facts.{Fact, same_name, newest}
+use Rattle.sync_kernel.specs.Facts.{Fact, newest}
 use Rattle.sync_kernel.specs.Rows.{Row, row_of, within, narrow}
-use Rattle.sync_kernel.specs.Steps.{at_line, is_plain, usable, is_turned, fits_in, Next, with_row, with_part, is_bound, is_equation, apart_first, one_apart, closes, go_on, added, sum_fault}
+use Rattle.sync_kernel.specs.Steps.{at_line, usable, is_turned, fits_in, Next, with_row, with_part, is_equation, one_apart, go_on, added, sum_fault}
 use Rattle.sync_kernel.specs.Shapes.{row_shaped}
 use Rattle.sync_kernel.specs.Literals.{literal_form, IsLiteral}
 use Rattle.sync_kernel.specs.Holding.{IsKnown, stop_of, StepGives}

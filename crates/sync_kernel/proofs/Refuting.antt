@@ -1,15 +1,14 @@
 -- A block that breaks no rule closes its branch: no valuation makes all facts of the branch true.
-use Rattle.std.proofs.Common.{◌≡◌, ◌⊎◌, inl, inr, ℕ, Bool, true, false, ◌||◌, if◌then◌else◌, List, [], ◌∷◌, ◌++◌, map, length, Option, Some, None, Result, Ok, Err, refl, sym, ap, subst, ◌∙◌}
+use Rattle.std.proofs.Common.{◌≡◌, ◌⊎◌, inl, inr, ℕ, Bool, true, false, ◌||◌, if◌then◌else◌, List, [], ◌∷◌, ◌++◌, map, length, Option, Some, None, Result, Ok, Err, refl, ap, subst, ◌∙◌}
 use Rattle.std.specs.Prelude.{not, nat_eq, nat_lt, OnOk}
 use Rattle.std.specs.List.{AllByRecursion}
 use Rattle.std.proofs.lemmas.Bool.{cases_Bool}
 use Rattle.sync_base.specs.Outcome.{first, Passes, ◌>>=◌}
 use Rattle.sync_base.specs.declared.stops.Refusal.{Refusal}
 use Rattle.sync_base.specs.declared.stops.Rule.{Rule}
-use Rattle.sync_base.specs.declared.stops.Rule.TheVariants.{K1, K2, K3, K4, K8, K9}
+use Rattle.sync_base.specs.declared.stops.Rule.TheVariants.{K2, K3, K8}
 use Rattle.sync_base.specs.declared.stops.Stop.{Stop}
 use Rattle.sync_terms.specs.declared.scripts.HypName.{HypName}
-use Rattle.sync_terms.specs.declared.scripts.Part.{Part}
 use Rattle.sync_terms.specs.Kept.{limit}
 use Rattle.sync_terms.specs.Trees.{Tree, Formula, neg, replaced_in}
 use Rattle.sync_terms.specs.Values.{Valuation, truth, Holds, HoldsForAll, Given, IsValid}
@@ -17,7 +16,7 @@ use Rattle.sync_terms.specs.Plans.{Plan, End, Same, Sum, Inst, Parts, Split, Cut
 use Rattle.sync_terms.proofs.Meaning.{truth-neg}
 use Rattle.sync_facts.specs.Lemmas.{cong_fact, read_fact, size_fact, total_fact}
 use Rattle.sync_facts.specs.Laws.{AreTrue}
-use Rattle.sync_kernel.specs.Facts.{Fact, same_name, newest, denial, given, named, facts_size}
+use Rattle.sync_kernel.specs.Facts.{Fact, same_name, newest, denial, given, facts_size}
 use Rattle.sync_kernel.specs.Steps.{at_line, no_params, is_plain, same_fault, sum_fault}
 use Rattle.sync_kernel.specs.Taking.{Two, parts_of, cases_of, plain_fact, taken, by_params, instance}
 use Rattle.sync_kernel.specs.Scripts.{with_fact, fitting, with_instance, with_parts, Cases, cases_with, both_fitting, with_cases, with_cut, after, going, block_fault, script_fault}

@@ -1,13 +1,11 @@
 -- `same`, one fact after the other: what the code answers against what is defined.
-use Rattle.std.proofs.Common.{rules, ◌≡◌, ◌≢◌, ℕ, zero, suc, ◌+◌, ◌<◌, ◌≤◌, length, get_or, take, map, ℤ, pos, Bool, true, false, cond, ◌&&◌, ◌||◌, if◌then◌else◌, List, [], ◌∷◌, ◌++◌, Option, Some, None, refl, sym, ap, subst, ◌∙◌, arith}
+use Rattle.std.proofs.Common.{◌≡◌, ℕ, zero, suc, ◌<◌, length, get_or, ℤ, pos, Bool, true, false, cond, ◌&&◌, ◌||◌, if◌then◌else◌, List, [], ◌∷◌, ◌++◌, Option, Some, None, refl, sym, ap, subst, ◌∙◌, arith}
 use Rattle.std.specs.Prelude.{nat_eq, not, int_lt, ◌<ℤ◌, option_map}
 use Rattle.std.specs.Bool.{beq}
 use Rattle.std.specs.Ordering.{int_eq}
 use Rattle.std.specs.List.{list_any}
 use Rattle.std.proofs.lemmas.Bool.{and_parts, and_from, or_left, or_right, false_from_ne_true, both_ways}
 use Rattle.std.proofs.lemmas.Bool.Decides.{Decides-int_eq}
-use Rattle.sync_base.specs.declared.stops.Refusal.{Refusal}
-use Rattle.sync_base.specs.declared.stops.Rule.{Rule}
 use Rattle.sync_base.specs.declared.stops.Rule.TheVariants.{K4}
 use Rattle.sync_terms.specs.declared.nodes.FormId.{FormId}
 use Rattle.sync_terms.specs.Trees.{Tree, Formula, Le, Lt, Eq, Not, And, Or, Imp}
@@ -24,8 +22,8 @@ use Rattle.sync_kernel.specs.declared.rows.Shape.{Shape}
 use Rattle.sync_kernel.specs.declared.rows.Kind.{Kind}
 use Rattle.sync_kernel.specs.declared.rows.Kind.TheVariants.{AtMostZero, Zero, NotZero}
 use Rattle.sync_kernel.specs.Facts.{Fact}
-use Rattle.sync_kernel.specs.Rows.{Row, row_of, narrow, no_atom, is_false, formula_eq}
-use Rattle.sync_kernel.specs.Steps.{at_line, is_false_row, same_fault, is_plain, is_opposed}
+use Rattle.sync_kernel.specs.Rows.{Row, narrow, no_atom, is_false, formula_eq}
+use Rattle.sync_kernel.specs.Steps.{at_line, is_false_row, same_fault, is_plain}
 use Rattle.sync_kernel.specs.Shapes.{row_shaped}
 use Rattle.sync_kernel.specs.Literals.{literal_form, IsLiteral, IsBare, same_literal, is_negation}
 use Rattle.sync_kernel.specs.Branches.{said_fact, facts_in}

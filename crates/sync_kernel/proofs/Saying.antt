@@ -1,5 +1,5 @@
 -- What formulas of a store say, by their nodes.
-use Rattle.std.proofs.Common.{◌≡◌, ◌⊎◌, inl, inr, Bool, true, false, if◌then◌else◌, Option, Some, None, Result, Ok, Err, refl, sym, ap, subst, ◌∙◌, arith}
+use Rattle.std.proofs.Common.{◌≡◌, ◌⊎◌, inl, inr, true, false, Option, Some, None, Ok, Err, refl, sym, ap, subst, ◌∙◌, arith}
 use Rattle.std.proofs.lemmas.Bool.{cond-true, cond-false}
 use Rattle.sync_terms.specs.declared.nodes.TermId.{TermId}
 use Rattle.sync_terms.specs.declared.nodes.FormId.{FormId}
@@ -14,7 +14,7 @@ use Rattle.sync_kernel.specs.declared.splits.Pair.{Pair}
 use Rattle.sync_terms.specs.declared.store.TermStop.{TermStop}
 use Rattle.sync_terms.specs.declared.store.TermStop.TheVariants.{TooLarge, Memory}
 use Rattle.sync_terms.specs.Kept.{limit}
-use Rattle.std.specs.Prelude.{◌<◌, IfOk}
+use Rattle.std.specs.Prelude.{◌<◌}
 
 -- what holds of the formula of a node holds of the formula that has this node
 pub by_shape : (s : Stored) (f : Formula) (was n : FormNode) (P : Formula → Type 0) → form_shape s was ≡ f → was ≡ n → P (form_shape s n) → P f

@@ -1,21 +1,19 @@
 -- Scripts as plans: a step with its ids read in a store, and that its ids are of the store.
-use Rattle.std.proofs.Common.{◌≡◌, ℕ, zero, suc, ◌+◌, ◌<◌, List, [], ◌∷◌, length, map, get_or, Option, Some, None, refl, sym, ap, subst, ◌∙◌, arith}
+use Rattle.std.proofs.Common.{◌≡◌, ℕ, zero, suc, ◌<◌, List, [], ◌∷◌, length, map, get_or, Some, refl, sym, ap, ◌∙◌, arith}
 use Rattle.std.specs.List.{All}
-use Rattle.sync_base.specs.declared.stops.Refusal.{Refusal}
 use Rattle.sync_base.specs.declared.stops.Rule.TheVariants.{K9}
 use Rattle.sync_terms.specs.declared.nodes.TermId.{TermId}
 use Rattle.sync_terms.specs.declared.nodes.FormId.{FormId}
 use Rattle.sync_terms.specs.declared.scripts.HypName.{HypName}
-use Rattle.sync_terms.specs.declared.scripts.Part.{Part}
 use Rattle.sync_terms.specs.declared.scripts.ScriptStep.{ScriptStep, fold-ScriptStep, fold_out-ScriptStep}
 use Rattle.sync_terms.specs.declared.scripts.Block.{Block, fold-Block, fold_out-Block}
 use Rattle.sync_terms.specs.declared.scripts.StepKind.{StepKind, roll-StepKind, fold-StepKind, map-StepKind, fold_out-StepKind, fold-roll-StepKind}
 use Rattle.sync_terms.specs.declared.scripts.StepKind.TheViews.{out-ScriptStep, out-StepKind, out-Block}
 use Rattle.sync_terms.specs.declared.scripts.StepKind.TheOpen.{StepKind-F}
 use Rattle.sync_terms.specs.Trees.{Tree, Nil, Formula, Eq}
-use Rattle.sync_terms.specs.Stored.{Stored, tree, formula, IsTerm, IsForm, Extends}
+use Rattle.sync_terms.specs.Stored.{Stored, IsTerm, IsForm, Extends}
 use Rattle.sync_terms.specs.Plans.{Plan, Then, End, Same, Sum, Inst, Parts, Split, Cut, Read, Size, Total, Cong, kind_plan, block_plan, step_plan, steps_before, plan_of, IsScriptOf}
-use Rattle.sync_terms.proofs.Extending.{Extends-refl, Extends-trans}
+use Rattle.sync_terms.proofs.Extending.{Extends-trans}
 use Rattle.sync_kernel.specs.Scripts.{then_of, IsStepOf, after}
 use Rattle.sync_kernel.proofs.Ids.{stays_term, stays_form, stay_terms}
 

@@ -1,29 +1,28 @@
 -- Where `same` or `sum` closes a branch, no valuation makes all its facts true.
-use Rattle.std.proofs.Common.{rules, ◌≡◌, ◌≢◌, ◌⊎◌, inl, inr, ℕ, ◌*◌, ◌<◌, ◌≤◌, ℤ, pos, negsuc, ◌+ℤ◌, ◌-ℤ◌, ◌*ℤ◌, Bool, true, false, cond, ◌&&◌, ◌||◌, if◌then◌else◌, List, [], ◌∷◌, ◌++◌, map, Option, Some, None, Result, Ok, Err, refl, sym, ap, subst, ◌∙◌, arith}
+use Rattle.std.proofs.Common.{◌≡◌, ◌≢◌, inl, inr, ◌≤◌, ℤ, pos, negsuc, ◌+ℤ◌, ◌-ℤ◌, ◌*ℤ◌, Bool, true, false, ◌&&◌, ◌||◌, if◌then◌else◌, List, [], ◌∷◌, ◌++◌, Option, Some, None, Ok, Err, refl, sym, ap, subst, ◌∙◌, arith}
 use Rattle.std.specs.Prelude.{not, int_le, int_lt, ◌≤ℤ◌, ◌<ℤ◌}
 use Rattle.std.specs.Ordering.{int_eq}
-use Rattle.std.specs.List.{AllByRecursion, list_all, list_any}
+use Rattle.std.specs.List.{AllByRecursion, list_all}
 use Rattle.std.proofs.Math.Nat.{mul-le-mul_left}
 use Rattle.std.proofs.lemmas.Int.{ints}
-use borrow.Author.Differences.{up, down, le_out}
-use Rattle.std.proofs.lemmas.Bool.{and_parts, and_from, or_cases, cases_Bool, cond-true, cond-false, both_ways}
+use borrow.Author.Differences.{up, down}
+use Rattle.std.proofs.lemmas.Bool.{and_parts, and_from, or_cases, cases_Bool, cond-true, cond-false}
 use Rattle.std.proofs.lemmas.Bool.Decides.{Decides-int_eq}
 use Rattle.sync_base.specs.declared.stops.Rule.{Rule}
-use Rattle.sync_base.specs.declared.stops.Rule.TheVariants.{K1, K2, K4, K5, K6, K7}
+use Rattle.sync_base.specs.declared.stops.Rule.TheVariants.{K5, K6, K7}
 use Rattle.sync_base.specs.Outcome.{first}
 use Rattle.sync_terms.specs.declared.scripts.HypName.{HypName}
 use Rattle.sync_terms.specs.declared.scripts.Part.{Part}
-use Rattle.sync_terms.specs.Trees.{Tree, Lit, Add, Sub, Scale, Formula, Le, Lt, Eq, Not, And, Or, Imp, neg}
+use Rattle.sync_terms.specs.Trees.{Tree, Lit, Add, Scale, Formula, Le, Lt, Eq, Not, And, Or, Imp, neg}
 use Rattle.sync_terms.specs.Values.{Valuation, num, truth, Holds}
-use Rattle.sync_linear.specs.Forms.{constant_of, tree_eq}
-use Rattle.sync_linear.proofs.Trees.{same_tree, tree_is}
+use Rattle.sync_linear.specs.Forms.{constant_of}
 use Rattle.sync_linear.proofs.Ring.{times_zero}
 use Rattle.sync_kernel.specs.declared.rows.Kind.{Kind}
 use Rattle.sync_kernel.specs.declared.rows.Kind.TheVariants.{AtMostZero, Zero, NotZero}
 use Rattle.sync_kernel.specs.declared.rows.Used.{Used}
 use Rattle.sync_kernel.specs.Facts.{Fact, same_name, newest}
-use Rattle.sync_kernel.specs.Rows.{Row, row_of, row_of_not, within, narrow, no_atom, is_false, formula_eq}
-use Rattle.sync_kernel.specs.Steps.{no_params, is_plain, is_opposed, is_false_row, same_fault, usable, is_turned, fits_in, Next, with_row, with_part, is_bound, is_equation, apart_first, one_apart, closes, go_on, added, sum_fault}
+use Rattle.sync_kernel.specs.Rows.{Row, row_of, row_of_not, narrow, no_atom, is_false}
+use Rattle.sync_kernel.specs.Steps.{is_plain, is_false_row, usable, is_turned, fits_in, Next, with_row, with_part, is_bound, is_equation, apart_first, one_apart, closes, go_on, added, sum_fault}
 use Rattle.sync_kernel.proofs.Atoms.{constant_value}
 
 -- what a line says of its value

@@ -1,34 +1,29 @@
 -- The steps that add facts: what each leaves, from what its parts give.
-use Rattle.std.proofs.Common.{◌≡◌, ℕ, ◌+◌, ◌<◌, Bool, true, false, ◌&&◌, if◌then◌else◌, List, [], ◌∷◌, ◌++◌, map, length, Option, Some, None, Result, Ok, Err, refl, sym, ap, subst, ◌∙◌}
-use Rattle.std.specs.Prelude.{not, nat_eq, nat_lt, option_map, IfSome}
-use Rattle.std.specs.List.{AllByRecursion}
+use Rattle.std.proofs.Common.{◌≡◌, ℕ, ◌<◌, Bool, true, false, if◌then◌else◌, List, [], ◌∷◌, Option, Some, None, Result, Ok, Err, refl, sym, ap, subst}
+use Rattle.std.specs.Prelude.{option_map, IfSome}
 use Rattle.sync_base.specs.Outcome.{first, Passes, ◌>>=◌}
 use Rattle.sync_base.specs.declared.stops.Refusal.{Refusal}
 use Rattle.sync_base.specs.declared.stops.Rule.{Rule}
-use Rattle.sync_base.specs.declared.stops.Rule.TheVariants.{K1, K2, K3, K8}
+use Rattle.sync_base.specs.declared.stops.Rule.TheVariants.{K8}
 use Rattle.sync_base.specs.declared.stops.Stop.{Stop}
 use Rattle.sync_base.specs.declared.stops.Stop.TheVariants.{Refused, Memory}
-use Rattle.sync_terms.specs.declared.nodes.Sym.{Sym}
 use Rattle.sync_terms.specs.declared.scripts.HypName.{HypName}
 use Rattle.sync_terms.specs.declared.store.TermStop.{TermStop}
 use Rattle.sync_terms.specs.declared.store.TermStop.TheVariants.{TooLarge}
 use Rattle.sync_terms.specs.declared.store.TermStop.TheVariants as term
 use Rattle.sync_terms.specs.Kept.{limit}
-use Rattle.sync_terms.specs.Trees.{Tree, Formula, Not, formula_size}
-use Rattle.sync_terms.specs.Stored.{Stored, Extends}
+use Rattle.sync_terms.specs.Trees.{Formula, formula_size}
+use Rattle.sync_terms.specs.Stored.{Stored}
 use Rattle.sync_kernel.specs.declared.literals.Literal.{Literal}
-use Rattle.sync_kernel.specs.declared.splits.Pair.{Pair}
 use Rattle.sync_kernel.specs.declared.branches.Said.{Said}
 use Rattle.sync_kernel.specs.declared.branches.Known.{Known}
-use Rattle.sync_kernel.specs.Facts.{Fact, same_name, newest, named, facts_size}
-use Rattle.sync_kernel.specs.Steps.{no_params, is_plain}
-use Rattle.sync_kernel.specs.Literals.{literal_form, IsLiteral, pair_forms, IsPair, TakesApart}
+use Rattle.sync_kernel.specs.Facts.{Fact, same_name, newest}
+use Rattle.sync_kernel.specs.Literals.{literal_form, IsLiteral}
 use Rattle.sync_kernel.specs.Branches.{said_fact, facts_in, IsSaid, AreSaid, newest_said}
 use Rattle.sync_kernel.specs.Knowing.{known_of}
-use Rattle.sync_kernel.specs.Taking.{Two, plain_fact, taken, instance}
-use Rattle.sync_kernel.specs.Scripts.{with_fact, fitting, Cases, cases_with, both_fitting, going}
+use Rattle.sync_kernel.specs.Scripts.{with_fact, fitting, going}
 use Rattle.sync_kernel.specs.Holding.{IsKnown, StopsFor, Leaves, Refuses, Makes, large_stop}
-use Rattle.sync_kernel.proofs.Fitting.{not_fitting, both_not_fitting}
+use Rattle.sync_kernel.proofs.Fitting.{not_fitting}
 use Rattle.sync_kernel.proofs.Stacking.{newest_in}
 use Rattle.sync_kernel.proofs.Names.{none_params}
 

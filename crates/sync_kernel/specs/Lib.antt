@@ -10,3 +10,4 @@ pub mod Knowing
 pub mod Holding
 pub mod Stacks
 pub mod Opposed
+pub mod Kept

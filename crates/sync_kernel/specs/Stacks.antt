@@ -1,11 +1,8 @@
 -- What a branch keeps of its stack.
-use Rattle.std.specs.Prelude.{◌≡◌, ℕ, ◌+◌, ◌<◌, List, map, length, take, slice_index_or, Option, Some, None}
-use Rattle.std.specs.HashMap.{HashMap, get}
-use Rattle.sync_terms.specs.declared.scripts.HypName.{HypName}
+use Rattle.std.specs.Prelude.{◌≡◌, ℕ, ◌+◌, ◌<◌, List, map, length, take, slice_index_or}
 use Rattle.sync_kernel.specs.declared.branches.Said.{Said}
 use Rattle.sync_kernel.specs.declared.branches.Held.{Held}
 use Rattle.sync_kernel.specs.Branches.{place_from, said_size, capped}
-use Rattle.sync_kernel.specs.Holding.{equal_names}
 
 abbrev pub saids : List Held → List Said
 saids hs = map (λ (h : Held). h.said) hs

@@ -3,6 +3,7 @@
 
 mod blocks;
 mod branches;
+mod lines;
 mod literals;
 mod provers;
 mod rows;

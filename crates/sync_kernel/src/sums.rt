@@ -1,5 +1,6 @@
 //! The step `sum`.
 ghost use Rattle.std.specs.Prelude.{◌≡◌, Option, None, IfSome, option_map, if◌then◌else◌};
+ghost use Rattle.std.specs.HashMap.{get};
 ghost use Rattle.std.specs.List.{list_all};
 ghost use Rattle.sync_base.specs.Outcome.{Passes};
 ghost use Rattle.sync_terms.specs.Stored.{Stored};
@@ -7,16 +8,20 @@ ghost use Rattle.sync_terms.specs.Trees.{Tree};
 ghost use Rattle.sync_linear.specs.Stores.{IsLineOf};
 ghost use Rattle.sync_kernel.specs.Facts.{Fact};
 ghost use Rattle.sync_kernel.specs.Branches.{facts_in, AreSaid};
-ghost use Rattle.sync_kernel.specs.Literals.{literal_form, IsLiteral};
+ghost use Rattle.sync_kernel.specs.Literals.{literal_form, IsLiteral, same_literal};
+ghost use Rattle.sync_kernel.specs.Kept.{AreLines};
 ghost use Rattle.sync_kernel.specs.Rows.{row_of};
 ghost use Rattle.sync_kernel.specs.Shapes.{shaped, row_shaped};
 ghost use Rattle.sync_kernel.specs.Steps.{at_line, is_bound, is_turned, with_part as part_added, one_apart as has_one_apart, closes as is_closed, sum_fault};
 ghost use Rattle.sync_kernel.specs.Holding.{IsKnown, StepGives};
 
 use crate::branches::{Branch, Known};
+use crate::lines::keep_line;
+use crate::literals::Literal;
 use crate::rows::{Kind, Shape, Used, shape_of};
 use crate::stops::{refusal, too_wide};
 use std::alloc::Global;
+use std::collections::HashMap;
 use sync_base::{Rule, Stop};
 use sync_linear::{Change, Linear};
 use sync_terms::{Part, Terms};
@@ -55,13 +60,16 @@ fn shape_known(terms: &Terms, known: Known) -> Option<Shape>
 fn with_part(
     alloc: Global,
     terms: &Terms,
+    lines: &mut HashMap<Literal, Linear>,
     known: Option<Known>,
     part: &Part,
     total: Linear,
     line: u32,
 ) -> Result<Summed, Stop>
-    requires { IfSome known (λ k. IsLiteral terms.now k.says) }
-    ensures { (sum : Tree) (fact : Option Fact) → IsLineOf terms.now sum total → IsKnown terms.now known fact → StepGives terms.now line result (part_added fact sum part.now) }
+    requires known { IfSome known (λ k. IsLiteral terms.now k.says) }
+    requires lines { AreLines terms.now (get same_literal lines.old) }
+    ensures lines { AreLines terms.now (get same_literal lines.new) }
+    ensures part { (sum : Tree) (fact : Option Fact) → IsLineOf terms.now sum total → IsKnown terms.now known fact → StepGives terms.now line result (part_added fact sum part.now) }
 {
     let Some(known) = known else {
         return Err(refusal(line, Rule::K1));
@@ -72,11 +80,11 @@ fn with_part(
     if turned(shape.kind, part) {
         return Err(refusal(line, Rule::K6));
     }
-    let row = match shape.line(alloc, terms) {
-        Ok(row) => row,
-        Err(stop) => return Err(too_wide(stop, line)),
-    };
-    match total.changed(Change::Times(part.times), &row) {
+    if let Err(stop) = keep_line(alloc, terms, lines, known.says, shape) {
+        return Err(too_wide(stop, line));
+    }
+    let row = lines.get(&known.says).unwrap();
+    match total.changed(Change::Times(part.times), row) {
         Ok(total) => Ok(Summed {
             total,
             used: Used {
@@ -146,8 +154,10 @@ pub(crate) fn sum(
 {
     let mut total = Linear::zero(alloc);
     let mut used = Vec::new(alloc);
+    let mut lines = HashMap::new(alloc);
     for part in parts {
-        let next = with_part(alloc, terms, branch.known(part.hyp), part, total, line)?;
+        let known = branch.known(part.hyp);
+        let next = with_part(alloc, terms, &mut lines, known, part, total, line)?;
         total = next.total;
         used.push(next.used)?;
     }

@@ -1,4 +1,10 @@
 //! Sequents with their scripts.
+ghost use Rattle.std.specs.Prelude.{◌≡◌, IfOk, All};
+ghost use Rattle.sync_terms.specs.Stored.{Stored, Extends, IsTerm, IsForm};
+ghost use Rattle.sync_terms.specs.Plans.{IsScriptOf};
+ghost use Rattle.sync_kernel.specs.Holding.{AreForms};
+ghost use Rattle.sync_kernel.specs.Scripts.{IsStepOf};
+
 use crate::{Block, Hyp, HypName, Part, Script, ScriptStep, Sequent, StepKind, prove};
 use sqlite_items::Items;
 use std::alloc::{AllocError, Global};
@@ -6,37 +12,122 @@ use std::test::Fail;
 use sync_base::{Refusal, Rule, Stop};
 use sync_terms::{FormId, FormNode, Node, Sym, TermId, Terms};
 
-/// A block of these steps, each on a line of its own from the first; it ends on the line behind the last.
-fn block(alloc: Global, first: u32, kinds: Vec<StepKind>) -> Result<Block, AllocError>
-    requires { first < 1000 }
+// ---- scripts, step by step
+
+/// A block without steps.
+#[tactic(auto, using(crate::proofs::Making::empty_of))]
+fn block(alloc: Global, end_line: u32) -> Block
+    ensures { (s : Stored) → IsScriptOf s result }
 {
-    let mut steps = Items::new(alloc);
-    let mut line = first;
-    for what in kinds {
-        steps.push(ScriptStep { what, line })?;
-        line = line.saturating_add(1);
+    Block {
+        steps: Items::new(alloc),
+        end_line,
     }
-    Ok(Block {
-        steps,
-        end_line: line,
+}
+
+/// The block with a step more.
+fn with(terms: &Terms, block: Block, step: ScriptStep) -> Result<Block, AllocError>
+    requires block { IsScriptOf terms.now block }
+    requires step { IsStepOf terms.now step }
+    ensures { IfOk result (IsScriptOf terms.now) }
+{
+    let Block {
+        mut steps,
+        end_line,
+    } = block;
+    steps.push(step)?;
+    Ok(Block { steps, end_line })
+}
+
+#[tactic(auto, using(crate::proofs::Making::same_of))]
+fn same(line: u32) -> ScriptStep
+    ensures { (s : Stored) → IsStepOf s result }
+{
+    ScriptStep {
+        what: StepKind::Same,
+        line,
+    }
+}
+
+/// A sum of these facts, each so many times.
+fn sum(alloc: Global, parts: &[(i128, HypName)], line: u32) -> Result<ScriptStep, AllocError>
+    ensures { IfOk result (λ step. (s : Stored) → IsStepOf s step) }
+{
+    let mut list = Items::new(alloc);
+    for (times, hyp) in parts {
+        list.push(Part {
+            times: *times,
+            hyp: *hyp,
+        })?;
+    }
+    Ok(ScriptStep {
+        what: StepKind::Sum(list),
+        line,
     })
 }
 
-/// A sum of two facts.
-fn sum(
-    alloc: Global,
-    times: i128,
-    first: HypName,
-    more: i128,
-    second: HypName,
-) -> Result<StepKind, AllocError> {
-    let mut parts = Items::new(alloc);
-    parts.push(Part { times, hyp: first })?;
-    parts.push(Part {
-        times: more,
-        hyp: second,
-    })?;
-    Ok(StepKind::Sum(parts))
+#[tactic(auto, using(crate::proofs::Making::parts_of))]
+fn parts(hyp: HypName, left: u32, right: u32, line: u32) -> ScriptStep
+    ensures { (s : Stored) → IsStepOf s result }
+{
+    ScriptStep {
+        what: StepKind::Parts(hyp, left, right),
+        line,
+    }
+}
+
+#[tactic(auto, using(crate::proofs::Making::inst_of))]
+fn inst(terms: &Terms, hyp: HypName, list: Items<TermId>, name: u32, line: u32) -> ScriptStep
+    requires { All (IsTerm terms.now) list }
+    ensures { IsStepOf terms.now result }
+{
+    ScriptStep {
+        what: StepKind::Inst(hyp, list, name),
+        line,
+    }
+}
+
+#[tactic(auto, using(crate::proofs::Making::split_of))]
+fn split(
+    terms: &Terms,
+    hyp: HypName,
+    name: u32,
+    first: Block,
+    second: Block,
+    line: u32,
+) -> ScriptStep
+    requires first { IsScriptOf terms.now first }
+    requires second { IsScriptOf terms.now second }
+    ensures { IsStepOf terms.now result }
+{
+    ScriptStep {
+        what: StepKind::Split(hyp, name, first, second),
+        line,
+    }
+}
+
+#[tactic(auto, using(crate::proofs::Making::cut_of))]
+fn cut(terms: &Terms, form: FormId, name: u32, block: Block, line: u32) -> ScriptStep
+    requires form { IsForm terms.now form }
+    requires block { IsScriptOf terms.now block }
+    ensures { IsStepOf terms.now result }
+{
+    ScriptStep {
+        what: StepKind::Cut(form, name, block),
+        line,
+    }
+}
+
+#[tactic(auto, using(crate::proofs::Making::read_of))]
+fn read(terms: &Terms, map: TermId, key: TermId, name: u32, line: u32) -> ScriptStep
+    requires map { IsTerm terms.now map }
+    requires key { IsTerm terms.now key }
+    ensures { IsStepOf terms.now result }
+{
+    ScriptStep {
+        what: StepKind::Read(map, key, name),
+        line,
+    }
 }
 
 /// What is answered to a script.
@@ -45,7 +136,11 @@ fn answer(
     terms: &mut Terms,
     sequent: &Sequent,
     block: Block,
-) -> Result<Option<(u32, Rule)>, Fail> {
+) -> Result<Option<(u32, Rule)>, Fail>
+    requires hyps { AreForms terms.old sequent.now.hyps }
+    requires claim { IsForm terms.old sequent.now.claim }
+    requires script { IsScriptOf terms.old block }
+{
     let script = Script { block, line: 9 };
     match prove(alloc, terms, sequent, &script) {
         Ok(()) => Ok(None),
@@ -54,36 +149,61 @@ fn answer(
     }
 }
 
-/// The claim that a map with 5 put at 0 has 5 there, and so many times what it has there in the sum of its proof.
-fn read_of_put(alloc: Global, times: i128) -> Result<Option<(u32, Rule)>, Fail> {
-    let mut terms = Terms::new(alloc);
+/// A claim without hypotheses.
+fn claimed(alloc: Global, claim: FormId) -> Sequent
+    ensures hyps { (s : Stored) → AreForms s result.hyps }
+    ensures claim { result.claim ≡ claim }
+{
+    Sequent {
+        hyps: Items::new(alloc),
+        claim,
+    }
+}
+
+// ---- maps
+
+/// A map, a key in it, and the claim about what it has there.
+#[derive(Clone, Copy)]
+struct Put {
+    put: TermId,
+    zero: TermId,
+    claim: FormId,
+}
+
+/// The claim that a map with 5 put at 0 has 5 there.
+#[tactic(auto, using(crate::proofs::Stays::stays))]
+fn put_claim(terms: &mut Terms) -> Result<Put, Fail>
+    ensures put { IfOk result (λ r. IsTerm terms.new r.put) }
+    ensures zero { IfOk result (λ r. IsTerm terms.new r.zero) }
+    ensures claim { IfOk result (λ r. IsForm terms.new r.claim) }
+{
     let map = terms.add_term(Node::Name(Sym(0)))?;
     let zero = terms.add_term(Node::Lit(0))?;
     let five = terms.add_term(Node::Lit(5))?;
     let put = terms.add_term(Node::Put(map, zero, five))?;
     let got = terms.add_term(Node::Get(put, zero))?;
     let claim = terms.add_form(FormNode::Eq(got, five))?;
-    let sequent = Sequent {
-        hyps: Items::new(alloc),
-        claim,
-    };
-    let mut here = Vec::new(alloc);
-    here.push(StepKind::Parts(HypName::Label(2), 3, 4))?;
-    here.push(StepKind::Parts(HypName::Label(4), 5, 6))?;
-    here.push(sum(alloc, 1, HypName::Denied, times, HypName::Label(5))?)?;
-    let mut elsewhere = Vec::new(alloc);
-    elsewhere.push(StepKind::Parts(HypName::Label(2), 3, 4))?;
-    elsewhere.push(StepKind::Same)?;
-    let mut steps = Vec::new(alloc);
-    steps.push(StepKind::Read(put, zero, 1))?;
-    steps.push(StepKind::Split(
-        HypName::Label(1),
-        2,
-        block(alloc, 20, here)?,
-        block(alloc, 30, elsewhere)?,
-    ))?;
-    let steps = block(alloc, 10, steps)?;
-    answer(alloc, &mut terms, &sequent, steps)
+    Ok(Put { put, zero, claim })
+}
+
+/// The proof of that claim, with so many times what the map has there in its sum: by what a put map has at a key, where the key is
+/// the changed one, and where it is not.
+fn read_of_put(alloc: Global, times: i128) -> Result<Option<(u32, Rule)>, Fail> {
+    let mut terms = Terms::new(alloc);
+    let r = put_claim(&mut terms)?;
+    let here = block(alloc, 23);
+    let here = with(&terms, here, parts(HypName::Label(2), 3, 4, 20))?;
+    let here = with(&terms, here, parts(HypName::Label(4), 5, 6, 21))?;
+    let both = [(1, HypName::Denied), (times, HypName::Label(5))];
+    let here = with(&terms, here, sum(alloc, &both, 22)?)?;
+    let elsewhere = block(alloc, 32);
+    let elsewhere = with(&terms, elsewhere, parts(HypName::Label(2), 3, 4, 30))?;
+    let elsewhere = with(&terms, elsewhere, same(31))?;
+    let steps = block(alloc, 12);
+    let steps = with(&terms, steps, read(&terms, r.put, r.zero, 1, 10))?;
+    let cases = split(&terms, HypName::Label(1), 2, here, elsewhere, 11);
+    let steps = with(&terms, steps, cases)?;
+    answer(alloc, &mut terms, &claimed(alloc, r.claim), steps)
 }
 
 #[test]
@@ -94,8 +214,14 @@ fn a_put_is_read(rt: HostRuntime) -> Result<(), Fail> {
     Ok(())
 }
 
-/// A claim that is false, under a hypothesis of two parameters.
-fn with_params(alloc: Global, terms: &mut Terms) -> Result<Sequent, Fail> {
+// ---- instances
+
+/// A claim that is false, under the hypothesis of two parameters that the first is below the second.
+#[tactic(auto, using(crate::proofs::Stays::stays))]
+fn with_params(alloc: Global, terms: &mut Terms) -> Result<Sequent, Fail>
+    ensures hyps { IfOk result (λ q. AreForms terms.new q.hyps) }
+    ensures claim { IfOk result (λ q. IsForm terms.new q.claim) }
+{
     let x = terms.add_term(Node::Name(Sym(1)))?;
     let y = terms.add_term(Node::Name(Sym(2)))?;
     let form = terms.add_form(FormNode::Lt(x, y))?;
@@ -113,32 +239,194 @@ fn with_params(alloc: Global, terms: &mut Terms) -> Result<Sequent, Fail> {
 }
 
 /// What is answered to `inst` with these terms and then `same`.
-fn instance(alloc: Global, numbers: &[i128]) -> Result<Option<(u32, Rule)>, Fail> {
+fn instance(
+    alloc: Global,
+    terms: &mut Terms,
+    sequent: &Sequent,
+    list: Items<TermId>,
+) -> Result<Option<(u32, Rule)>, Fail>
+    requires hyps { AreForms terms.old sequent.now.hyps }
+    requires claim { IsForm terms.old sequent.now.claim }
+    requires list { All (IsTerm terms.old) list }
+{
+    let steps = block(alloc, 12);
+    let steps = with(terms, steps, inst(terms, HypName::Label(1), list, 2, 10))?;
+    let steps = with(terms, steps, same(11))?;
+    answer(alloc, terms, sequent, steps)
+}
+
+/// Two numbers as terms.
+#[tactic(auto, using(crate::proofs::Stays::stays))]
+fn numbers(
+    alloc: Global,
+    terms: &mut Terms,
+    first: i128,
+    second: i128,
+) -> Result<Items<TermId>, Fail>
+    ensures list { IfOk result (All (IsTerm terms.new)) }
+    ensures keeps { Extends terms.old terms.new }
+{
+    let first = terms.add_term(Node::Lit(first))?;
+    let second = terms.add_term(Node::Lit(second))?;
+    let mut list = Items::new(alloc);
+    list.push(first)?;
+    list.push(second)?;
+    Ok(list)
+}
+
+/// What is answered to an instance at these two numbers.
+fn at_numbers(alloc: Global, first: i128, second: i128) -> Result<Option<(u32, Rule)>, Fail> {
     let mut terms = Terms::new(alloc);
+    let list = numbers(alloc, &mut terms, first, second)?;
+    let sequent = with_params(alloc, &mut terms)?;
+    instance(alloc, &mut terms, &sequent, list)
+}
+
+/// What is answered to an instance with one term.
+fn at_one(alloc: Global) -> Result<Option<(u32, Rule)>, Fail> {
+    let mut terms = Terms::new(alloc);
+    let one = terms.add_term(Node::Lit(1))?;
     let sequent = with_params(alloc, &mut terms)?;
     let mut list = Items::new(alloc);
-    for number in numbers {
-        list.push(terms.add_term(Node::Lit(*number))?)?;
-    }
-    let mut steps = Vec::new(alloc);
-    steps.push(StepKind::Inst(HypName::Label(1), list, 2))?;
-    steps.push(StepKind::Same)?;
-    let steps = block(alloc, 10, steps)?;
-    answer(alloc, &mut terms, &sequent, steps)
+    list.push(one)?;
+    instance(alloc, &mut terms, &sequent, list)
 }
 
 #[test]
 fn a_term_for_each_parameter(rt: HostRuntime) -> Result<(), Fail> {
     let alloc = rt.alloc();
-    assert_eq!(rt; instance(alloc, &[1, 1])?, None);
-    assert_eq!(rt; instance(alloc, &[0, 1])?, Some((11, Rule::K4)));
-    assert_eq!(rt; instance(alloc, &[1])?, Some((10, Rule::K3)));
-    assert_eq!(rt; instance(alloc, &[1, 1, 1])?, Some((10, Rule::K3)));
+    assert_eq!(rt; at_numbers(alloc, 1, 1)?, None);
+    assert_eq!(rt; at_numbers(alloc, 0, 1)?, Some((11, Rule::K4)));
+    assert_eq!(rt; at_one(alloc)?, Some((10, Rule::K3)));
+    Ok(())
+}
+
+// ---- sums and blocks
+
+/// The sequent of three hypotheses: 2^127 - 1 times x is at most 0, x is at most 0, and 0 - x is below 0; and a false claim.
+#[tactic(auto, using(crate::proofs::Stays::stays))]
+fn three(alloc: Global, terms: &mut Terms) -> Result<Sequent, Fail>
+    ensures hyps { IfOk result (λ q. AreForms terms.new q.hyps) }
+    ensures claim { IfOk result (λ q. IsForm terms.new q.claim) }
+{
+    let x = terms.add_term(Node::Name(Sym(0)))?;
+    let zero = terms.add_term(Node::Lit(0))?;
+    let one = terms.add_term(Node::Lit(1))?;
+    let claim = terms.add_form(FormNode::Le(one, zero))?;
+    let many = terms.add_term(Node::Scale(i128::MAX, x))?;
+    let first = terms.add_form(FormNode::Le(many, zero))?;
+    let once = terms.add_term(Node::Scale(1, x))?;
+    let second = terms.add_form(FormNode::Le(once, zero))?;
+    let less = terms.add_term(Node::Sub(zero, x))?;
+    let third = terms.add_form(FormNode::Lt(less, zero))?;
+    let mut hyps = Items::new(alloc);
+    hyps.push(known(alloc, 1, first))?;
+    hyps.push(known(alloc, 2, second))?;
+    hyps.push(known(alloc, 3, third))?;
+    Ok(Sequent { hyps, claim })
+}
+
+/// The condition of a statement.
+fn known(alloc: Global, number: u32, form: FormId) -> Hyp
+    ensures { result.form ≡ form }
+{
+    Hyp {
+        name: HypName::At(number),
+        params: Items::new(alloc),
+        form,
+    }
+}
+
+/// What is answered to a sum of these parts.
+fn summed(alloc: Global, parts: &[(i128, HypName)]) -> Result<Option<(u32, Rule)>, Fail> {
+    let mut terms = Terms::new(alloc);
+    let sequent = three(alloc, &mut terms)?;
+    let steps = block(alloc, 11);
+    let steps = with(&terms, steps, sum(alloc, parts, 10)?)?;
+    answer(alloc, &mut terms, &sequent, steps)
+}
+
+#[test]
+fn a_sum_stays_within_128_bits(rt: HostRuntime) -> Result<(), Fail> {
+    let alloc = rt.alloc();
+    let (a, b, c) = (HypName::At(1), HypName::At(2), HypName::At(3));
+    assert_eq!(rt; summed(alloc, &[(1, a), (i128::MAX, c)])?, None);
+    assert_eq!(rt;
+        summed(alloc, &[(1, a), (1, b), (1, c)])?,
+        Some((10, Rule::K7))
+    );
+    assert_eq!(rt; summed(alloc, &[(1, b), (-1, c)])?, Some((10, Rule::K6)));
+    assert_eq!(rt;
+        summed(alloc, &[(1, HypName::At(4))])?,
+        Some((10, Rule::K1))
+    );
+    assert_eq!(rt; summed(alloc, &[(1, b)])?, Some((10, Rule::K5)));
+    Ok(())
+}
+
+/// What is answered to a block for the claim of the formula `0 <= 0`.
+fn truism(alloc: Global, steps: Block) -> Result<Option<(u32, Rule)>, Fail>
+    requires { (s : Stored) → IsScriptOf s steps }
+{
+    let mut terms = Terms::new(alloc);
+    let zero = terms.add_term(Node::Lit(0))?;
+    let claim = terms.add_form(FormNode::Le(zero, zero))?;
+    answer(alloc, &mut terms, &claimed(alloc, claim), steps)
+}
+
+/// A block of this step.
+fn one(alloc: Global, step: ScriptStep) -> Result<Block, AllocError>
+    requires { (s : Stored) → IsStepOf s step }
+    ensures { IfOk result (λ b. (s : Stored) → IsScriptOf s b) }
+{
+    let mut steps = Items::new(alloc);
+    steps.push(step)?;
+    Ok(Block {
+        steps,
+        end_line: 12,
+    })
+}
+
+/// A block of these two steps.
+fn two(alloc: Global, first: ScriptStep, second: ScriptStep) -> Result<Block, AllocError>
+    requires first { (s : Stored) → IsStepOf s first }
+    requires second { (s : Stored) → IsStepOf s second }
+    ensures { IfOk result (λ b. (s : Stored) → IsScriptOf s b) }
+{
+    let Block {
+        mut steps,
+        end_line,
+    } = one(alloc, first)?;
+    steps.push(second)?;
+    Ok(Block { steps, end_line })
+}
+
+#[test]
+fn a_block_closes_its_branch_at_its_end(rt: HostRuntime) -> Result<(), Fail> {
+    let alloc = rt.alloc();
+    let denied = HypName::Denied;
+    assert_eq!(rt; truism(alloc, block(alloc, 12))?, Some((12, Rule::K9)));
+    assert_eq!(rt; truism(alloc, one(alloc, same(10))?)?, None);
+    assert_eq!(rt;
+        truism(alloc, two(alloc, same(10), same(11))?)?,
+        Some((11, Rule::K9))
+    );
+    assert_eq!(rt;
+        truism(alloc, one(alloc, parts(denied, 1, 2, 10))?)?,
+        Some((10, Rule::K2))
+    );
+    assert_eq!(rt;
+        truism(alloc, one(alloc, parts(HypName::Label(1), 1, 2, 10))?)?,
+        Some((10, Rule::K1))
+    );
     Ok(())
 }
 
 /// A term of 2^(n + 1) - 1 nodes.
-fn doubled(terms: &mut Terms, n: u32) -> Result<TermId, Fail> {
+#[tactic(auto, using(crate::proofs::Stays::stays))]
+fn doubled(terms: &mut Terms, n: u32) -> Result<TermId, Fail>
+    ensures { IfOk result (IsTerm terms.new) }
+{
     let mut last = terms.add_term(Node::Name(Sym(0)))?;
     for _ in 0..n {
         last = terms.add_term(Node::Add(last, last))?;
@@ -146,94 +434,24 @@ fn doubled(terms: &mut Terms, n: u32) -> Result<TermId, Fail> {
     Ok(last)
 }
 
-/// What is answered to two cuts with a formula over a term that was doubled so many times.
-fn two_cuts(alloc: Global, n: u32) -> Result<Option<(u32, Rule)>, Fail> {
+/// What is answered to a cut with a formula over a term that was doubled so many times, for the claim of the formula.
+fn one_cut(alloc: Global, n: u32) -> Result<Option<(u32, Rule)>, Fail> {
     let mut terms = Terms::new(alloc);
     let term = doubled(&mut terms, n)?;
     let form = terms.add_form(FormNode::Le(term, term))?;
-    let sequent = Sequent {
-        hyps: Items::new(alloc),
-        claim: form,
-    };
-    let mut steps = Vec::new(alloc);
-    for name in 1..3 {
-        let mut same = Vec::new(alloc);
-        same.push(StepKind::Same)?;
-        steps.push(StepKind::Cut(form, name, block(alloc, 20, same)?))?;
-    }
-    steps.push(StepKind::Same)?;
-    let steps = block(alloc, 10, steps)?;
-    answer(alloc, &mut terms, &sequent, steps)
+    let inner = block(alloc, 21);
+    let inner = with(&terms, inner, same(20))?;
+    let steps = block(alloc, 12);
+    let steps = with(&terms, steps, cut(&terms, form, 1, inner, 10))?;
+    let steps = with(&terms, steps, same(11))?;
+    answer(alloc, &mut terms, &claimed(alloc, form), steps)
 }
 
+// Doubled 16 times a term has 131,071 nodes, so the formula has 262,143; 17 times 262,143 and 524,287. The branch has two of these.
 #[test]
 fn a_branch_has_a_limit(rt: HostRuntime) -> Result<(), Fail> {
     let alloc = rt.alloc();
-    assert_eq!(rt; two_cuts(alloc, 15)?, None);
-    assert_eq!(rt; two_cuts(alloc, 16)?, None);
-    assert_eq!(rt; two_cuts(alloc, 17)?, Some((10, Rule::K8)));
-    Ok(())
-}
-
-/// The claim that symbol 0 is at most 0, where 2^127 - 1 times it is.
-fn too_wide(alloc: Global, times: i128) -> Result<Option<(u32, Rule)>, Fail> {
-    let mut terms = Terms::new(alloc);
-    let x = terms.add_term(Node::Name(Sym(0)))?;
-    let zero = terms.add_term(Node::Lit(0))?;
-    let scaled = terms.add_term(Node::Scale(i128::MAX, x))?;
-    let form = terms.add_form(FormNode::Le(scaled, zero))?;
-    let claim = terms.add_form(FormNode::Le(x, zero))?;
-    let mut hyps = Items::new(alloc);
-    hyps.push(Hyp {
-        name: HypName::At(1),
-        params: Items::new(alloc),
-        form,
-    })?;
-    let sequent = Sequent { hyps, claim };
-    let mut steps = Vec::new(alloc);
-    steps.push(sum(alloc, i128::MAX, HypName::Denied, times, HypName::At(1))?)?;
-    let steps = block(alloc, 10, steps)?;
-    answer(alloc, &mut terms, &sequent, steps)
-}
-
-#[test]
-fn a_sum_stays_within_128_bits(rt: HostRuntime) -> Result<(), Fail> {
-    let alloc = rt.alloc();
-    assert_eq!(rt; too_wide(alloc, 1)?, None);
-    assert_eq!(rt; too_wide(alloc, 2)?, Some((10, Rule::K7)));
-    assert_eq!(rt; too_wide(alloc, -1)?, Some((10, Rule::K6)));
-    Ok(())
-}
-
-/// What is answered to these steps for a claim of the form `0 <= 0`.
-fn truism(alloc: Global, steps: Vec<StepKind>) -> Result<Option<(u32, Rule)>, Fail> {
-    let mut terms = Terms::new(alloc);
-    let zero = terms.add_term(Node::Lit(0))?;
-    let claim = terms.add_form(FormNode::Le(zero, zero))?;
-    let sequent = Sequent {
-        hyps: Items::new(alloc),
-        claim,
-    };
-    let steps = block(alloc, 10, steps)?;
-    answer(alloc, &mut terms, &sequent, steps)
-}
-
-#[test]
-fn a_block_closes_its_branch_at_its_end(rt: HostRuntime) -> Result<(), Fail> {
-    let alloc = rt.alloc();
-    assert_eq!(rt; truism(alloc, Vec::new(alloc))?, Some((10, Rule::K9)));
-    let mut steps = Vec::new(alloc);
-    steps.push(StepKind::Same)?;
-    assert_eq!(rt; truism(alloc, steps)?, None);
-    let mut steps = Vec::new(alloc);
-    steps.push(StepKind::Same)?;
-    steps.push(StepKind::Same)?;
-    assert_eq!(rt; truism(alloc, steps)?, Some((11, Rule::K9)));
-    let mut steps = Vec::new(alloc);
-    steps.push(StepKind::Parts(HypName::Denied, 1, 2))?;
-    assert_eq!(rt; truism(alloc, steps)?, Some((10, Rule::K2)));
-    let mut steps = Vec::new(alloc);
-    steps.push(StepKind::Parts(HypName::Label(1), 1, 2))?;
-    assert_eq!(rt; truism(alloc, steps)?, Some((10, Rule::K1)));
+    assert_eq!(rt; one_cut(alloc, 16)?, None);
+    assert_eq!(rt; one_cut(alloc, 17)?, Some((10, Rule::K8)));
     Ok(())
 }

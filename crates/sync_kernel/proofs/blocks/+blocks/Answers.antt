@@ -1,27 +1,25 @@
-use Rattle.std.proofs.Common.{rules, ◌≡◌, ℕ, List, [], ◌∷◌, ◌++◌, map, take, None, Result, Ok, Err, refl, sym, ap, subst, ◌∙◌}
+use Rattle.std.proofs.Common.{rules, ◌≡◌, ℕ, List, [], ◌∷◌, ◌++◌, take, None, Err, refl, sym, ap, subst, ◌∙◌}
 use Rattle.std.specs.List.{All}
 use Rattle.std.proofs.lemmas.Result.{err_from_is_err_and}
 use Rattle.sync_base.specs.Outcome.{Passes}
-use Rattle.sync_terms.specs.declared.nodes.TermId.{TermId}
 use Rattle.sync_terms.specs.declared.scripts.StepKind.TheOpen.{StepKind-F}
 use Rattle.sync_terms.specs.declared.scripts.StepKind.TheVariants.{rolls-Inst, rolls-Split, rolls-Cut, rolls-Read, rolls-Size, rolls-Total, rolls-Cong}
 use Rattle.sync_terms.specs.declared.scripts.StepKind as kind
 use Rattle.sync_terms.specs.declared.scripts.ScriptStep as step
 use Rattle.sync_terms.specs.declared.scripts.Block as block
-use Rattle.sync_terms.specs.Stored.{IsTerm, tree, formula}
+use Rattle.sync_terms.specs.Stored.{IsTerm, tree}
 use Rattle.sync_terms.specs.Plans.{plan_of}
 use Rattle.sync_terms.proofs.Extending.{Extends-trans}
 use Rattle.sync_facts.specs.Lemmas.{read_fact, size_fact, total_fact, cong_fact}
 use Rattle.sync_kernel.specs.declared.steps.Left.{Left}
 use Rattle.sync_kernel.specs.declared.branches.Said.{Said}
 use Rattle.sync_kernel.specs.Branches.{facts_in, AreSaid, Begins}
-use Rattle.sync_kernel.specs.Literals.{literal_form}
 use Rattle.sync_kernel.specs.Scripts.{then_of, with_fact, fitting, after, block_fault}
 use Rattle.sync_kernel.proofs.Fitting.{AreSaid-more, IsLiteral-more}
 use Rattle.sync_kernel.proofs.Scripting.{script-more, step-more, inst_ids, cut_id, cut_script, split_scripts, read_ids, size_ids, total_ids, cong_ids}
 use Rattle.sync_kernel.proofs.Stepping.{passes_err, err_refuses}
 use Rattle.sync_kernel.proofs.Adding.{add_said}
-use Rattle.sync_kernel.proofs.Checking.{Checking, begins_before, checking_more, checking_stops, left_open, drop_item, item_of, step_err, refuses_as, case_of, case_is, case_later, split_stops, left_stops, right_stops, split_closes, cut_stops, block_stops, cut_goes, fact_stops}
+use Rattle.sync_kernel.proofs.Checking.{Checking, begins_before, checking_more, checking_stops, left_open, drop_item, item_of, step_err, refuses_as, case_of, case_is, case_later, left_stops, right_stops, split_closes, cut_stops, cut_goes, fact_stops}
 use Rattle.sync_kernel.proofs.blocks.+blocks.Goals as goal
 
 pub check_block-check_step-requires : goal.check_block-check_step-requires
@@ -71,9 +69,13 @@ pub check_step-check_case-requires : goal.check_step-check_case-requires
 check_step-check_case-requires t c =
     let s = c.args.terms.now in
     let i = c.in-Split in
-    let scripts = split_scripts s c.args.step.now c.requires.step i.hyp i.name i.first i.second (i.is ∙ sym (rolls-Split i.hyp i.name i.first i.second)) in
-    (search (rules, kind.the_lemmas, step.the_lemmas, block.the_lemmas), (AreSaid-more s c.split.new.terms c.args.branch.now c.split.ensures.keeps c.requires.branch,
-    (c.in_ok-cases-in-Split.ensures.stored.0, script-more s c.split.new.terms i.first c.split.ensures.keeps scripts.0)))
+    let scripts = split_scripts s c.args.step.now c.requires.step i.hyp i.name i.first i.second (i.is ∙ sym (rolls-Split i.hyp i.name i.first i.second)) in (
+      search (rules, kind.the_lemmas, step.the_lemmas, block.the_lemmas),
+      (
+        AreSaid-more s c.split.new.terms c.args.branch.now c.split.ensures.keeps c.requires.branch,
+        (c.in_ok-cases-in-Split.ensures.stored.0, script-more s c.split.new.terms i.first c.split.ensures.keeps scripts.0),
+      ),
+    )
 
 pub check_step-returns-in_err-check_case-in-Split-clause-exact : goal.check_step-returns-in_err-check_case-in-Split-clause-exact
 check_step-returns-in_err-check_case-in-Split-clause-exact t c = λ rest.
@@ -100,9 +102,13 @@ check_step-check_case-requires-in-Split t c =
     let i = c.in-Split in
     let w = c.check_case.new.terms in
     let more = Extends-trans c.split.ensures.keeps c.check_case.ensures.keeps in
-    let scripts = split_scripts s c.args.step.now c.requires.step i.hyp i.name i.first i.second (i.is ∙ sym (rolls-Split i.hyp i.name i.first i.second)) in
-    (search (rules, kind.the_lemmas, step.the_lemmas, block.the_lemmas), (subst (AreSaid w) (sym c.in_ok-check_case-in-Split.ensures.branch) (AreSaid-more s w c.args.branch.now more c.requires.branch),
-    (IsLiteral-more c.split.new.terms w c.in_ok-cases-in-Split.cases.right c.check_case.ensures.keeps c.in_ok-cases-in-Split.ensures.stored.1, script-more s w i.second more scripts.1)))
+    let scripts = split_scripts s c.args.step.now c.requires.step i.hyp i.name i.first i.second (i.is ∙ sym (rolls-Split i.hyp i.name i.first i.second)) in (
+      search (rules, kind.the_lemmas, step.the_lemmas, block.the_lemmas),
+      (
+        subst (AreSaid w) (sym c.in_ok-check_case-in-Split.ensures.branch) (AreSaid-more s w c.args.branch.now more c.requires.branch),
+        (IsLiteral-more c.split.new.terms w c.in_ok-cases-in-Split.cases.right c.check_case.ensures.keeps c.in_ok-cases-in-Split.ensures.stored.1, script-more s w i.second more scripts.1),
+      ),
+    )
 
 pub check_step-returns-in_err-check_case-in-Split-2-clause-exact : goal.check_step-returns-in_err-check_case-in-Split-2-clause-exact
 check_step-returns-in_err-check_case-in-Split-2-clause-exact t c = λ rest.

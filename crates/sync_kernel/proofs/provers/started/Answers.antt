@@ -1,6 +1,5 @@
-use Rattle.std.proofs.Common.{List, map, length, ap, ◌∙◌, arith}
+use Rattle.std.proofs.Common.{map, length, ap, ◌∙◌, arith}
 use Rattle.std.proofs.lemmas.List.{take_all}
-use Rattle.sync_kernel.specs.declared.sequents.Hyp.{Hyp}
 use Rattle.sync_kernel.specs.Facts.{fact_of}
 use Rattle.sync_kernel.specs.Literals.{literal_form}
 use Rattle.sync_kernel.proofs.Adding.{start_fact, started_facts, add_said}

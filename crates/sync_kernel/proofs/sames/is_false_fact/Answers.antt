@@ -1,5 +1,3 @@
-use Rattle.std.proofs.Common.{◌≡◌, Err}
-use Rattle.sync_linear.specs.declared.stops.LinearStop.TheVariants.{Width}
 use Rattle.sync_kernel.specs.Literals.{literal_form}
 use Rattle.sync_kernel.specs.Rows.{row_of}
 use Rattle.sync_kernel.specs.Shapes.{row_shaped}

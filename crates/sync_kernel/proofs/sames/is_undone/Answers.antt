@@ -1,6 +1,5 @@
-use Rattle.std.proofs.Common.{◌≡◌, Bool, ◌&&◌, sym, ap, ◌∙◌}
+use Rattle.std.proofs.Common.{Bool, ◌&&◌, sym, ap, ◌∙◌}
 use Rattle.sync_kernel.specs.Branches.{facts_in}
-use Rattle.sync_kernel.specs.Literals.{literal_form}
 use Rattle.sync_kernel.specs.Opposed.{is_fact}
 use Rattle.sync_kernel.specs.Stacks.{saids}
 use Rattle.sync_kernel.proofs.Saying.{plain_says}

@@ -1,8 +1,7 @@
-use Rattle.std.proofs.Common.{◌≡◌, true, Bool, ◌||◌, List, take, cond, sym, ap, subst, ◌∙◌}
-use Rattle.std.specs.HashSet.{HashSet, contains}
+use Rattle.std.proofs.Common.{Bool, ◌||◌, List, take, sym, ap, subst, ◌∙◌}
+use Rattle.std.specs.HashSet.{contains}
 use Rattle.sync_terms.specs.Trees.{Formula}
 use Rattle.sync_kernel.specs.declared.branches.Held.{Held}
-use Rattle.sync_kernel.specs.declared.literals.Literal.{Literal}
 use Rattle.sync_kernel.specs.Facts.{Fact}
 use Rattle.sync_kernel.specs.Branches.{facts_in, said_fact}
 use Rattle.sync_kernel.specs.Literals.{IsLiteral, literal_form, same_literal}
@@ -30,12 +29,12 @@ loop-held-preserved c = λ x shared stored bare.
     let more = ap (λ (gs : List Fact). is_fact gs form) (sym (said_more s hs c.loop-held.held-index c.held-item.result c.loop-held-test.true c.held-item.is)) in
     elim c.if-is_empty.branch [
       | then-is_empty+in_ok-insert w ↦
-        ap (λ ls. contains same_literal ls x) w.literals-is
-        ∙ w.in_ok-insert.ensures.updates.0 x
-        ∙ cond_or (same_literal w.bare.result x) (contains same_literal c.loop-held.literals x)
-        ∙ ap (λ (b : Bool). b || same_literal w.bare.result x) (c.loop-held.invariant x shared stored bare)
-        ∙ fact_more fs f form (same_literal w.bare.result x) (sym plain ∙ w.if-is_empty.true)
-        (literals_tell s w.bare.result x shared w.bare.ensures.stored stored w.bare.ensures.bare bare ∙ ap (λ (g : Formula). formula_eq g form) w.bare.ensures.form)
-        ∙ more
+          ap (λ ls. contains same_literal ls x) w.literals-is
+          ∙ w.in_ok-insert.ensures.updates.0 x
+          ∙ cond_or (same_literal w.bare.result x) (contains same_literal c.loop-held.literals x)
+          ∙ ap (λ (b : Bool). b || same_literal w.bare.result x) (c.loop-held.invariant x shared stored bare)
+          ∙ fact_more fs f form (same_literal w.bare.result x) (sym plain ∙ w.if-is_empty.true)
+          (literals_tell s w.bare.result x shared w.bare.ensures.stored stored w.bare.ensures.bare bare ∙ ap (λ (g : Formula). formula_eq g form) w.bare.ensures.form)
+          ∙ more
       | else-is_empty w ↦ ap (λ ls. contains same_literal ls x) w.literals-is ∙ c.loop-held.invariant x shared stored bare ∙ fact_less fs f form (sym plain ∙ w.if-is_empty.false) ∙ more
     ])

@@ -1,4 +1,4 @@
-use Rattle.std.proofs.Common.{◌≡◌, ◌≤◌, Bool, false, List, take, Err, sym, ap, subst, ◌∙◌, arith}
+use Rattle.std.proofs.Common.{◌≡◌, false, List, take, Err, sym, ap, subst, ◌∙◌}
 use Rattle.std.specs.List.{list_any}
 use Rattle.std.proofs.lemmas.Bool.{and_from}
 use Rattle.std.proofs.lemmas.List.{take_all}
@@ -43,7 +43,7 @@ loop-held-preserved c =
     (none_closes (closes_same fs) (facts_in s (saids (take c.loop-held.held-index hs))) f c.loop-held.invariant
     (elim c.else-is_empty.branch [
       | else-is_empty-via-then-is_empty+in_ok-is_closing+else-branch w ↦
-        and_right_no (is_plain f) (is_closing fs f.form) (ap (λ (ys : List Said). is_closing (facts_in s ys) f.form) (sym c.held-facts.ensures) ∙ sym w.in_ok-is_closing.ensures ∙ w.if-branch.false)
+          and_right_no (is_plain f) (is_closing fs f.form) (ap (λ (ys : List Said). is_closing (facts_in s ys) f.form) (sym c.held-facts.ensures) ∙ sym w.in_ok-is_closing.ensures ∙ w.if-branch.false)
       | else-is_empty-via-else-is_empty w ↦ and_left_no (is_plain f) (is_closing fs f.form) (sym plain ∙ w.if-is_empty.false)
     ]))
 

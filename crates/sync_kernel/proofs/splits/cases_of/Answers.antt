@@ -1,8 +1,8 @@
-use Rattle.std.proofs.Common.{Option, sym, ap, subst, ◌∙◌}
+use Rattle.std.proofs.Common.{sym, ap, subst, ◌∙◌}
 use Rattle.sync_terms.specs.Stored.{formula}
 use Rattle.sync_terms.proofs.Extending.{Extends-refl}
 use Rattle.sync_kernel.specs.Literals.{literal_form, IsLiteral, TakesApart}
-use Rattle.sync_kernel.specs.Taking.{Two, cases_of, cases_of_not}
+use Rattle.sync_kernel.specs.Taking.{cases_of, cases_of_not}
 use Rattle.sync_kernel.proofs.Saying.{or_cases_of, imp_cases_of, not_cases, no_cases, taken_some, taken_none, plain_says, says_plain}
 use Rattle.sync_kernel.proofs.splits.cases_of.Goals as goal
 

@@ -1,4 +1,3 @@
-use Rattle.std.proofs.Common.{◌≡◌, Err}
 use Rattle.std.proofs.lemmas.Result.{err_from_is_err_and}
 use Rattle.sync_kernel.proofs.Saying.{orders_below, orders_above, orders_forms}
 use Rattle.sync_kernel.proofs.splits.orders.Goals as goal

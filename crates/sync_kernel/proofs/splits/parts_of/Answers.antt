@@ -1,7 +1,7 @@
 use Rattle.std.proofs.Common.{sym, ap, ◌∙◌}
 use Rattle.std.specs.Prelude.{option_map}
 use Rattle.sync_terms.specs.Stored.{formula}
-use Rattle.sync_kernel.specs.Literals.{literal_form, pair_forms}
+use Rattle.sync_kernel.specs.Literals.{pair_forms}
 use Rattle.sync_kernel.specs.Taking.{parts_of, parts_of_not}
 use Rattle.sync_kernel.proofs.Saying.{and_parts_of, not_parts, no_parts, plain_says, says_plain}
 use Rattle.sync_kernel.proofs.splits.parts_of.Goals as goal

@@ -1,4 +1,4 @@
-use Rattle.std.proofs.Common.{◌≡◌, List, subst}
+use Rattle.std.proofs.Common.{◌≡◌, subst}
 use Rattle.sync_terms.specs.Trees.{Formula}
 use Rattle.sync_kernel.specs.Branches.{facts_in}
 use Rattle.sync_kernel.specs.Scripts.{with_fact, fitting}

@@ -5,7 +5,7 @@ use Rattle.sync_terms.specs.Kept.{limit}
 use Rattle.sync_kernel.specs.declared.splits.Pair.{Pair}
 use Rattle.sync_kernel.specs.Facts.{facts_size}
 use Rattle.sync_kernel.specs.Branches.{facts_in}
-use Rattle.sync_kernel.specs.Literals.{literal_form, pair_forms}
+use Rattle.sync_kernel.specs.Literals.{pair_forms}
 use Rattle.sync_kernel.specs.Scripts.{with_fact, Cases, cases_with, both_fitting}
 use Rattle.sync_kernel.proofs.Fitting.{fits_with, both_if}
 use Rattle.sync_kernel.proofs.Stepping.{leaves_ok, stops_at}
@@ -30,8 +30,8 @@ returns-else-fits-clause-leaves c = λ name.
     stops_at c.args.line c.refusal.result K8 (both_fitting (facts_in s xs) name forms) c.refusal.ensures
     (elim c.else-fits.branch [
       | else-fits-via-then-fits+else-fits-2 w ↦ both_if (facts_in s xs) name forms true false
-        (fits_with s xs name c.size.result forms.left true c.requires.branch c.size.ensures.size (sym w.if-fits.true ∙ c.fits.ensures))
-        (fits_with s xs name w.size-then-fits.result forms.right false c.requires.branch w.size-then-fits.ensures.size (sym w.if-fits-2.false ∙ w.fits-then-fits.ensures))
+          (fits_with s xs name c.size.result forms.left true c.requires.branch c.size.ensures.size (sym w.if-fits.true ∙ c.fits.ensures))
+          (fits_with s xs name w.size-then-fits.result forms.right false c.requires.branch w.size-then-fits.ensures.size (sym w.if-fits-2.false ∙ w.fits-then-fits.ensures))
       | else-fits-via-else-fits w ↦ both_if (facts_in s xs) name forms false (not (nat_lt limit (facts_size (with_fact (facts_in s xs) name forms.right))))
-        (fits_with s xs name c.size.result forms.left false c.requires.branch c.size.ensures.size (sym w.if-fits.false ∙ c.fits.ensures)) refl
+          (fits_with s xs name c.size.result forms.left false c.requires.branch c.size.ensures.size (sym w.if-fits.false ∙ c.fits.ensures)) refl
     ]))

@@ -3,7 +3,6 @@ use Rattle.std.specs.List.{All, zip}
 use Rattle.sync_base.specs.declared.stops.Rule.TheVariants.{K1, K3}
 use Rattle.sync_terms.specs.declared.nodes.Sym.{Sym}
 use Rattle.sync_terms.specs.declared.nodes.TermId.{TermId}
-use Rattle.sync_terms.specs.declared.store.TermStop.TheVariants.{TooLarge}
 use Rattle.sync_terms.specs.Kept.{limit}
 use Rattle.sync_terms.specs.Trees.{formula_size, replaced_in}
 use Rattle.sync_terms.specs.Stored.{tree, formula, IsTerm}

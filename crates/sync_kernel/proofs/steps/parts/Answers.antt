@@ -1,4 +1,4 @@
-use Rattle.std.proofs.Common.{◌≡◌, List, Result, Ok, sym, ap, subst, ◌∙◌}
+use Rattle.std.proofs.Common.{◌≡◌, Result, sym, subst}
 use Rattle.std.proofs.lemmas.Result.{err_from_is_err_and}
 use Rattle.sync_base.specs.Outcome.{◌>>=◌}
 use Rattle.sync_base.specs.declared.stops.Rule.{Rule}
@@ -8,7 +8,7 @@ use Rattle.sync_kernel.specs.Branches.{facts_in}
 use Rattle.sync_kernel.specs.Literals.{literal_form, IsLiteral, pair_forms}
 use Rattle.sync_kernel.specs.Taking.{Two, parts_of, plain_fact, taken}
 use Rattle.sync_kernel.specs.Scripts.{with_fact, fitting, with_parts}
-use Rattle.sync_kernel.specs.Holding.{StopsFor, Leaves}
+use Rattle.sync_kernel.specs.Holding.{StopsFor}
 use Rattle.sync_kernel.proofs.Stepping.{leaves_err, behind_first}
 use Rattle.sync_kernel.proofs.Adding.{still_stops, parts_taken}
 use Rattle.sync_kernel.proofs.steps.parts.Goals as goal

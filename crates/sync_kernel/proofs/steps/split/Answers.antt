@@ -1,4 +1,4 @@
-use Rattle.std.proofs.Common.{◌≡◌, List, Option, Some, Result, Ok, sym, ap, subst, ◌∙◌}
+use Rattle.std.proofs.Common.{◌≡◌, Option, Result, Ok, sym, ap, subst, ◌∙◌}
 use Rattle.sync_base.specs.Outcome.{◌>>=◌}
 use Rattle.sync_base.specs.declared.stops.Rule.{Rule}
 use Rattle.sync_terms.specs.Trees.{Formula}
@@ -8,7 +8,7 @@ use Rattle.sync_kernel.specs.Facts.{Fact, newest}
 use Rattle.sync_kernel.specs.Branches.{facts_in}
 use Rattle.sync_kernel.specs.Literals.{literal_form, IsLiteral, pair_forms, TakesApart}
 use Rattle.sync_kernel.specs.Taking.{Two, cases_of, plain_fact, taken}
-use Rattle.sync_kernel.specs.Scripts.{Cases, cases_with, both_fitting, with_cases}
+use Rattle.sync_kernel.specs.Scripts.{Cases, cases_with, both_fitting}
 use Rattle.sync_kernel.specs.Holding.{StopsFor, Leaves}
 use Rattle.sync_kernel.proofs.Stepping.{behind_first}
 use Rattle.sync_kernel.proofs.Adding.{cases_taken, cases_stop, cases_from}
