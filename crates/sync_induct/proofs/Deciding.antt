@@ -1,6 +1,6 @@
 -- The answer on a whole machine, and the machine over its store that has grown.
-use Rattle.std.proofs.Common.{◌≡◌, ℕ, Bool, true, false, List, [], ◌∷◌, map, All, Option, Some, None, Result, Ok, Err, refl, sym, ap, subst, ◌∙◌}
-use Rattle.std.specs.Prelude.{slice_get, if◌then◌else◌}
+use Rattle.std.proofs.Common.{◌≡◌, ℕ, Bool, List, [], ◌∷◌, map, All, Option, Some, None, Err, refl, sym, ap, subst, ◌∙◌}
+use Rattle.std.specs.Prelude.{slice_get}
 use Rattle.std.specs.Option.{option_map}
 use Rattle.std.specs.List.{AllByRecursion}
 use Rattle.std.proofs.lemmas.Option.{slice_get-map}
@@ -14,19 +14,16 @@ use Rattle.sync_machine.specs.declared.machine.Invariant.{Invariant}
 use Rattle.sync_machine.specs.declared.machine.Step.{Step}
 use Rattle.sync_machine.specs.declared.machine.Operation.{Operation}
 use Rattle.sync_machine.specs.declared.machine.Machine.{Machine}
-use Rattle.sync_machine.specs.Machines.{OperationTree, MachineTree}
+use Rattle.sync_machine.specs.Machines.{MachineTree}
 use Rattle.sync_machine.specs.Views.{operation_tree, invariant_tree, machine_tree, HasActIds, HasOwnIds}
 use Rattle.sync_machine.specs.Scope.{IsNamed}
-use Rattle.sync_rules.specs.Strategies.{AreAllowed}
 use Rattle.sync_rules.specs.declared.claims.Obligation.{Obligation}
 use Rattle.sync_rules.specs.Obligations.{obligations_of}
 use Rattle.sync_induct.specs.declared.index.Title.{Title}
-use Rattle.sync_induct.specs.Titles.{titled, same_title}
 use Rattle.sync_induct.specs.declared.proofs.Proof.{Proof}
 use Rattle.sync_induct.specs.Checklist.{checks_from, checks_of}
 use Rattle.sync_induct.specs.Checks.{ProofTree, title_of, titles_of, proofs_in, has_title, stray_fault, checks_fault, proof_fault}
 use Rattle.sync_induct.specs.Closing.{IsKeepable, AreWanted}
-use Rattle.sync_induct.specs.Duties.{Duty}
 use Rattle.sync_induct.proofs.Lasting.{operation-stays, invariants-stay}
 use Rattle.sync_induct.proofs.Ready.{operations-ids, invariants-keepable}
 use Rattle.sync_induct.proofs.Wanting.{wanted-of}

@@ -20,7 +20,7 @@ use Rattle.sync_induct.specs.declared.proofs.Proof.{Proof}
 use Rattle.sync_induct.specs.Duties.{Duty, facts_of, givens_of}
 use Rattle.sync_induct.specs.Titles.{titled, same_title, first_at}
 use Rattle.sync_induct.proofs.Titles.{none_of}
-use Rattle.sync_induct.specs.Checks.{ProofTree, title_of, titles_of, proofs_in, proof_of, facts_size, sequent_size, is_large, judged, duty_fault, capped}
+use Rattle.sync_induct.specs.Checks.{ProofTree, title_of, titles_of, proofs_in, proof_of, sequent_size, is_large, judged, duty_fault}
 
 cond_at : {A : Type 0} (b : Bool) (x y : A) → b ≡ true → cond b x y ≡ x
 cond_at true x y e = refl

@@ -1,6 +1,6 @@
 -- The duties among the checks of a machine are all that has to be proved of it.
-use Rattle.std.proofs.Common.{ℕ, suc, List, [], ◌∷◌, ◌++◌, Option, Some, None}
-use Rattle.sync_terms.specs.Trees.{Tree, Formula}
+use Rattle.std.proofs.Common.{ℕ, suc, List, [], ◌∷◌, ◌++◌}
+use Rattle.sync_terms.specs.Trees.{Tree}
 use Rattle.sync_machine.specs.declared.fields.Field.{Field}
 use Rattle.sync_machine.specs.Machines.{StepTree, OperationTree, InvariantTree, MachineTree}
 use Rattle.sync_machine.specs.Statements.{safety}

@@ -1,5 +1,5 @@
 -- One statement of an operation: its checks one after another, and the walk behind it.
-use Rattle.std.proofs.Common.{◌≡◌, ℕ, zero, suc, ◌<◌, ◌≤◌, true, false, cond, List, [], ◌∷◌, ◌++◌, map, Option, Some, None, Result, Ok, Err, refl, sym, ap, subst, ◌∙◌, arith}
+use Rattle.std.proofs.Common.{◌≡◌, ℕ, zero, suc, ◌<◌, ◌≤◌, List, [], ◌∷◌, ◌++◌, map, Option, Some, None, Result, Ok, Err, refl, sym, ap, subst, ◌∙◌, arith}
 use Rattle.std.specs.Prelude.{OnOk, slice_get, slice_index_or}
 use Rattle.std.specs.List.{AllByRecursion}
 use Rattle.std.specs.Option.{IfSome}
@@ -30,8 +30,8 @@ use Rattle.sync_rules.specs.declared.claims.Claim.TheVariants as claims
 use Rattle.sync_rules.specs.declared.claims.Obligation.{Obligation}
 use Rattle.sync_induct.specs.declared.statements.Statement.{Statement}
 use Rattle.sync_induct.specs.declared.walks.Walk.{Walk}
-use Rattle.sync_induct.specs.Duties.{Duty, safety_duties, condition_facts, step_facts, IsProved}
-use Rattle.sync_induct.specs.Checklist.{Check, Proves, Fits, proves, IsShown, AreShown}
+use Rattle.sync_induct.specs.Duties.{Duty, safety_duties, condition_facts, IsProved}
+use Rattle.sync_induct.specs.Checklist.{Check, Proves, Fits, proves, AreShown}
 use Rattle.sync_induct.specs.Checks.{ProofTree, duty_of, duty_fault, size_fault, check_fault, checks_fault}
 use Rattle.sync_induct.specs.Walks.{IsWalk, HasCome, IsStatement, values_of, known_of, safety_at, condition_at, value_at, owed, tree_or_nil, values_with, checks_at, facts_after, values_after}
 use Rattle.sync_induct.proofs.Lasting.{act-ids, step-stays, facts-stay, known-stays, values-stay}

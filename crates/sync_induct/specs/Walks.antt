@@ -44,6 +44,11 @@ pub record HasCome (s : Stored) (w : Walk) (facts : List Fact) (values : List Tr
 
 -- ---- one statement
 
+-- a value; the empty map where there is none
+abbrev pub tree_or_nil : Stored → Option TermId → Tree
+tree_or_nil s (Some id) = tree s id
+tree_or_nil s None = Nil
+
 -- The code holds the statement x, which has the number n in the operation op, with its field's strategy and value so far.
 pub record IsStatement (s : Stored) (fs : List Field) (op n : ℕ) (cur : List Tree) (x : StepTree) (a : Statement) : Type 0 where
   pub owner : a.op ≡ op
@@ -54,12 +59,7 @@ pub record IsStatement (s : Stored) (fs : List Field) (op n : ℕ) (cur : List T
   pub stored : IsTerm s a.current
   pub value : tree s a.current ≡ current_of cur x.act
 
--- a value; the empty map where there is none
-abbrev pub tree_or_nil : Stored → Option TermId → Tree
-tree_or_nil s (Some id) = tree s id
-tree_or_nil s None = Nil
-
--- its safety condition, what is known behind it, and its field's value behind it
+-- the safety condition of a statement, what is known behind it, and its field's value behind it
 abbrev pub safety_at : Stored → Statement → Option Formula
 safety_at s a = safety a.strategy (tree s a.current) (act_tree s a.step.act)
 

@@ -65,8 +65,8 @@ proof_stops (Refused r) before s next p o n c operation claim few is h =
 
 -- ---- scripts
 
-one_list : (ps qs : List ProofTree) (s : Scope) → Ok (ps, s) ≡ Ok (qs, s) → ps ≡ qs
-one_list ps qs s e = let p : (ps, s) ≡ (qs, s) = cc in ap (λ (q : List ProofTree × Scope). q.0) p
+one_answer : (wanted : Result (List ProofTree × Scope) Refusal) (p q : List ProofTree × Scope) → wanted ≡ Ok p → wanted ≡ Ok q → p ≡ q
+one_answer wanted p q e f = let g : Ok p ≡ Ok q = sym e ∙ f in cc
 
 first_same : (p q : ProofTree) (ps qs : List ProofTree) → p ∷ ps ≡ q ∷ qs → p ≡ q
 first_same p q ps qs e = cc
@@ -83,7 +83,8 @@ same_scripts s (p ∷ ps) h = (
 
 -- what the proofs of a text mean over every larger store does not depend on it, so their scripts are of the store
 pub own_scripts : (s : Stored) (ps : List Proof) (next : Scope) (wanted : Result (List ProofTree × Scope) Refusal) → ((t : Stored) → Extends s t → wanted ≡ Ok (map (stored_proof t) ps, next)) → AreScriptsOf s ps
-own_scripts s ps next wanted h = same_scripts s ps (λ t e. one_list (map (stored_proof t) ps) (map (stored_proof s) ps) next (sym (h t e) ∙ h s (Extends-refl s)))
+own_scripts s ps next wanted h =
+    same_scripts s ps (λ t e. ap (λ (q : List ProofTree × Scope). q.0) (one_answer wanted (map (stored_proof t) ps, next) (map (stored_proof s) ps, next) (h t e) (h s (Extends-refl s))))
 
 -- ---- machines
 

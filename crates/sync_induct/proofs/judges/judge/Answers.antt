@@ -2,8 +2,7 @@ use Rattle.std.proofs.Common.{◌≡◌, ◌+◌, ◌<◌, ◌≤◌, Some, None
 use Rattle.std.specs.Prelude.{slice_get}
 use Rattle.sync_terms.specs.Stored.{formula}
 use Rattle.sync_terms.specs.Plans.{plan_of}
-use Rattle.sync_induct.specs.Checks.{titles_of, proofs_in, proof_of, duty_of, facts_size, sequent_size}
-use Rattle.sync_induct.specs.Duties.{facts_of}
+use Rattle.sync_induct.specs.Checks.{titles_of, proofs_in, duty_of, facts_size, sequent_size}
 use Rattle.sync_induct.specs.Titles.{titled, first_at}
 use Rattle.sync_induct.proofs.Judging.{missing, script-at, place-there, judged-none, judged-large, judged-script, passes-same, valid-same, too-large, not-large}
 use Rattle.sync_induct.proofs.judges.judge.Goals as goal

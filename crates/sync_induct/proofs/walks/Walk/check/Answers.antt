@@ -1,4 +1,3 @@
-use Rattle.std.proofs.Common.{refl}
 use Rattle.sync_terms.proofs.Extending.{Extends-trans}
 use Rattle.sync_induct.specs.Checks.{proofs_in, duty_of}
 use Rattle.sync_induct.proofs.Judging.{large-claim}
