@@ -1,8 +1,7 @@
 -- What is written down stays while the store grows, and is no smaller than its parts.
 use Rattle.std.proofs.Common.{◌≡◌, ◌≤◌, refl, ap, arith}
-use Rattle.sync_terms.specs.Trees.{Tree, Add, Sub, Get, Has, Size, Sum, Formula, Le, Lt, Eq, Not, And, Or, Imp, tree_size, formula_size}
-use Rattle.sync_terms.specs.Stored.{Stored, tree, IsTerm, Extends}
-use Rattle.sync_terms.specs.declared.nodes.TermId.{TermId}
+use Rattle.sync_terms.specs.Trees.{Tree, Add, Sub, Get, Has, Size, Sum, Formula, Not, tree_size, formula_size}
+use Rattle.sync_terms.specs.Stored.{Stored, Extends}
 use Rattle.sync_facts.specs.declared.drafts.Part.{Part}
 use Rattle.sync_facts.specs.declared.drafts.Part.TheVariants as part
 use Rattle.sync_facts.specs.declared.drafts.Value.{Value}

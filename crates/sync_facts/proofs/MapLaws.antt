@@ -1,5 +1,5 @@
 -- Laws of finite maps: what a change leaves at a key, the number of keys, and the sum of the values.
-use Rattle.std.proofs.Common.{◌≡◌, ◌≢◌, ◌⊎◌, inl, inr, ℕ, zero, suc, ◌+◌, ◌-◌, ◌≤◌, ◌<◌, ℤ, pos, ◌+ℤ◌, ◌-ℤ◌, Bool, true, false, cond, ◌&&◌, if◌then◌else◌, List, [], ◌∷◌, map, length, Option, Some, None, is_some, unwrap_or, Ordering, Less, Equal, Greater, refl, sym, ap, subst, ◌∙◌, arith}
+use Rattle.std.proofs.Common.{◌≡◌, ◌≢◌, ◌⊎◌, inl, inr, ℕ, zero, suc, ◌+◌, ◌-◌, ◌≤◌, ℤ, pos, ◌+ℤ◌, ◌-ℤ◌, Bool, true, false, cond, ◌&&◌, if◌then◌else◌, List, [], ◌∷◌, map, length, Option, Some, None, is_some, unwrap_or, Ordering, Less, Equal, Greater, refl, sym, ap, subst, ◌∙◌, arith}
 use Rattle.std.specs.Prelude.{int_lt, ◌≤ℤ◌, ◌<ℤ◌, T}
 use Rattle.std.specs.Ordering.{int_cmp, int_eq, is_eq, is_lt, eq_by_cmp}
 use Rattle.std.specs.Cmp.{int_ranked, int_cmp_total}
@@ -7,7 +7,7 @@ use Rattle.std.specs.FinMap as finmap
 use Rattle.std.specs.FinMap.{int_cmp-IsAntisymmetric, get-insert, get-remove, get-empty, get-entries, len-insert, len-remove, len-empty, len-entries, empty_of_len, entries-insert, entries_sorted, same_map, entries}
 use Rattle.std.specs.FinMap.Entries.{find, put, is_sorted, below_all, by_order}
 use Rattle.std.proofs.lemmas.Int.{ints}
-use Rattle.std.proofs.lemmas.Bool.{and_parts, cases_Bool, cond-true, cond-false, false_from_ne_true}
+use Rattle.std.proofs.lemmas.Bool.{cond-true, cond-false, false_from_ne_true}
 use Rattle.std.proofs.lemmas.Bool.Decides.{Decides-int_eq}
 use Rattle.sync_terms.specs.Maps as maps
 use Rattle.sync_terms.specs.Maps.{Map, added_up}

@@ -5,7 +5,7 @@ use Rattle.sync_terms.specs.declared.nodes.TermId.{TermId}
 use Rattle.sync_terms.specs.declared.nodes.Node.{Node}
 use Rattle.sync_terms.specs.declared.nodes.Node.TheVariants as node
 use Rattle.sync_terms.specs.Stored.{Stored, shape}
-use Rattle.sync_terms.specs.Trees.{Tree, Lit, Name, Add, Sub, Scale, Get, Has, Size, Sum, Nil, Put, Del, Bump, Formula, Le, Lt, Eq, Not, And, Or, Imp}
+use Rattle.sync_terms.specs.Trees.{Tree, Lit, Name, Add, Sub, Scale, Get, Has, Size, Sum, Nil, Put, Del, Bump, Le, Eq}
 use Rattle.sync_facts.specs.Lemmas.{zero, one, is_there, is_gone, is_raised, any_read, changed_read, read_fact, size_law, sum_law}
 use Rattle.sync_facts.specs.Building.{node_tree}
 use Rattle.sync_facts.proofs.Making.{shape-node}

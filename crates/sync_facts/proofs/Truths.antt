@@ -1,5 +1,5 @@
 -- The formulas on maps are true under every valuation.
-use Rattle.std.proofs.Common.{◌≡◌, ◌≢◌, ◌⊎◌, inl, inr, ℕ, ℤ, pos, ◌+ℤ◌, ◌-ℤ◌, Bool, true, false, ◌&&◌, ◌||◌, refl, sym, ap, subst, ◌∙◌, arith}
+use Rattle.std.proofs.Common.{◌≡◌, ◌≢◌, inl, inr, ℤ, pos, Bool, true, false, ◌&&◌, ◌||◌, refl, ap, arith}
 use Rattle.std.specs.Prelude.{not, int_le, int_lt, ◌≤ℤ◌}
 use Rattle.std.specs.Ordering.{int_eq, int_cmp}
 use Rattle.std.specs.FinMap as finmap
@@ -7,7 +7,7 @@ use Rattle.std.specs.FinMap.{get-empty}
 use Rattle.std.proofs.lemmas.Int.{ints}
 use Rattle.std.proofs.lemmas.Bool.{and_from, and_parts, or_left, or_right}
 use Rattle.std.proofs.lemmas.Bool.Decides.{Decides-int_eq}
-use Rattle.sync_terms.specs.Trees.{Tree, Lit, Name, Add, Sub, Scale, Get, Has, Size, Sum, Nil, Put, Del, Bump, Formula, Le, Lt, Eq, Not, And, Or, Imp}
+use Rattle.sync_terms.specs.Trees.{Tree, Lit, Name, Add, Sub, Scale, Get, Has, Size, Sum, Nil, Put, Del, Bump, Formula, Le, Eq, And, Imp}
 use Rattle.sync_terms.specs.Values.{Valuation, num, mapped, truth, Holds}
 use Rattle.sync_terms.specs.Maps as maps
 use Rattle.sync_facts.specs.Lemmas.{zero, one, alike, is_there, is_gone, cong_fact, any_read, changed_read, is_raised, read_fact, size_law, size_fact, sum_law, small_sums, total_fact}

@@ -1,6 +1,6 @@
 -- What can be said of any map at a key: formulas that are true whatever their symbols stand for.
 use Rattle.std.specs.Prelude.{pos}
-use Rattle.sync_terms.specs.Trees.{Tree, Lit, Name, Add, Sub, Scale, Get, Has, Size, Sum, Nil, Put, Del, Bump, Formula, Le, Lt, Eq, Not, And, Or, Imp}
+use Rattle.sync_terms.specs.Trees.{Tree, Lit, Add, Sub, Get, Has, Size, Sum, Nil, Put, Del, Bump, Formula, Le, Lt, Eq, Not, And, Or, Imp}
 
 abbrev pub zero : Tree
 zero = Lit (pos 0)

@@ -8,12 +8,11 @@ ghost use Rattle.sync_facts.specs.Drafts.{draft_formula, IsDraft};
 ghost use Rattle.sync_facts.specs.Lemmas.{is_there, is_gone, is_raised, is_present_within, small_sums, cong_fact as cong_form, any_read as any_form, changed_read as changed_form, read_fact as read_form, size_fact as size_form, size_law as size_law_form, sum_law as sum_law_form, total_fact as total_form};
 
 use crate::drafts::{Connective, Draft, Part, Relation, Value, formula};
-use sync_terms::{FormId, Node, TermId, TermStop, Terms};
-
 use Connective::{And, Implies, Or};
 use Part::{Get, Has, Number, Size, Stored, Sum};
 use Relation::{AtMost, Below, Equal};
 use Value::{Minus, Only, Plus, PlusMinus};
+use sync_terms::{FormId, Node, TermId, TermStop, Terms};
 
 /// At equal keys a map has the same.
 pub fn cong_fact(
@@ -81,8 +80,16 @@ fn changed_read(terms: &mut Terms, of: Change, change: &Draft<'_>) -> Result<For
     ensures keeps { Extends terms.old terms.new }
 {
     let same = Draft::Test(Equal, Only(Stored(of.key)), Only(Stored(of.at)));
-    let values = Draft::Test(Equal, Only(Get(of.map, of.key)), Only(Get(of.inner, of.key)));
-    let presence = Draft::Test(Equal, Only(Has(of.map, of.key)), Only(Has(of.inner, of.key)));
+    let values = Draft::Test(
+        Equal,
+        Only(Get(of.map, of.key)),
+        Only(Get(of.inner, of.key)),
+    );
+    let presence = Draft::Test(
+        Equal,
+        Only(Has(of.map, of.key)),
+        Only(Has(of.inner, of.key)),
+    );
     let here = Draft::Join(And, &same, change);
     let apart = Draft::Not(&same);
     let alike = Draft::Join(And, &values, &presence);

@@ -7,3 +7,6 @@ mod lemmas;
 
 pub use laws::facts_are_true;
 pub use lemmas::{cong_fact, read_fact, size_fact, total_fact};
+
+#[cfg(test)]
+mod tests;
