@@ -1,6 +1,6 @@
 //! Sequents with their scripts.
 ghost use Rattle.std.specs.Prelude.{◌≡◌, IfOk, All};
-ghost use Rattle.sync_terms.specs.Stored.{Stored, Extends, IsTerm, IsForm};
+ghost use Rattle.sync_terms.specs.Stored.{Extends, IsTerm, IsForm};
 ghost use Rattle.sync_terms.specs.Plans.{IsScriptOf};
 ghost use Rattle.sync_kernel.specs.Holding.{AreForms};
 ghost use Rattle.sync_kernel.specs.Scripts.{IsStepOf};
@@ -16,8 +16,8 @@ use sync_terms::{FormId, FormNode, Node, Sym, TermId, Terms};
 
 /// A block without steps.
 #[tactic(auto, using(crate::proofs::Making::empty_of))]
-fn block(alloc: Global, end_line: u32) -> Block
-    ensures { (s : Stored) → IsScriptOf s result }
+fn block(alloc: Global, terms: &Terms, end_line: u32) -> Block
+    ensures { IsScriptOf terms.now result }
 {
     Block {
         steps: Items::new(alloc),
@@ -40,8 +40,8 @@ fn with(terms: &Terms, block: Block, step: ScriptStep) -> Result<Block, AllocErr
 }
 
 #[tactic(auto, using(crate::proofs::Making::same_of))]
-fn same(line: u32) -> ScriptStep
-    ensures { (s : Stored) → IsStepOf s result }
+fn same(terms: &Terms, line: u32) -> ScriptStep
+    ensures { IsStepOf terms.now result }
 {
     ScriptStep {
         what: StepKind::Same,
@@ -50,8 +50,14 @@ fn same(line: u32) -> ScriptStep
 }
 
 /// A sum of these facts, each so many times.
-fn sum(alloc: Global, parts: &[(i128, HypName)], line: u32) -> Result<ScriptStep, AllocError>
-    ensures { IfOk result (λ step. (s : Stored) → IsStepOf s step) }
+#[tactic(auto, using(crate::proofs::Making::sum_of))]
+fn sum(
+    alloc: Global,
+    terms: &Terms,
+    parts: &[(i128, HypName)],
+    line: u32,
+) -> Result<ScriptStep, AllocError>
+    ensures { IfOk result (IsStepOf terms.now) }
 {
     let mut list = Items::new(alloc);
     for (times, hyp) in parts {
@@ -67,8 +73,8 @@ fn sum(alloc: Global, parts: &[(i128, HypName)], line: u32) -> Result<ScriptStep
 }
 
 #[tactic(auto, using(crate::proofs::Making::parts_of))]
-fn parts(hyp: HypName, left: u32, right: u32, line: u32) -> ScriptStep
-    ensures { (s : Stored) → IsStepOf s result }
+fn parts(terms: &Terms, hyp: HypName, left: u32, right: u32, line: u32) -> ScriptStep
+    ensures { IsStepOf terms.now result }
 {
     ScriptStep {
         what: StepKind::Parts(hyp, left, right),
@@ -76,7 +82,6 @@ fn parts(hyp: HypName, left: u32, right: u32, line: u32) -> ScriptStep
     }
 }
 
-#[tactic(auto, using(crate::proofs::Making::inst_of))]
 fn inst(terms: &Terms, hyp: HypName, list: Items<TermId>, name: u32, line: u32) -> ScriptStep
     requires { All (IsTerm terms.now) list }
     ensures { IsStepOf terms.now result }
@@ -150,9 +155,10 @@ fn answer(
 }
 
 /// A claim without hypotheses.
-fn claimed(alloc: Global, claim: FormId) -> Sequent
-    ensures hyps { (s : Stored) → AreForms s result.hyps }
-    ensures claim { result.claim ≡ claim }
+fn claimed(alloc: Global, terms: &Terms, claim: FormId) -> Sequent
+    requires { IsForm terms.now claim }
+    ensures hyps { AreForms terms.now result.hyps }
+    ensures claim { IsForm terms.now result.claim }
 {
     Sequent {
         hyps: Items::new(alloc),
@@ -191,19 +197,24 @@ fn put_claim(terms: &mut Terms) -> Result<Put, Fail>
 fn read_of_put(alloc: Global, times: i128) -> Result<Option<(u32, Rule)>, Fail> {
     let mut terms = Terms::new(alloc);
     let r = put_claim(&mut terms)?;
-    let here = block(alloc, 23);
-    let here = with(&terms, here, parts(HypName::Label(2), 3, 4, 20))?;
-    let here = with(&terms, here, parts(HypName::Label(4), 5, 6, 21))?;
+    let here = block(alloc, &terms, 23);
+    let here = with(&terms, here, parts(&terms, HypName::Label(2), 3, 4, 20))?;
+    let here = with(&terms, here, parts(&terms, HypName::Label(4), 5, 6, 21))?;
     let both = [(1, HypName::Denied), (times, HypName::Label(5))];
-    let here = with(&terms, here, sum(alloc, &both, 22)?)?;
-    let elsewhere = block(alloc, 32);
-    let elsewhere = with(&terms, elsewhere, parts(HypName::Label(2), 3, 4, 30))?;
-    let elsewhere = with(&terms, elsewhere, same(31))?;
-    let steps = block(alloc, 12);
+    let here = with(&terms, here, sum(alloc, &terms, &both, 22)?)?;
+    let elsewhere = block(alloc, &terms, 32);
+    let elsewhere = with(
+        &terms,
+        elsewhere,
+        parts(&terms, HypName::Label(2), 3, 4, 30),
+    )?;
+    let elsewhere = with(&terms, elsewhere, same(&terms, 31))?;
+    let steps = block(alloc, &terms, 12);
     let steps = with(&terms, steps, read(&terms, r.put, r.zero, 1, 10))?;
     let cases = split(&terms, HypName::Label(1), 2, here, elsewhere, 11);
     let steps = with(&terms, steps, cases)?;
-    answer(alloc, &mut terms, &claimed(alloc, r.claim), steps)
+    let sequent = claimed(alloc, &terms, r.claim);
+    answer(alloc, &mut terms, &sequent, steps)
 }
 
 #[test]
@@ -221,6 +232,7 @@ fn a_put_is_read(rt: HostRuntime) -> Result<(), Fail> {
 fn with_params(alloc: Global, terms: &mut Terms) -> Result<Sequent, Fail>
     ensures hyps { IfOk result (λ q. AreForms terms.new q.hyps) }
     ensures claim { IfOk result (λ q. IsForm terms.new q.claim) }
+    ensures keeps { Extends terms.old terms.new }
 {
     let x = terms.add_term(Node::Name(Sym(1)))?;
     let y = terms.add_term(Node::Name(Sym(2)))?;
@@ -249,40 +261,27 @@ fn instance(
     requires claim { IsForm terms.old sequent.now.claim }
     requires list { All (IsTerm terms.old) list }
 {
-    let steps = block(alloc, 12);
+    let steps = block(alloc, terms, 12);
     let steps = with(terms, steps, inst(terms, HypName::Label(1), list, 2, 10))?;
-    let steps = with(terms, steps, same(11))?;
+    let steps = with(terms, steps, same(terms, 11))?;
     answer(alloc, terms, sequent, steps)
 }
 
-/// Two numbers as terms.
+/// What is answered to an instance at these two numbers.
 #[tactic(auto, using(crate::proofs::Stays::stays))]
-fn numbers(
-    alloc: Global,
-    terms: &mut Terms,
-    first: i128,
-    second: i128,
-) -> Result<Items<TermId>, Fail>
-    ensures list { IfOk result (All (IsTerm terms.new)) }
-    ensures keeps { Extends terms.old terms.new }
-{
+fn at_numbers(alloc: Global, first: i128, second: i128) -> Result<Option<(u32, Rule)>, Fail> {
+    let mut terms = Terms::new(alloc);
     let first = terms.add_term(Node::Lit(first))?;
     let second = terms.add_term(Node::Lit(second))?;
+    let sequent = with_params(alloc, &mut terms)?;
     let mut list = Items::new(alloc);
     list.push(first)?;
     list.push(second)?;
-    Ok(list)
-}
-
-/// What is answered to an instance at these two numbers.
-fn at_numbers(alloc: Global, first: i128, second: i128) -> Result<Option<(u32, Rule)>, Fail> {
-    let mut terms = Terms::new(alloc);
-    let list = numbers(alloc, &mut terms, first, second)?;
-    let sequent = with_params(alloc, &mut terms)?;
     instance(alloc, &mut terms, &sequent, list)
 }
 
 /// What is answered to an instance with one term.
+#[tactic(auto, using(crate::proofs::Stays::stays))]
 fn at_one(alloc: Global) -> Result<Option<(u32, Rule)>, Fail> {
     let mut terms = Terms::new(alloc);
     let one = terms.add_term(Node::Lit(1))?;
@@ -341,8 +340,8 @@ fn known(alloc: Global, number: u32, form: FormId) -> Hyp
 fn summed(alloc: Global, parts: &[(i128, HypName)]) -> Result<Option<(u32, Rule)>, Fail> {
     let mut terms = Terms::new(alloc);
     let sequent = three(alloc, &mut terms)?;
-    let steps = block(alloc, 11);
-    let steps = with(&terms, steps, sum(alloc, parts, 10)?)?;
+    let steps = block(alloc, &terms, 11);
+    let steps = with(&terms, steps, sum(alloc, &terms, parts, 10)?)?;
     answer(alloc, &mut terms, &sequent, steps)
 }
 
@@ -364,61 +363,55 @@ fn a_sum_stays_within_128_bits(rt: HostRuntime) -> Result<(), Fail> {
     Ok(())
 }
 
-/// What is answered to a block for the claim of the formula `0 <= 0`.
-fn truism(alloc: Global, steps: Block) -> Result<Option<(u32, Rule)>, Fail>
-    requires { (s : Stored) → IsScriptOf s steps }
+/// The claim of the formula `0 <= 0`.
+#[tactic(auto, using(crate::proofs::Stays::stays))]
+fn truism(alloc: Global, terms: &mut Terms) -> Result<Sequent, Fail>
+    ensures hyps { IfOk result (λ q. AreForms terms.new q.hyps) }
+    ensures claim { IfOk result (λ q. IsForm terms.new q.claim) }
 {
-    let mut terms = Terms::new(alloc);
     let zero = terms.add_term(Node::Lit(0))?;
     let claim = terms.add_form(FormNode::Le(zero, zero))?;
-    answer(alloc, &mut terms, &claimed(alloc, claim), steps)
+    Ok(claimed(alloc, terms, claim))
 }
 
-/// A block of this step.
-fn one(alloc: Global, step: ScriptStep) -> Result<Block, AllocError>
-    requires { (s : Stored) → IsStepOf s step }
-    ensures { IfOk result (λ b. (s : Stored) → IsScriptOf s b) }
-{
-    let mut steps = Items::new(alloc);
-    steps.push(step)?;
-    Ok(Block {
-        steps,
-        end_line: 12,
-    })
+/// What is answered to a block without steps.
+fn nothing(alloc: Global) -> Result<Option<(u32, Rule)>, Fail> {
+    let mut terms = Terms::new(alloc);
+    let sequent = truism(alloc, &mut terms)?;
+    let steps = block(alloc, &terms, 12);
+    answer(alloc, &mut terms, &sequent, steps)
 }
 
-/// A block of these two steps.
-fn two(alloc: Global, first: ScriptStep, second: ScriptStep) -> Result<Block, AllocError>
-    requires first { (s : Stored) → IsStepOf s first }
-    requires second { (s : Stored) → IsStepOf s second }
-    ensures { IfOk result (λ b. (s : Stored) → IsScriptOf s b) }
-{
-    let Block {
-        mut steps,
-        end_line,
-    } = one(alloc, first)?;
-    steps.push(second)?;
-    Ok(Block { steps, end_line })
+/// What is answered to `same`, or to `same` twice.
+fn closed(alloc: Global, again: bool) -> Result<Option<(u32, Rule)>, Fail> {
+    let mut terms = Terms::new(alloc);
+    let sequent = truism(alloc, &mut terms)?;
+    let steps = block(alloc, &terms, 12);
+    let steps = with(&terms, steps, same(&terms, 10))?;
+    if again {
+        let steps = with(&terms, steps, same(&terms, 11))?;
+        return answer(alloc, &mut terms, &sequent, steps);
+    }
+    answer(alloc, &mut terms, &sequent, steps)
+}
+
+/// What is answered to `parts` of this fact, and no more.
+fn taken(alloc: Global, hyp: HypName) -> Result<Option<(u32, Rule)>, Fail> {
+    let mut terms = Terms::new(alloc);
+    let sequent = truism(alloc, &mut terms)?;
+    let steps = block(alloc, &terms, 12);
+    let steps = with(&terms, steps, parts(&terms, hyp, 1, 2, 10))?;
+    answer(alloc, &mut terms, &sequent, steps)
 }
 
 #[test]
 fn a_block_closes_its_branch_at_its_end(rt: HostRuntime) -> Result<(), Fail> {
     let alloc = rt.alloc();
-    let denied = HypName::Denied;
-    assert_eq!(rt; truism(alloc, block(alloc, 12))?, Some((12, Rule::K9)));
-    assert_eq!(rt; truism(alloc, one(alloc, same(10))?)?, None);
-    assert_eq!(rt;
-        truism(alloc, two(alloc, same(10), same(11))?)?,
-        Some((11, Rule::K9))
-    );
-    assert_eq!(rt;
-        truism(alloc, one(alloc, parts(denied, 1, 2, 10))?)?,
-        Some((10, Rule::K2))
-    );
-    assert_eq!(rt;
-        truism(alloc, one(alloc, parts(HypName::Label(1), 1, 2, 10))?)?,
-        Some((10, Rule::K1))
-    );
+    assert_eq!(rt; nothing(alloc)?, Some((12, Rule::K9)));
+    assert_eq!(rt; closed(alloc, false)?, None);
+    assert_eq!(rt; closed(alloc, true)?, Some((11, Rule::K9)));
+    assert_eq!(rt; taken(alloc, HypName::Denied)?, Some((10, Rule::K2)));
+    assert_eq!(rt; taken(alloc, HypName::Label(1))?, Some((10, Rule::K1)));
     Ok(())
 }
 
@@ -439,12 +432,13 @@ fn one_cut(alloc: Global, n: u32) -> Result<Option<(u32, Rule)>, Fail> {
     let mut terms = Terms::new(alloc);
     let term = doubled(&mut terms, n)?;
     let form = terms.add_form(FormNode::Le(term, term))?;
-    let inner = block(alloc, 21);
-    let inner = with(&terms, inner, same(20))?;
-    let steps = block(alloc, 12);
+    let inner = block(alloc, &terms, 21);
+    let inner = with(&terms, inner, same(&terms, 20))?;
+    let steps = block(alloc, &terms, 12);
     let steps = with(&terms, steps, cut(&terms, form, 1, inner, 10))?;
-    let steps = with(&terms, steps, same(11))?;
-    answer(alloc, &mut terms, &claimed(alloc, form), steps)
+    let steps = with(&terms, steps, same(&terms, 11))?;
+    let sequent = claimed(alloc, &terms, form);
+    answer(alloc, &mut terms, &sequent, steps)
 }
 
 // Doubled 16 times a term has 131,071 nodes, so the formula has 262,143; 17 times 262,143 and 524,287. The branch has two of these.
