@@ -186,23 +186,6 @@ fn a_map_has_the_same_at_equal_keys(rt: HostRuntime) -> Result<(), Fail> {
 }
 
 #[test]
-fn a_name_is_read(rt: HostRuntime) -> Result<(), Fail> {
-    let mut terms = Terms::new(rt.alloc());
-    let map = term(&mut terms, Node::Name(Sym(0)))?;
-    let key = term(&mut terms, Node::Lit(7))?;
-    let low = bound(&mut terms, Node::Lit(0), Node::Has(map, key))?;
-    let high = bound(&mut terms, Node::Has(map, key), Node::Lit(1))?;
-    let bounds = form(&mut terms, FormNode::And(low, high))?;
-    let there = equation(&mut terms, Node::Has(map, key), Node::Lit(1))?;
-    let nothing = equation(&mut terms, Node::Get(map, key), Node::Lit(0))?;
-    let either = form(&mut terms, FormNode::Or(there, nothing))?;
-    let by_hand = form(&mut terms, FormNode::And(bounds, either))?;
-    let built = read_fact(&mut terms, map, key)?;
-    assert_eq!(rt; built, by_hand);
-    Ok(())
-}
-
-#[test]
 fn the_empty_map_is_read(rt: HostRuntime) -> Result<(), Fail> {
     let mut terms = Terms::new(rt.alloc());
     let map = term(&mut terms, Node::Nil)?;
@@ -230,116 +213,8 @@ fn put_read(alloc: Global, key: Node) -> Result<(FormId, FormId), TermStop>
 }
 
 #[test]
-fn a_put_is_read_at_its_key(rt: HostRuntime) -> Result<(), Fail> {
-    let (built, by_hand) = put_read(rt.alloc(), Node::Lit(7))?;
-    assert_eq!(rt; built, by_hand);
-    Ok(())
-}
-
-#[test]
 fn a_put_is_read_at_another_key(rt: HostRuntime) -> Result<(), Fail> {
     let (built, by_hand) = put_read(rt.alloc(), Node::Lit(8))?;
-    assert_eq!(rt; built, by_hand);
-    Ok(())
-}
-
-#[test]
-fn a_del_is_read(rt: HostRuntime) -> Result<(), Fail> {
-    let mut terms = Terms::new(rt.alloc());
-    let map = term(&mut terms, Node::Name(Sym(0)))?;
-    let at = term(&mut terms, Node::Lit(7))?;
-    let key = term(&mut terms, Node::Name(Sym(64)))?;
-    let changed = term(&mut terms, Node::Del(map, at))?;
-    let change = stands_at(&mut terms, changed, key, Node::Lit(0), Node::Lit(0))?;
-    let by_hand = changed_at(&mut terms, changed, key, map, at, change)?;
-    let built = read_fact(&mut terms, changed, key)?;
-    assert_eq!(rt; built, by_hand);
-    Ok(())
-}
-
-/// `(0 < w && (get(N, k) = w && has(N, k) = 1)) || (w <= 0 && (get(N, k) = 0 && has(N, k) = 0))`.
-fn raised_at(
-    terms: &mut Terms,
-    changed: TermId,
-    key: TermId,
-    before: TermId,
-    count: TermId,
-) -> Result<FormId, TermStop>
-    requires changed { IsTerm terms.old changed }
-    requires key { IsTerm terms.old key }
-    requires before { IsTerm terms.old before }
-    requires count { IsTerm terms.old count }
-    ensures id { IfOk result (IsForm terms.new) }
-    ensures nodes { length terms.old.nodes ≤ length terms.new.nodes }
-    ensures forms { length terms.old.forms ≤ length terms.new.forms }
-{
-    let zero = term(terms, Node::Lit(0))?;
-    let raised = term(terms, Node::Add(before, count))?;
-    let positive = form(terms, FormNode::Lt(zero, raised))?;
-    let there = stands_at(terms, changed, key, Node::Add(before, count), Node::Lit(1))?;
-    let stays = form(terms, FormNode::And(positive, there))?;
-    let not_positive = form(terms, FormNode::Le(raised, zero))?;
-    let gone = stands_at(terms, changed, key, Node::Lit(0), Node::Lit(0))?;
-    let goes = form(terms, FormNode::And(not_positive, gone))?;
-    form(terms, FormNode::Or(stays, goes))
-}
-
-#[test]
-fn a_bump_is_read(rt: HostRuntime) -> Result<(), Fail> {
-    let mut terms = Terms::new(rt.alloc());
-    let map = term(&mut terms, Node::Name(Sym(0)))?;
-    let at = term(&mut terms, Node::Lit(7))?;
-    let key = term(&mut terms, Node::Name(Sym(64)))?;
-    let count = term(&mut terms, Node::Lit(2))?;
-    let changed = term(&mut terms, Node::Bump(map, at, count))?;
-    let before = term(&mut terms, Node::Get(map, at))?;
-    let change = raised_at(&mut terms, changed, key, before, count)?;
-    let by_hand = changed_at(&mut terms, changed, key, map, at, change)?;
-    let built = read_fact(&mut terms, changed, key)?;
-    assert_eq!(rt; built, by_hand);
-    Ok(())
-}
-
-#[test]
-fn a_name_has_a_size(rt: HostRuntime) -> Result<(), Fail> {
-    let mut terms = Terms::new(rt.alloc());
-    let map = term(&mut terms, Node::Name(Sym(0)))?;
-    let key = term(&mut terms, Node::Lit(7))?;
-    let law = bound(&mut terms, Node::Lit(0), Node::Size(map))?;
-    let by_hand = sized(&mut terms, map, key, law)?;
-    let built = size_fact(&mut terms, map, key)?;
-    assert_eq!(rt; built, by_hand);
-    Ok(())
-}
-
-#[test]
-fn the_empty_map_has_size_nothing(rt: HostRuntime) -> Result<(), Fail> {
-    let mut terms = Terms::new(rt.alloc());
-    let map = term(&mut terms, Node::Nil)?;
-    let key = term(&mut terms, Node::Lit(7))?;
-    let law = equation(&mut terms, Node::Size(map), Node::Lit(0))?;
-    let by_hand = sized(&mut terms, map, key, law)?;
-    let built = size_fact(&mut terms, map, key)?;
-    assert_eq!(rt; built, by_hand);
-    Ok(())
-}
-
-#[test]
-fn a_put_may_add_a_key(rt: HostRuntime) -> Result<(), Fail> {
-    let mut terms = Terms::new(rt.alloc());
-    let map = term(&mut terms, Node::Name(Sym(0)))?;
-    let at = term(&mut terms, Node::Lit(7))?;
-    let value = term(&mut terms, Node::Lit(9))?;
-    let changed = term(&mut terms, Node::Put(map, at, value))?;
-    let law = balance(
-        &mut terms,
-        Node::Size(changed),
-        Node::Size(map),
-        Node::Lit(1),
-        Node::Has(map, at),
-    )?;
-    let by_hand = sized(&mut terms, changed, value, law)?;
-    let built = size_fact(&mut terms, changed, value)?;
     assert_eq!(rt; built, by_hand);
     Ok(())
 }
@@ -360,50 +235,6 @@ fn a_del_may_take_a_key(rt: HostRuntime) -> Result<(), Fail> {
 }
 
 #[test]
-fn a_bump_may_add_or_take_a_key(rt: HostRuntime) -> Result<(), Fail> {
-    let mut terms = Terms::new(rt.alloc());
-    let map = term(&mut terms, Node::Name(Sym(0)))?;
-    let at = term(&mut terms, Node::Lit(7))?;
-    let count = term(&mut terms, Node::Lit(2))?;
-    let changed = term(&mut terms, Node::Bump(map, at, count))?;
-    let law = balance(
-        &mut terms,
-        Node::Size(changed),
-        Node::Size(map),
-        Node::Has(changed, at),
-        Node::Has(map, at),
-    )?;
-    let by_hand = sized(&mut terms, changed, count, law)?;
-    let built = size_fact(&mut terms, changed, count)?;
-    assert_eq!(rt; built, by_hand);
-    Ok(())
-}
-
-#[test]
-fn a_name_has_a_sum(rt: HostRuntime) -> Result<(), Fail> {
-    let mut terms = Terms::new(rt.alloc());
-    let map = term(&mut terms, Node::Name(Sym(0)))?;
-    let key = term(&mut terms, Node::Lit(7))?;
-    let law = equation(&mut terms, Node::Lit(0), Node::Lit(0))?;
-    let by_hand = summed(&mut terms, map, key, law)?;
-    let built = total_fact(&mut terms, map, key)?;
-    assert_eq!(rt; built, by_hand);
-    Ok(())
-}
-
-#[test]
-fn the_empty_map_sums_to_nothing(rt: HostRuntime) -> Result<(), Fail> {
-    let mut terms = Terms::new(rt.alloc());
-    let map = term(&mut terms, Node::Nil)?;
-    let key = term(&mut terms, Node::Lit(7))?;
-    let law = equation(&mut terms, Node::Sum(map), Node::Lit(0))?;
-    let by_hand = summed(&mut terms, map, key, law)?;
-    let built = total_fact(&mut terms, map, key)?;
-    assert_eq!(rt; built, by_hand);
-    Ok(())
-}
-
-#[test]
 fn a_put_adds_its_value_for_the_old_one(rt: HostRuntime) -> Result<(), Fail> {
     let mut terms = Terms::new(rt.alloc());
     let map = term(&mut terms, Node::Name(Sym(0)))?;
@@ -419,41 +250,6 @@ fn a_put_adds_its_value_for_the_old_one(rt: HostRuntime) -> Result<(), Fail> {
     )?;
     let by_hand = summed(&mut terms, changed, at, law)?;
     let built = total_fact(&mut terms, changed, at)?;
-    assert_eq!(rt; built, by_hand);
-    Ok(())
-}
-
-#[test]
-fn a_del_takes_its_value(rt: HostRuntime) -> Result<(), Fail> {
-    let mut terms = Terms::new(rt.alloc());
-    let map = term(&mut terms, Node::Name(Sym(0)))?;
-    let at = term(&mut terms, Node::Lit(7))?;
-    let changed = term(&mut terms, Node::Del(map, at))?;
-    let before = term(&mut terms, Node::Sum(map))?;
-    let had = term(&mut terms, Node::Get(map, at))?;
-    let law = equation(&mut terms, Node::Sum(changed), Node::Sub(before, had))?;
-    let by_hand = summed(&mut terms, changed, at, law)?;
-    let built = total_fact(&mut terms, changed, at)?;
-    assert_eq!(rt; built, by_hand);
-    Ok(())
-}
-
-#[test]
-fn a_bump_adds_what_it_leaves(rt: HostRuntime) -> Result<(), Fail> {
-    let mut terms = Terms::new(rt.alloc());
-    let map = term(&mut terms, Node::Name(Sym(0)))?;
-    let at = term(&mut terms, Node::Lit(7))?;
-    let count = term(&mut terms, Node::Lit(2))?;
-    let changed = term(&mut terms, Node::Bump(map, at, count))?;
-    let law = balance(
-        &mut terms,
-        Node::Sum(changed),
-        Node::Sum(map),
-        Node::Get(changed, at),
-        Node::Get(map, at),
-    )?;
-    let by_hand = summed(&mut terms, changed, count, law)?;
-    let built = total_fact(&mut terms, changed, count)?;
     assert_eq!(rt; built, by_hand);
     Ok(())
 }
