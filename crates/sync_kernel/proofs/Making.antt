@@ -1,5 +1,5 @@
 -- Scripts that are made step by step: that their ids are of the store.
-use Rattle.std.proofs.Common.{◌≡◌, ℕ, zero, suc, ◌+◌, ◌<◌, List, [], ◌∷◌, ◌++◌, length, map, get_or, refl, sym, ap, ◌∙◌, arith}
+use Rattle.std.proofs.Common.{◌≡◌, ℕ, suc, ◌<◌, List, [], ◌∷◌, ◌++◌, length, map, get_or, refl, sym, ap, ◌∙◌, arith}
 use Rattle.std.specs.List.{All}
 use Rattle.sync_terms.specs.declared.nodes.TermId.{TermId}
 use Rattle.sync_terms.specs.declared.nodes.FormId.{FormId}
@@ -14,8 +14,7 @@ use Rattle.sync_terms.specs.declared.scripts.StepKind.TheVariants as made
 use Rattle.sync_terms.specs.declared.scripts.StepKind.TheVariants.{rolls-Same, rolls-Sum, rolls-Inst, rolls-Parts, rolls-Split, rolls-Cut, rolls-Read}
 use Rattle.sync_terms.specs.Trees.{Tree, Formula}
 use Rattle.sync_terms.specs.Stored.{Stored, tree, formula, IsTerm, IsForm, Extends}
-use Rattle.sync_terms.specs.Plans.{Plan, Then, End, Same, Sum, Inst, Parts, Split, Cut, Read, kind_plan, block_plan, step_plan, steps_before, plan_of, IsScriptOf}
-use Rattle.sync_terms.proofs.Extending.{Extends-trans}
+use Rattle.sync_terms.specs.Plans.{Plan, Then, End, Inst, Split, Cut, Read, kind_plan, block_plan, step_plan, steps_before, plan_of, IsScriptOf}
 use Rattle.sync_kernel.specs.Scripts.{then_of, IsStepOf}
 use Rattle.sync_kernel.proofs.Scripting.{Kind, read_in, step_of_script}
 

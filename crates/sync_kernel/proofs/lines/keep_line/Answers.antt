@@ -1,6 +1,4 @@
-use Rattle.std.proofs.Common.{◌≡◌, Option, Some, cond}
 use Rattle.std.specs.HashMap.{get}
-use Rattle.sync_kernel.specs.declared.literals.Literal.{Literal}
 use Rattle.sync_kernel.specs.Literals.{literal_form, same_literal}
 use Rattle.sync_kernel.specs.Rows.{row_of}
 use Rattle.sync_kernel.specs.Shapes.{row_shaped}
