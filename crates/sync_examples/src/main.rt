@@ -7,13 +7,15 @@ use sync_base::{Refusal, Stop};
 use sync_check::check;
 
 /// The texts, in the order in which they are checked.
-const TEXTS: [&str; 20] = [
+const TEXTS: [&str; 22] = [
+    "count_to_two.sync",
     "counter.sync",
     "lock.sync",
     "queue.sync",
     "reference_count.sync",
     "ring_buffer.sync",
     "rwlock.sync",
+    "spin_lock.sync",
     "steps/cong.sync",
     "steps/cut.sync",
     "steps/inst.sync",
