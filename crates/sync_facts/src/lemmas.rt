@@ -141,8 +141,7 @@ fn bump_read(terms: &mut Terms, of: Change, count: TermId) -> Result<FormId, Ter
     changed_read(terms, of, &Draft::Join(Or, &stays, &goes))
 }
 
-/// What a map has at a key. A changed map has at the changed key what the change leaves there, and at another key what the map
-/// had before.
+/// What a map has at a key.
 pub fn read_fact(terms: &mut Terms, map: TermId, key: TermId) -> Result<FormId, TermStop>
     requires map { IsTerm terms.old map }
     requires key { IsTerm terms.old key }
@@ -242,7 +241,7 @@ fn size_law(terms: &Terms, map: TermId) -> Draft<'static>
     }
 }
 
-/// How many keys a map has: at least 1 where it has this key, and for a changed map by the number of the map before.
+/// How many keys a map has, at least 1 where it has this key.
 pub fn size_fact(terms: &mut Terms, map: TermId, key: TermId) -> Result<FormId, TermStop>
     requires map { IsTerm terms.old map }
     requires key { IsTerm terms.old key }
@@ -312,8 +311,7 @@ fn sum_law(terms: &Terms, map: TermId) -> Draft<'static>
     }
 }
 
-/// The sum of a map's values: none without keys, the value at this key where it is the only one, and for a changed map by the
-/// sum of the map before.
+/// The sum of a map's values.
 pub fn total_fact(terms: &mut Terms, map: TermId, key: TermId) -> Result<FormId, TermStop>
     requires map { IsTerm terms.old map }
     requires key { IsTerm terms.old key }
