@@ -79,7 +79,7 @@ same_is : (s t : Sign) → is_same s t ≡ true → s ≡ t
 same_is s t e = same_true the_type tt s t e
 
 -- a row of a table of signs
-row : {A : Type 0} (p : Set) (s t : Sign) (x y : A) (c : Bool) (other : Option A) → is_same s t ≡ c → (if c then Some x else other) ≡ Some y → p (code t) ≡ true
+pub row : {A : Type 0} (p : Set) (s t : Sign) (x y : A) (c : Bool) (other : Option A) → is_same s t ≡ c → (if c then Some x else other) ≡ Some y → p (code t) ≡ true
     → (other ≡ Some y → p (code s) ≡ true) → p (code s) ≡ true
 row p s t x y true other is e here more = ap (λ z. p (code z)) (same_is s t is) ∙ here
 row p s t x y false other is e here more = more e

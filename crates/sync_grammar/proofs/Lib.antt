@@ -4,3 +4,6 @@ pub mod ScriptsSound
 pub mod MachinesSound
 pub mod Clears
 pub mod ExpressionsClear
+pub mod ScriptsClear
+pub mod MachinesClear
+pub mod Counting

@@ -66,29 +66,29 @@ pub closed_place_sound : (left : ℕ) (ts : List Word) → Sound (Closed Place) 
 unfolding closed_place Closed
 closed_place_sound left ts = then_sound (place_sound left ts) λ p. then_sound (sign_sound left sign.Semicolon p.1) λ s. yields
 
-pub formula_act_sound : (word : Sign) (made : Expr → RawActKind) (left : ℕ) (ts : List Word) → Sound (FormulaAct word made) ts (formula_act word made left ts)
+pub formula_act_sound : (opening : Sign) (made : Expr → RawActKind) (left : ℕ) (ts : List Word) → Sound (FormulaAct opening made) ts (formula_act opening made left ts)
 unfolding formula_act FormulaAct
-formula_act_sound word made left ts = then_sound (sign_sound left word ts) λ w. then_sound (closed_expr_sound left w.1) λ e. yields
+formula_act_sound opening made left ts = then_sound (sign_sound left opening ts) λ w. then_sound (closed_expr_sound left w.1) λ e. yields
 
-pub value_act_sound : (word : Sign) (made : Named → Expr → RawActKind) (left : ℕ) (ts : List Word) → Sound (ValueAct word made) ts (value_act word made left ts)
+pub value_act_sound : (opening : Sign) (made : Named → Expr → RawActKind) (left : ℕ) (ts : List Word) → Sound (ValueAct opening made) ts (value_act opening made left ts)
 unfolding value_act ValueAct
-value_act_sound word made left ts =
-    then_sound (sign_sound left word ts) λ w.
+value_act_sound opening made left ts =
+    then_sound (sign_sound left opening ts) λ w.
     then_sound (name_sound left w.1) λ n.
     then_sound (sign_sound left sign.Equal n.1) λ q.
     then_sound (closed_expr_sound left q.1) λ e. yields
 
-pub field_place_sound : (word symbol : Sign) (left : ℕ) (ts : List Word) → Sound (FieldPlace word symbol) ts (field_place word symbol left ts)
+pub field_place_sound : (opening symbol : Sign) (left : ℕ) (ts : List Word) → Sound (FieldPlace opening symbol) ts (field_place opening symbol left ts)
 unfolding field_place FieldPlace
-field_place_sound word symbol left ts =
-    then_sound (sign_sound left word ts) λ w.
+field_place_sound opening symbol left ts =
+    then_sound (sign_sound left opening ts) λ w.
     then_sound (name_sound left w.1) λ n.
     then_sound (sign_sound left symbol n.1) λ q.
     then_sound (closed_place_sound left q.1) λ p. yields
 
-pub place_act_sound : (word symbol : Sign) (made : Named → RawPlace → RawActKind) (left : ℕ) (ts : List Word) → Sound (PlaceAct word symbol made) ts (place_act word symbol made left ts)
+pub place_act_sound : (opening symbol : Sign) (made : Named → RawPlace → RawActKind) (left : ℕ) (ts : List Word) → Sound (PlaceAct opening symbol made) ts (place_act opening symbol made left ts)
 unfolding place_act PlaceAct
-place_act_sound word symbol made left ts = then_sound (field_place_sound word symbol left ts) λ x. yields
+place_act_sound opening symbol made left ts = then_sound (field_place_sound opening symbol left ts) λ x. yields
 
 pub have_act_sound : (left : ℕ) (ts : List Word) → Sound HaveAct ts (have_act left ts)
 unfolding have_act HaveAct

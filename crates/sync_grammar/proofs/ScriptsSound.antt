@@ -26,7 +26,7 @@ refuse_sound (w ∷ ws) = stops
 subject_bounded : (left : ℕ) (w : Word) (ws : List Word) (s : Sign) → w.what ≡ what.Sign s → (x : Option Special) → bounded_of s ≡ x → Sound ASubject (w ∷ ws) (subject_word left w.line ws x)
 unfolding ASubject
 subject_bounded left w ws s is None e = stops
-subject_bounded left w ws s is (Some word) e = either (left == 0) stops (second (began _ _ (one_of bounded_of w ws s word is e) yields))
+subject_bounded left w ws s is (Some opening) e = either (left == 0) stops (second (began _ _ (one_of bounded_of w ws s opening is e) yields))
 
 subject_case : (left : ℕ) (w : Word) (ws : List Word) (x : What) → w.what ≡ x → Sound ASubject (w ∷ ws) (subject_said left w.line ws x)
 unfolding ASubject
@@ -93,10 +93,10 @@ parts_sound left ts =
     then_sound (name_sound left c.1) λ b.
     then_sound (sign_sound left sign.Semicolon b.1) λ e. yields
 
-lookup_sound : (word : Sign) (made : Expr → Expr → Named → RawStepKind) (left : ℕ) (ts : List Word) → Sound (Lookup word made) ts (lookup_step word made left ts)
+lookup_sound : (opening : Sign) (made : Expr → Expr → Named → RawStepKind) (left : ℕ) (ts : List Word) → Sound (Lookup opening made) ts (lookup_step opening made left ts)
 unfolding lookup_step Lookup
-lookup_sound word made left ts =
-    then_sound (sign_sound left word ts) λ s.
+lookup_sound opening made left ts =
+    then_sound (sign_sound left opening ts) λ s.
     then_sound (expr_sound left s.1) λ m.
     then_sound (sign_sound left sign.Comma m.1) λ c.
     then_sound (expr_sound left c.1) λ k.

@@ -58,15 +58,15 @@ Place =
 
 -- ("require"|"assert") expr ";"
 unfoldable pub FormulaAct : Sign → (Expr → RawActKind) → Spelled RawActKind
-FormulaAct word made = do
-  The word
+FormulaAct opening made = do
+  The opening
   e ← Closed AnExpr
   Yields (made e)
 
 -- ("init"|"update") NAME "=" expr ";"
 unfoldable pub ValueAct : Sign → (Named → Expr → RawActKind) → Spelled RawActKind
-ValueAct word made = do
-  The word
+ValueAct opening made = do
+  The opening
   x ← AName
   The sign.Equal
   e ← Closed AnExpr
@@ -74,15 +74,15 @@ ValueAct word made = do
 
 -- a word, NAME, a sign, place ";"
 unfoldable pub FieldPlace : Sign → Sign → Spelled (Named × RawPlace)
-FieldPlace word symbol = do
-  The word
+FieldPlace opening symbol = do
+  The opening
   x ← AName
   The symbol
   p ← Closed Place
   Yields (x, p)
 
 unfoldable pub PlaceAct : Sign → Sign → (Named → RawPlace → RawActKind) → Spelled RawActKind
-PlaceAct word symbol made = FieldPlace word symbol >>= λ x. Yields (made x.0 x.1)
+PlaceAct opening symbol made = FieldPlace opening symbol >>= λ x. Yields (made x.0 x.1)
 
 -- "have" NAME (";" | ">=" place ";")
 unfoldable pub HaveAct : Spelled RawActKind

@@ -97,8 +97,8 @@ Parts = do
 
 -- ("read"|"size"|"total") expr "," expr "as" NAME ";"
 unfoldable pub Lookup : Sign → (Expr → Expr → Named → RawStepKind) → Spelled RawStepKind
-Lookup word made = do
-  The word
+Lookup opening made = do
+  The opening
   m ← AnExpr
   The sign.Comma
   k ← AnExpr
