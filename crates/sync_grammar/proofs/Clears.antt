@@ -195,9 +195,11 @@ head_is : (w v : Word) (ws vs : List Word) → ◌≡◌ {A = List Word} (w ∷ 
 head_is w v ws vs e = cc
 
 pub clear_the : {q : Set} {s : Sign} → Clear q (The s) (The s)
-clear_the = record { at = λ ts us rest vs x y d e same a b.
-    let both = sym d.stands ∙ same ∙ e.stands in
-    (tail_is d.word e.word rest vs both, d.line_is ∙ ap (λ (w : Word). w.line) (head_is d.word e.word rest vs both) ∙ sym e.line_is) }
+clear_the = record {
+  at = λ ts us rest vs x y d e same a b.
+      let both = sym d.stands ∙ same ∙ e.stands in
+      (tail_is d.word e.word rest vs both, d.line_is ∙ ap (λ (w : Word). w.line) (head_is d.word e.word rest vs both) ∙ sym e.line_is);
+}
 
 name_is : (n k : ℕ) (s t : Option Strategy) → ◌≡◌ {A = What} (what.Name n s) (what.Name k t) → n ≡ k
 name_is n k s t e = cc
@@ -212,34 +214,42 @@ pub sign_is : (s t : Sign) → ◌≡◌ {A = What} (what.Sign s) (what.Sign t) 
 sign_is s t e = cc
 
 pub clear_name : {q : Set} → Clear q AName AName
-clear_name = record { at = λ ts us rest vs x y d e same a b.
-    let both = sym d.stands ∙ same ∙ e.stands in
-    let words = head_is d.word e.word rest vs both in
-    let n = name_is d.number e.number d.strategy e.strategy (sym d.is ∙ ap (λ (w : Word). w.what) words ∙ e.is) in
-    let line = ap (λ (w : Word). w.line) words in
-    (tail_is d.word e.word rest vs both, d.name_is ∙ (λ i. record { name = n i; line = line i }) ∙ sym e.name_is) }
+clear_name = record {
+  at = λ ts us rest vs x y d e same a b.
+      let both = sym d.stands ∙ same ∙ e.stands in
+      let words = head_is d.word e.word rest vs both in
+      let n = name_is d.number e.number d.strategy e.strategy (sym d.is ∙ ap (λ (w : Word). w.what) words ∙ e.is) in
+      let line = ap (λ (w : Word). w.line) words in
+      (tail_is d.word e.word rest vs both, d.name_is ∙ (λ i. record { name = n i; line = line i }) ∙ sym e.name_is);
+}
 
 pub clear_number : {q : Set} → Clear q ANumber ANumber
-clear_number = record { at = λ ts us rest vs x y d e same a b.
-    let both = sym d.stands ∙ same ∙ e.stands in
-    (tail_is d.word e.word rest vs both, number_is x y (sym d.is ∙ ap (λ (w : Word). w.what) (head_is d.word e.word rest vs both) ∙ e.is)) }
+clear_number = record {
+  at = λ ts us rest vs x y d e same a b.
+      let both = sym d.stands ∙ same ∙ e.stands in
+      (tail_is d.word e.word rest vs both, number_is x y (sym d.is ∙ ap (λ (w : Word). w.what) (head_is d.word e.word rest vs both) ∙ e.is));
+}
 
 pub clear_strategy : {q : Set} → Clear q AStrategy AStrategy
-clear_strategy = record { at = λ ts us rest vs x y d e same a b.
-    let both = sym d.stands ∙ same ∙ e.stands in
-    (tail_is d.word e.word rest vs both, strategy_is d.number e.number x y (sym d.is ∙ ap (λ (w : Word). w.what) (head_is d.word e.word rest vs both) ∙ e.is)) }
+clear_strategy = record {
+  at = λ ts us rest vs x y d e same a b.
+      let both = sym d.stands ∙ same ∙ e.stands in
+      (tail_is d.word e.word rest vs both, strategy_is d.number e.number x y (sym d.is ∙ ap (λ (w : Word). w.what) (head_is d.word e.word rest vs both) ∙ e.is));
+}
 
 some_is : {A : Type 0} {x y : A} → ◌≡◌ {A = Option A} (Some x) (Some y) → x ≡ y
 some_is e = cc
 
 pub clear_one_of : {A : Type 0} {q : Set} {table : Sign → Option A} → Clear q (OneOf table) (OneOf table)
-clear_one_of {table = table} = record { at = λ ts us rest vs x y d e same a b.
-    let both = sym d.stands ∙ same ∙ e.stands in
-    let words = head_is d.word e.word rest vs both in
-    let s = sign_is d.sign e.sign (sym d.is ∙ ap (λ (w : Word). w.what) words ∙ e.is) in
-    let first = some_is (sym d.found ∙ ap table s ∙ e.found) in
-    let second = d.line_is ∙ ap (λ (w : Word). w.line) words ∙ sym e.line_is in
-    (tail_is d.word e.word rest vs both, λ i. (first i, second i)) }
+clear_one_of {table = table} = record {
+  at = λ ts us rest vs x y d e same a b.
+      let both = sym d.stands ∙ same ∙ e.stands in
+      let words = head_is d.word e.word rest vs both in
+      let s = sign_is d.sign e.sign (sym d.is ∙ ap (λ (w : Word). w.what) words ∙ e.is) in
+      let first = some_is (sym d.found ∙ ap table s ∙ e.found) in
+      let second = d.line_is ∙ ap (λ (w : Word). w.line) words ∙ sym e.line_is in
+      (tail_is d.word e.word rest vs both, λ i. (first i, second i));
+}
 
 -- ---- putting together
 
@@ -255,10 +265,12 @@ clear_weaker c i = record { at = λ ts us rest vs x y d e same a b. c.at ts us r
 -- one and then another: what the other begins with, or what follows it, may follow the one
 pub clear_then : {A B : Type 0} {m n : Spelled A} {g h : A → Spelled B} {q : Set} (p : Set) → Clear p m n
     → ((x : A) → Clear q (g x) (h x)) → ((x : A) → Follows q p (g x)) → ((x : A) → Follows q p (h x)) → Clear q (Then m g) (Then n h)
-clear_then {h = h} p one next f k = record { at = λ ts us rest vs x y d e same a b.
-    let first = one.at ts us d.middle e.middle d.value e.value d.one e.one same ((f d.value).at d.middle rest x d.next a) ((k e.value).at e.middle vs y e.next b) in
-    let moved = subst (λ z. h z e.middle vs y) (sym first.1) e.next in
-    (next d.value).at d.middle e.middle rest vs x y d.next moved first.0 a b }
+clear_then {h = h} p one next f k = record {
+  at = λ ts us rest vs x y d e same a b.
+      let first = one.at ts us d.middle e.middle d.value e.value d.one e.one same ((f d.value).at d.middle rest x d.next a) ((k e.value).at e.middle vs y e.next b) in
+      let moved = subst (λ z. h z e.middle vs y) (sym first.1) e.next in
+      (next d.value).at d.middle e.middle rest vs x y d.next moved first.0 a b;
+}
 
 -- where anything may follow the one
 pub clear_next : {A B : Type 0} {m n : Spelled A} {g h : A → Spelled B} {q : Set} → Clear any m n → ((x : A) → Clear q (g x) (h x)) → Clear q (Then m g) (Then n h)
@@ -328,10 +340,10 @@ pub clear_series : {A : Type 0} {m n : Spelled A} {q : Set} (p : Set) → Clear 
 unfolding Series
 clear_series {q = q} p c e i j =
     clear_then p c
-      (λ x. clear_then q (clear_many (clear_next clear_the λ l. c) (starts_then starts_the) (starts_then starts_the) (only_in _ e) i j) (λ xs. clear_yields)
-        (λ xs. follows_yields same_in) (λ xs. follows_yields same_in))
-      (λ x. follows_then q (follows_many (starts_then starts_the) (only_in _ e) i) (λ xs. follows_yields same_in))
-      (λ x. follows_then q (follows_many (starts_then starts_the) (only_in _ e) i) (λ xs. follows_yields same_in))
+    (λ x. clear_then q (clear_many (clear_next clear_the λ l. c) (starts_then starts_the) (starts_then starts_the) (only_in _ e) i j) (λ xs. clear_yields)
+    (λ xs. follows_yields same_in) (λ xs. follows_yields same_in))
+    (λ x. follows_then q (follows_many (starts_then starts_the) (only_in _ e) i) (λ xs. follows_yields same_in))
+    (λ x. follows_then q (follows_many (starts_then starts_the) (only_in _ e) i) (λ xs. follows_yields same_in))
 
 pub starts_series : {A : Type 0} {m : Spelled A} {p : Set} → Starts m p → Starts (Series m) p
 unfolding Series
@@ -343,9 +355,9 @@ unfolding InRound Listed
 clear_round p r c s t comma close apart =
     clear_next clear_the λ l.
     clear_then (only (code sign.CloseRound))
-      (clear_optional (clear_series p c comma (only_in _ close) (only_in _ refl)) (starts_series s) (starts_series t) (only_in _ apart))
-      (λ xs. clear_next clear_the λ e. clear_yields)
-      (λ xs. follows_starts (starts_then starts_the) same_in) (λ xs. follows_starts (starts_then starts_the) same_in)
+    (clear_optional (clear_series p c comma (only_in _ close) (only_in _ refl)) (starts_series s) (starts_series t) (only_in _ apart))
+    (λ xs. clear_next clear_the λ e. clear_yields)
+    (λ xs. follows_starts (starts_then starts_the) same_in) (λ xs. follows_starts (starts_then starts_the) same_in)
 
 pub starts_round : {A : Type 0} (m : Spelled A) → Starts (InRound m) (only (code sign.OpenRound))
 unfolding InRound

@@ -69,8 +69,10 @@ no_row table s x none found true is =
     let wrong : ◌≡◌ {A = Option _} None (Some x) = sym none ∙ ap table (sym e) ∙ found in absurd cc
 
 silent_one_of : {A : Type 0} (table : Sign → Option A) → table sign.By ≡ None → Silent (OneOf table)
-silent_one_of table none = record { at = λ ts rest x d.
-    one_word ts rest d.word d.stands (ap (λ z. says_sign z sign.By) d.is ∙ no_row table d.sign x.0 none d.found (is_same d.sign sign.By) refl) }
+silent_one_of table none = record {
+  at = λ ts rest x d.
+      one_word ts rest d.word d.stands (ap (λ z. says_sign z sign.By) d.is ∙ no_row table d.sign x.0 none d.found (is_same d.sign sign.By) refl);
+}
 
 -- ---- putting together
 
@@ -166,7 +168,7 @@ silent_relation : {m : Spelled ExprKind} → Silent m → Silent (Relation m)
 unfolding Relation RelationSign
 silent_relation s = silent_then silent_here λ start. silent_then (silent_sum s) λ x. silent_or silent_yields
     (silent_then (silent_or (silent_joins _ _ refl) (silent_or (silent_joins _ _ refl) (silent_or (silent_joins _ _ refl) (silent_joins _ _ refl))))
-      λ o. silent_then (silent_whole (silent_sum s)) λ y. silent_yields)
+    λ o. silent_then (silent_whole (silent_sum s)) λ y. silent_yields)
 
 silent_or_level : {m : Spelled ExprKind} → Silent m → Silent (Or m)
 unfolding Or And
@@ -235,7 +237,7 @@ silent_step_kind b =
     (silent_or (silent_then (silent_the refl) λ s. silent_then silent_hyp λ h. silent_then silent_as λ a. silent_then (silent_the refl) λ c. silent_then silent_name λ n. silent_then (silent_the refl) λ e. silent_yields)
     (silent_or (silent_lookup _ _ refl) (silent_or (silent_lookup _ _ refl) (silent_or (silent_lookup _ _ refl)
     (silent_then (silent_the refl) λ s. silent_then silent_expr λ m. silent_then (silent_the refl) λ c. silent_then silent_expr λ j. silent_then (silent_the refl) λ d. silent_then silent_expr λ k.
-      silent_then silent_as λ a. silent_then (silent_the refl) λ e. silent_yields)))))))))
+    silent_then silent_as λ a. silent_then (silent_the refl) λ e. silent_yields)))))))))
 
 silent_step : {m : Spelled RawBlock} → Silent m → Silent (Step m)
 unfolding Step
@@ -264,7 +266,7 @@ silent_place : Silent Place
 unfolding Place
 silent_place = silent_or (silent_then (silent_the refl) λ o. silent_then silent_pattern λ p. silent_then (silent_the refl) λ e. silent_yields)
     (silent_then (silent_the refl) λ o. silent_then silent_expr λ k.
-      silent_then (silent_or silent_yields (silent_then (silent_the refl) λ m. silent_then silent_pattern λ p. silent_yields)) λ x. silent_then (silent_the refl) λ e. silent_yields)
+    silent_then (silent_or silent_yields (silent_then (silent_the refl) λ m. silent_then silent_pattern λ p. silent_yields)) λ x. silent_then (silent_the refl) λ e. silent_yields)
 
 silent_formula : (opening : Sign) (made : Expr → RawActKind) → is_same opening sign.By ≡ false → Silent (FormulaAct opening made)
 unfolding FormulaAct

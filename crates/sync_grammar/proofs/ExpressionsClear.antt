@@ -118,18 +118,20 @@ call_fork : {q : Set} {m n : Spelled ExprKind} → Inner m n → Fork q function
     (OneOf function_of >>= λ f. InRound (Whole m) >>= λ args. Yields (kind.Call f.0 f.1 args))
     (OneOf function_of >>= λ f. InRound (Whole n) >>= λ args. Yields (kind.Call f.0 f.1 args))
 call_fork i = record {
-    clear = clear_next clear_one_of λ f. clear_next (clear_round (others operators) begins (clear_whole i.clear) (starts_whole i.left) (starts_whole i.right) refl refl refl) λ args. clear_yields;
-    left = starts_then (starts_table function_in);
-    right = starts_then (starts_table function_in) }
+  clear = clear_next clear_one_of λ f. clear_next (clear_round (others operators) begins (clear_whole i.clear) (starts_whole i.left) (starts_whole i.right) refl refl refl) λ args. clear_yields;
+  left = starts_then (starts_table function_in);
+  right = starts_then (starts_table function_in);
+}
 
 bracket_fork : {q : Set} {m n : Spelled ExprKind} → Inner m n → Fork q (only (code sign.OpenRound))
     (The sign.OpenRound >>= λ o. m >>= λ x. The sign.CloseRound >>= λ e. Yields x)
     (The sign.OpenRound >>= λ o. n >>= λ x. The sign.CloseRound >>= λ e. Yields x)
 bracket_fork i = record {
-    clear = clear_next clear_the λ o. clear_then (others operators) i.clear (λ x. clear_next clear_the λ e. clear_yields)
-        (λ x. follows_starts (starts_then starts_the) (only_in _ refl)) (λ x. follows_starts (starts_then starts_the) (only_in _ refl));
-    left = starts_then starts_the;
-    right = starts_then starts_the }
+  clear = clear_next clear_the λ o. clear_then (others operators) i.clear (λ x. clear_next clear_the λ e. clear_yields)
+      (λ x. follows_starts (starts_then starts_the) (only_in _ refl)) (λ x. follows_starts (starts_then starts_the) (only_in _ refl));
+  left = starts_then starts_the;
+  right = starts_then starts_the;
+}
 
 -- an operand that does not begin with a number
 abbrev others_begin : Set
@@ -213,9 +215,10 @@ star_next = starts_the
 
 pub turned : {m n : Spelled ExprKind} → Inner m n → Inner n m
 turned i = record {
-    clear = record { at = λ ts us rest vs x y d e same a b. let h = i.clear.at us ts vs rest y x e d (sym same) b a in (sym h.0, sym h.1) };
-    left = i.right;
-    right = i.left }
+  clear = record { at = λ ts us rest vs x y d e same a b. let h = i.clear.at us ts vs rest y x e d (sym same) b a in (sym h.0, sym h.1) };
+  left = i.right;
+  right = i.left;
+}
 
 plain_number : Clear any ANumber ANumber
 plain_number = clear_number
@@ -281,8 +284,8 @@ unfolding Chained
 clear_chained p r op s item i j k =
     clear_next clear_here λ start.
     clear_then p item (λ held. record { at = λ ts us rest vs x y d e same a b. chain_case op s item i j k start held held ts us rest vs x y d e refl same a b })
-      (λ held. record { at = λ ts rest x d a. follows_chain_case s i j held ts rest x d a })
-      (λ held. record { at = λ ts rest x d a. follows_chain_case s i j held ts rest x d a })
+    (λ held. record { at = λ ts rest x d a. follows_chain_case s i j held ts rest x d a })
+    (λ held. record { at = λ ts rest x d a. follows_chain_case s i j held ts rest x d a })
 
 pub starts_chained : {p : Set} (Op : Spelled Operator) (m : Spelled ExprKind) → Starts m p → Starts (Chained Op m) p
 unfolding Chained
@@ -323,12 +326,12 @@ unfolding Relation
 clear_relation i =
     clear_next clear_here λ start.
     clear_then (others sum_signs) (clear_sum i)
-      (λ x. clear_optional
-        (clear_next relation_fork.clear λ o. clear_then (others sum_signs) (clear_whole (clear_sum i)) (λ y. clear_yields)
-          (λ y. follows_yields (others_in _ _)) (λ y. follows_yields (others_in _ _)))
-        (starts_then (relation_fork {q = any}).left) (starts_then (relation_fork {q = any}).left) (others_first _ _))
-      (λ x. follows_or (follows_yields (others_in _ _)) (follows_starts (starts_then (relation_fork {q = any}).left) (relations_in refl refl refl refl)))
-      (λ x. follows_or (follows_yields (others_in _ _)) (follows_starts (starts_then (relation_fork {q = any}).left) (relations_in refl refl refl refl)))
+    (λ x. clear_optional
+    (clear_next relation_fork.clear λ o. clear_then (others sum_signs) (clear_whole (clear_sum i)) (λ y. clear_yields)
+    (λ y. follows_yields (others_in _ _)) (λ y. follows_yields (others_in _ _)))
+    (starts_then (relation_fork {q = any}).left) (starts_then (relation_fork {q = any}).left) (others_first _ _))
+    (λ x. follows_or (follows_yields (others_in _ _)) (follows_starts (starts_then (relation_fork {q = any}).left) (relations_in refl refl refl refl)))
+    (λ x. follows_or (follows_yields (others_in _ _)) (follows_starts (starts_then (relation_fork {q = any}).left) (relations_in refl refl refl refl)))
 
 pub starts_relation : {m n : Spelled ExprKind} → Inner m n → Starts (Relation m) begins
 unfolding Relation

@@ -54,9 +54,9 @@ unfolding sign_operand Operand NoNumber
 sign_case inner sound left w ws s is = either (begins_operand s) (either (left == 0) stops
     (tested (is_same s sign.Nil) (λ e. second (second (second (first (began _ _ (the_sign w ws sign.Nil (is ∙ ap what.Sign (sign_is s sign.Nil e))) yields)))))
     (tested (is_same s sign.Dollar) (λ e. second (second (first (began _ _ (the_sign w ws sign.Dollar (is ∙ ap what.Sign (sign_is s sign.Dollar e)))
-        (then_sound (name_sound left ws) λ v. yields)))))
+    (then_sound (name_sound left ws) λ v. yields)))))
     (tested (is_same s sign.OpenRound) (λ e. second (second (second (second (second (second (began _ _ (the_sign w ws sign.OpenRound (is ∙ ap what.Sign (sign_is s sign.OpenRound e)))
-        (then_sound (sound ws) λ v. then_sound (sign_sound (left - 1) sign.CloseRound v.1) λ c. yields))))))))
+    (then_sound (sound ws) λ v. then_sound (sign_sound (left - 1) sign.CloseRound v.1) λ c. yields))))))))
     (word_case inner sound left w ws s is (special_of s) refl (function_of s) refl))))) stops
 
 operand_case : {m : Spelled ExprKind} (inner : Reader ExprKind) → ((ts : List Word) → Sound m ts (inner ts)) → (left : ℕ) (w : Word) (ws : List Word) (x : What) → w.what ≡ x
@@ -82,11 +82,13 @@ prefixed_sound {m = m} left many again sound make s made w ws is = either ((left
   where
     go : (r : Read Expr) → whole again ws ≡ r → Sound (Unary m) (w ∷ ws) (outcome.◌>>=◌ r (λ x. Ok (make x.0, x.1)))
     go (Err f) e = stops
-    go (Ok v) e = record { holds = λ x rest h.
-        let d = whole_is ((whole_sound sound ws).holds v.0 v.1 e) in
-        let at : Unary m (w ∷ ws) v.1 (make (placed_at d.0 ws)) = made (w ∷ ws) ws v.1 w.line d.0 (the_sign w ws s is) d.1 in
-        let same : make (placed_at d.0 ws) ≡ x = ap make (sym d.2) ∙ ap (λ z. z.0) (ok_is h) in
-        subst (λ us. Unary m (w ∷ ws) us x) (ap (λ z. z.1) (ok_is h)) (subst (Unary m (w ∷ ws) v.1) same at) }
+    go (Ok v) e = record {
+      holds = λ x rest h.
+          let d = whole_is ((whole_sound sound ws).holds v.0 v.1 e) in
+          let at : Unary m (w ∷ ws) v.1 (make (placed_at d.0 ws)) = made (w ∷ ws) ws v.1 w.line d.0 (the_sign w ws s is) d.1 in
+          let same : make (placed_at d.0 ws) ≡ x = ap make (sym d.2) ∙ ap (λ z. z.0) (ok_is h) in
+          subst (λ us. Unary m (w ∷ ws) us x) (ap (λ z. z.1) (ok_is h)) (subst (Unary m (w ∷ ws) v.1) same at);
+    }
 
 unary_case : {m : Spelled ExprKind} (inner : Reader ExprKind) → ((ts : List Word) → Sound m ts (inner ts)) → (left : ℕ) (many : Bool) (again : Reader ExprKind)
     → ((ts : List Word) → Sound (Unary m) ts (again ts)) → (ts : List Word) → Sound (Unary m) ts (unary_with inner left many again ts)
@@ -120,8 +122,10 @@ pub record Table (Op : Spelled Operator) (op : Word → Option Operator) : Type 
   pub has : (w : Word) (ws : List Word) (o : Operator) → op w ≡ Some o → Op (w ∷ ws) ws o
 
 chain_ends : {Op : Spelled Operator} {m : Spelled ExprKind} {start : List Word} {held : ExprKind} {ts : List Word} → Sound (Chain Op m start held) ts (Ok (held, ts))
-chain_ends {Op = Op} {m = m} {start = start} {held = held} {ts = ts} = record { holds = λ x rest e.
-    subst (λ us. Chain Op m start held ts us x) (ap (λ z. z.1) (ok_is e)) (subst (Chain Op m start held ts ts) (ap (λ z. z.0) (ok_is e)) Chain.ends) }
+chain_ends {Op = Op} {m = m} {start = start} {held = held} {ts = ts} = record {
+  holds = λ x rest e.
+      subst (λ us. Chain Op m start held ts us x) (ap (λ z. z.1) (ok_is e)) (subst (Chain Op m start held ts ts) (ap (λ z. z.0) (ok_is e)) Chain.ends);
+}
 
 chain_case : {Op : Spelled Operator} {m : Spelled ExprKind} (op : Word → Option Operator) → Table Op op → (item : Reader ExprKind) → ((ts : List Word) → Sound m ts (item ts))
     → (start : List Word) (count : ℕ) → ((held : ExprKind) (ts : List Word) → Sound (Chain Op m start held) ts (chain op item (first_line start) count held ts))
@@ -132,14 +136,18 @@ chain_case {Op = Op} {m = m} op table item sound start count again held w ws o i
     go : (r : Read Expr) → whole item ws ≡ r
         → Sound (Chain Op m start held) (w ∷ ws) (outcome.◌>>=◌ r (λ x. chain op item (first_line start) count (kind.Two o (placed held (first_line start)) x.0) x.1))
     go (Err f) e = stops
-    go (Ok v) e = record { holds = λ x rest h.
-        Chain.goes_on v.0 (table.has w ws o is) ((whole_sound sound ws).holds v.0 v.1 e) ((again (kind.Two o (placed held (first_line start)) v.0) v.1).holds x rest h) }
+    go (Ok v) e = record {
+      holds = λ x rest h.
+          Chain.goes_on v.0 (table.has w ws o is) ((whole_sound sound ws).holds v.0 v.1 e) ((again (kind.Two o (placed held (first_line start)) v.0) v.1).holds x rest h);
+    }
 
 chain_tested : {Op : Spelled Operator} {m : Spelled ExprKind} (op : Word → Option Operator) → Table Op op → (item : Reader ExprKind) → ((ts : List Word) → Sound m ts (item ts))
     → (start : List Word) (count : ℕ) → ((held : ExprKind) (ts : List Word) → Sound (Chain Op m start held) ts (chain op item (first_line start) count held ts))
     → (held : ExprKind) (w : Word) (ws : List Word) (x : Option Operator) → op w ≡ x
-    → Sound (Chain Op m start held) (w ∷ ws) (elim x [ None ↦ Ok (held, w ∷ ws)
-        | Some o ↦ outcome.◌>>=◌ (whole item ws) (λ x. chain op item (first_line start) count (kind.Two o (placed held (first_line start)) x.0) x.1) ])
+    → Sound (Chain Op m start held) (w ∷ ws) (elim x [
+      | None ↦ Ok (held, w ∷ ws)
+      | Some o ↦ outcome.◌>>=◌ (whole item ws) (λ x. chain op item (first_line start) count (kind.Two o (placed held (first_line start)) x.0) x.1)
+    ])
 chain_tested op table item sound start count again held w ws None is = chain_ends
 chain_tested op table item sound start count again held w ws (Some o) is = chain_case op table item sound start count again held w ws o is
 
@@ -189,15 +197,19 @@ last_row w ws s o p false is e = absurd cc
 
 pub sum_table : Table SumSign sum_of
 unfolding sum_of SumSign
-sum_table = record { has = λ w ws o e. row_of w ws sign.Plus operator.Plus o (is_sign w sign.Plus) _ refl e
-    λ f. last_row w ws sign.Minus operator.Minus o (is_sign w sign.Minus) refl f }
+sum_table = record {
+  has = λ w ws o e. row_of w ws sign.Plus operator.Plus o (is_sign w sign.Plus) _ refl e
+      λ f. last_row w ws sign.Minus operator.Minus o (is_sign w sign.Minus) refl f;
+}
 
 pub relation_table : Table RelationSign relation_of
 unfolding relation_of RelationSign
-relation_table = record { has = λ w ws o e. row_of w ws sign.Equal operator.Equal o (is_sign w sign.Equal) _ refl e
-    λ f. row_of w ws sign.NotEqual operator.NotEqual o (is_sign w sign.NotEqual) _ refl f
-    λ g. row_of w ws sign.AtMost operator.AtMost o (is_sign w sign.AtMost) _ refl g
-    λ h. last_row w ws sign.Below operator.Below o (is_sign w sign.Below) refl h }
+relation_table = record {
+  has = λ w ws o e. row_of w ws sign.Equal operator.Equal o (is_sign w sign.Equal) _ refl e
+      λ f. row_of w ws sign.NotEqual operator.NotEqual o (is_sign w sign.NotEqual) _ refl f
+      λ g. row_of w ws sign.AtMost operator.AtMost o (is_sign w sign.AtMost) _ refl g
+      λ h. last_row w ws sign.Below operator.Below o (is_sign w sign.Below) refl h;
+}
 
 -- ---- the levels
 
@@ -209,18 +221,20 @@ sum_sound inner sound left = chained_sound sum_of sum_table (product inner left)
 related_case : {m : Spelled ExprKind} (item : Reader ExprKind) → ((ts : List Word) → Sound m ts (item ts)) → (start : List Word) (held : ExprKind) (w : Word) (ws : List Word)
     → (x : Option Operator) → relation_of w ≡ x
     → Sound (Either (Yields held) (do
-        o ← RelationSign
-        y ← Whole m
-        Yields (kind.Two o (placed_at held start) y))) (w ∷ ws) (elim x [ None ↦ Ok (held, w ∷ ws)
-          | Some o ↦ outcome.◌>>=◌ (whole item ws) (λ x. Ok (kind.Two o (placed held (first_line start)) x.0, x.1)) ])
+      o ← RelationSign
+      y ← Whole m
+      Yields (kind.Two o (placed_at held start) y))) (w ∷ ws) (elim x [
+        | None ↦ Ok (held, w ∷ ws)
+        | Some o ↦ outcome.◌>>=◌ (whole item ws) (λ x. Ok (kind.Two o (placed held (first_line start)) x.0, x.1))
+      ])
 related_case item sound start held w ws None is = first yields
 related_case item sound start held w ws (Some o) is = second (began _ _ (relation_table.has w ws o is) (then_sound (whole_sound sound ws) λ v. yields))
 
 related_sound : {m : Spelled ExprKind} (item : Reader ExprKind) → ((ts : List Word) → Sound m ts (item ts)) → (start : List Word) (held : ExprKind) (ts : List Word)
     → Sound (Either (Yields held) (do
-        o ← RelationSign
-        y ← Whole m
-        Yields (kind.Two o (placed_at held start) y))) ts (related item (first_line start) held ts)
+      o ← RelationSign
+      y ← Whole m
+      Yields (kind.Two o (placed_at held start) y))) ts (related item (first_line start) held ts)
 related_sound item sound start held [] = first yields
 related_sound item sound start held (w ∷ ws) = related_case item sound start held w ws (relation_of w) refl
 
@@ -243,14 +257,18 @@ implied_end {m = m} many right sound ts us held d = go us d
   where
     ended : (us : List Word) → Or m ts us held → Sound (λ vs rest x. Implied m ts rest x) us (Ok (held, us))
     ended us d = record { holds = λ x rest e. subst (λ vs. Implied m ts vs x) (ap (λ z. z.1) (ok_is e)) (subst (Implied m ts us) (ap (λ z. z.0) (ok_is e)) (Implied.plain d)) }
+
     joined : (w : Word) (ws : List Word) → Or m ts (w ∷ ws) held → w.what ≡ what.Sign sign.Implies → (r : Read Expr) → whole right ws ≡ r
         → Sound (λ vs rest x. Implied m ts rest x) (w ∷ ws) (outcome.◌>>=◌ r (λ x. Ok (kind.Two operator.Implies (placed held (first_line ts)) x.0, x.1)))
     joined w ws d is (Err f) e = stops
-    joined w ws d is (Ok v) e = record { holds = λ x rest h.
-        let y = whole_is ((whole_sound sound ws).holds v.0 v.1 e) in
-        let at : Implied m ts v.1 (kind.Two operator.Implies (placed_at held ts) (placed_at y.0 ws)) = Implied.implies held (w ∷ ws) w.line d (the_sign w ws sign.Implies is) y.1 in
-        let same : kind.Two operator.Implies (placed_at held ts) (placed_at y.0 ws) ≡ x = ap (kind.Two operator.Implies (placed_at held ts)) (sym y.2) ∙ ap (λ z. z.0) (ok_is h) in
-        subst (λ vs. Implied m ts vs x) (ap (λ z. z.1) (ok_is h)) (subst (Implied m ts v.1) same at) }
+    joined w ws d is (Ok v) e = record {
+      holds = λ x rest h.
+          let y = whole_is ((whole_sound sound ws).holds v.0 v.1 e) in
+          let at : Implied m ts v.1 (kind.Two operator.Implies (placed_at held ts) (placed_at y.0 ws)) = Implied.implies held (w ∷ ws) w.line d (the_sign w ws sign.Implies is) y.1 in
+          let same : kind.Two operator.Implies (placed_at held ts) (placed_at y.0 ws) ≡ x = ap (kind.Two operator.Implies (placed_at held ts)) (sym y.2) ∙ ap (λ z. z.0) (ok_is h) in
+          subst (λ vs. Implied m ts vs x) (ap (λ z. z.1) (ok_is h)) (subst (Implied m ts v.1) same at);
+    }
+
     go : (us : List Word) → Or m ts us held → Sound (λ vs rest x. Implied m ts rest x) us (implied many right (first_line ts) held us)
     go [] d = ended [] d
     go (w ∷ ws) d = tested (is_sign w sign.Implies) (λ e. either many stops (joined w ws d (is_the w sign.Implies e) (whole right ws) refl)) (ended (w ∷ ws) d)

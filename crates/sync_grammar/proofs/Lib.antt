@@ -7,3 +7,4 @@ pub mod ExpressionsClear
 pub mod ScriptsClear
 pub mod MachinesClear
 pub mod Counting
+pub mod Laws

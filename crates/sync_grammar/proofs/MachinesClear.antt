@@ -39,18 +39,18 @@ pub clear_place : {q : Set} → Clear q Place Place
 unfolding Place
 clear_place = (fork_or
     (lone (clear_next clear_the λ o. clear_then (others operators) clear_pattern (λ p. clear_next clear_the λ e. clear_yields)
-        (λ p. follows_starts (starts_then starts_the) (only_in _ refl)) (λ p. follows_starts (starts_then starts_the) (only_in _ refl))) (starts_then (starts_the {s = sign.OpenRound})))
+    (λ p. follows_starts (starts_then starts_the) (only_in _ refl)) (λ p. follows_starts (starts_then starts_the) (only_in _ refl))) (starts_then (starts_the {s = sign.OpenRound})))
     (lone (clear_next clear_the λ o.
-      clear_then (others operators) clear_expr
-        (λ k. clear_then (only (code sign.CloseSquare))
-            (clear_optional (clear_next clear_the λ m. clear_then (others operators) clear_pattern (λ p. clear_yields) (λ p. follows_yields (only_in _ refl)) (λ p. follows_yields (only_in _ refl)))
-                (starts_then (starts_the {s = sign.MapsTo})) (starts_then (starts_the {s = sign.MapsTo})) (only_in _ refl))
-            (λ x. clear_next clear_the λ e. clear_yields)
-            (λ x. follows_starts (starts_then starts_the) same_in) (λ x. follows_starts (starts_then starts_the) same_in))
-        (λ k. follows_then (only (code sign.CloseSquare)) (follows_or (follows_yields (only_in _ refl)) (follows_starts (starts_then (starts_the {s = sign.MapsTo})) (only_in _ refl)))
-            (λ x. follows_starts (starts_then starts_the) same_in))
-        (λ k. follows_then (only (code sign.CloseSquare)) (follows_or (follows_yields (only_in _ refl)) (follows_starts (starts_then (starts_the {s = sign.MapsTo})) (only_in _ refl)))
-            (λ x. follows_starts (starts_then starts_the) same_in))) (starts_then (starts_the {s = sign.OpenSquare})))
+    clear_then (others operators) clear_expr
+    (λ k. clear_then (only (code sign.CloseSquare))
+    (clear_optional (clear_next clear_the λ m. clear_then (others operators) clear_pattern (λ p. clear_yields) (λ p. follows_yields (only_in _ refl)) (λ p. follows_yields (only_in _ refl)))
+    (starts_then (starts_the {s = sign.MapsTo})) (starts_then (starts_the {s = sign.MapsTo})) (only_in _ refl))
+    (λ x. clear_next clear_the λ e. clear_yields)
+    (λ x. follows_starts (starts_then starts_the) same_in) (λ x. follows_starts (starts_then starts_the) same_in))
+    (λ k. follows_then (only (code sign.CloseSquare)) (follows_or (follows_yields (only_in _ refl)) (follows_starts (starts_then (starts_the {s = sign.MapsTo})) (only_in _ refl)))
+    (λ x. follows_starts (starts_then starts_the) same_in))
+    (λ k. follows_then (only (code sign.CloseSquare)) (follows_or (follows_yields (only_in _ refl)) (follows_starts (starts_then (starts_the {s = sign.MapsTo})) (only_in _ refl)))
+    (λ x. follows_starts (starts_then starts_the) same_in))) (starts_then (starts_the {s = sign.OpenSquare})))
     (only_in _ refl)).clear
 
 closed_expr : {q : Set} → Clear q (Closed AnExpr) (Closed AnExpr)
@@ -79,7 +79,7 @@ have_fork : {q : Set} → Fork q (only (code sign.Have)) HaveAct HaveAct
 unfolding HaveAct
 have_fork = lone (clear_next clear_the λ w. clear_next clear_name λ n.
     (fork_or (lone (clear_next clear_the λ s. clear_yields) (starts_then (starts_the {s = sign.Semicolon})))
-        (lone (clear_next clear_the λ q. clear_next closed_place λ p. clear_yields) (starts_then (starts_the {s = sign.AtLeast}))) (only_in _ refl)).clear) (starts_then starts_the)
+    (lone (clear_next clear_the λ q. clear_next closed_place λ p. clear_yields) (starts_then (starts_the {s = sign.AtLeast}))) (only_in _ refl)).clear) (starts_then starts_the)
 
 abbrev act_signs : Set
 act_signs = both (only (code sign.Init)) (both (only (code sign.Require)) (both (only (code sign.Assert)) (both (only (code sign.Update)) (both (only (code sign.Have)) (both (only (code sign.Guard))
@@ -119,7 +119,7 @@ operation_fork : {q : Set} → Fork q modes Operation Operation
 unfolding Operation
 operation_fork = lone (clear_next clear_here λ start. clear_next mode_fork.clear λ m. clear_next clear_name λ n. clear_next clear_names λ ps. clear_next clear_the λ o.
     clear_then (only (code sign.CloseBrace)) (clear_many {p = any} clear_act starts_act starts_act any_in any_in (only_in _ refl)) (λ xs. clear_next clear_the λ e. clear_yields)
-      (λ xs. follows_starts (starts_then starts_the) same_in) (λ xs. follows_starts (starts_then starts_the) same_in)) (starts_here λ start. starts_then (mode_fork {q = any}).left)
+    (λ xs. follows_starts (starts_then starts_the) same_in) (λ xs. follows_starts (starts_then starts_the) same_in)) (starts_here λ start. starts_then (mode_fork {q = any}).left)
 
 invariant_fork : {q : Set} → Fork q (only (code sign.Invariant)) Invariant Invariant
 unfolding Invariant
@@ -152,12 +152,12 @@ pub clear_machine : {q : Set} → Clear q Machine Machine
 unfolding Machine
 clear_machine = clear_next clear_the λ m. clear_next clear_name λ n. clear_next clear_the λ o.
     clear_then (among behind_fields) (clear_many {p = any} field_fork.clear (field_fork {q = any}).left (field_fork {q = any}).left any_in any_in (among_in behind_fields refl))
-      (λ fs. clear_then (among behind_operations)
-        (clear_many {p = any} operation_fork.clear (operation_fork {q = any}).left (operation_fork {q = any}).left any_in any_in (among_in behind_operations refl))
-        (λ ops. invariants_clear (λ is. clear_next clear_the λ e. clear_yields) (λ is. starts_then starts_the))
-        (λ ops. weaker (invariants_follow _ (λ is. starts_then starts_the))) (λ ops. weaker (invariants_follow _ (λ is. starts_then starts_the))))
-      (λ fs. weaker (operations_follow _ (λ ops. invariants_follow _ (λ is. starts_then starts_the))))
-      (λ fs. weaker (operations_follow _ (λ ops. invariants_follow _ (λ is. starts_then starts_the))))
+    (λ fs. clear_then (among behind_operations)
+    (clear_many {p = any} operation_fork.clear (operation_fork {q = any}).left (operation_fork {q = any}).left any_in any_in (among_in behind_operations refl))
+    (λ ops. invariants_clear (λ is. clear_next clear_the λ e. clear_yields) (λ is. starts_then starts_the))
+    (λ ops. weaker (invariants_follow _ (λ is. starts_then starts_the))) (λ ops. weaker (invariants_follow _ (λ is. starts_then starts_the))))
+    (λ fs. weaker (operations_follow _ (λ ops. invariants_follow _ (λ is. starts_then starts_the))))
+    (λ fs. weaker (operations_follow _ (λ ops. invariants_follow _ (λ is. starts_then starts_the))))
 
 -- ---- proofs
 
@@ -175,7 +175,7 @@ pub clear_proofs : Clear (only 0) Proofs Proofs
 unfolding Proofs
 clear_proofs = clear_optional (clear_next clear_the λ p. clear_next clear_the λ o.
     clear_then (only (code sign.CloseBrace)) (clear_many {p = any} proof_fork.clear (proof_fork {q = any}).left (proof_fork {q = any}).left any_in any_in (only_in _ refl))
-      (λ xs. clear_next clear_the λ e. clear_yields) (λ xs. follows_starts (starts_then starts_the) same_in) (λ xs. follows_starts (starts_then starts_the) same_in))
+    (λ xs. clear_next clear_the λ e. clear_yields) (λ xs. follows_starts (starts_then starts_the) same_in) (λ xs. follows_starts (starts_then starts_the) same_in))
     (starts_then (starts_the {s = sign.Proofs})) (starts_then (starts_the {s = sign.Proofs})) (only_in _ refl)
 
 -- ---- texts

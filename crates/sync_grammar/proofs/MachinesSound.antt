@@ -42,9 +42,9 @@ pattern_sound left ts =
     (second (then_sound (expr_sound left ts) λ e. yields))
 
 keyed_sound : (left : ℕ) (key : Expr) (ts : List Word) → Sound (Either (Yields (place.Key key)) (do
-      The sign.MapsTo
-      p ← Pattern
-      Yields (place.Entry key p))) ts (keyed left key ts)
+  The sign.MapsTo
+  p ← Pattern
+  Yields (place.Entry key p))) ts (keyed left key ts)
 unfolding keyed
 keyed_sound left key ts =
     either (begins_with sign.MapsTo ts) (second (then_sound (sign_sound left sign.MapsTo ts) λ m. then_sound (pattern_sound left m.1) λ p. yields)) (first yields)
@@ -54,9 +54,9 @@ unfolding place_at Place
 place_sound left ts = either (begins_with sign.OpenRound ts)
     (first (then_sound (sign_sound left sign.OpenRound ts) λ o. then_sound (pattern_sound (left - 1) o.1) λ p. then_sound (sign_sound (left - 1) sign.CloseRound p.1) λ e. yields))
     (second (then_sound (sign_sound left sign.OpenSquare ts) λ o.
-        then_sound (expr_sound (left - 1) o.1) λ k.
-        then_sound (keyed_sound (left - 1) k.0 k.1) λ p.
-        then_sound (sign_sound (left - 1) sign.CloseSquare p.1) λ e. yields))
+    then_sound (expr_sound (left - 1) o.1) λ k.
+    then_sound (keyed_sound (left - 1) k.0 k.1) λ p.
+    then_sound (sign_sound (left - 1) sign.CloseSquare p.1) λ e. yields))
 
 pub closed_expr_sound : (left : ℕ) (ts : List Word) → Sound (Closed AnExpr) ts (closed_expr left ts)
 unfolding closed_expr Closed
@@ -189,9 +189,9 @@ pub proofs_sound : (left : ℕ) (ts : List Word) → Sound Proofs ts (proofs_at 
 unfolding proofs_at Proofs proof_row
 proofs_sound left ts = either (begins_with sign.Proofs ts)
     (second (then_sound (sign_sound left sign.Proofs ts) λ p.
-        then_sound (sign_sound left sign.OpenBrace p.1) λ o.
-        then_sound (row_sound goes_on _ (proof_sound (left - 1)) (length o.1) o.1) λ xs.
-        then_sound (sign_sound (left - 1) sign.CloseBrace xs.1) λ e. yields))
+    then_sound (sign_sound left sign.OpenBrace p.1) λ o.
+    then_sound (row_sound goes_on _ (proof_sound (left - 1)) (length o.1) o.1) λ xs.
+    then_sound (sign_sound (left - 1) sign.CloseBrace xs.1) λ e. yields))
     (first yields)
 
 -- ---- texts
@@ -242,6 +242,7 @@ sound text raw e = go (worded text) refl e
     read ws is (Ok t) r_is h =
         let same = raw_is h in
         (ws, is, subst (Text ws.list []) (ap (λ (x : RawText). (x.machine, x.proofs)) same) (text_sound ws.list t r_is), ap (λ (x : RawText). x.names) (sym same))
+
     go : (w : Result Words Refusal) → worded text ≡ w
         → outcome.◌>>=◌ w (λ ws. outcome.◌>>=◌ (refused ws.last_line (text_of ws.list)) (λ t. Ok (record { machine = t.0; proofs = t.1; names = ws.names }))) ≡ Ok raw → Spells text raw
     go (Err r) is h = absurd cc

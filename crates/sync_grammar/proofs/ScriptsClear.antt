@@ -89,7 +89,7 @@ sum_fork : {q : Set} → Fork q (only (code sign.Sum)) Sum Sum
 unfolding Sum
 sum_fork = lone (clear_next clear_the λ s.
     clear_then (only (code sign.Semicolon)) (clear_series any clear_part refl any_in (only_in _ refl)) (λ parts. clear_next clear_the λ e. clear_yields)
-      (λ parts. follows_starts (starts_then starts_the) same_in) (λ parts. follows_starts (starts_then starts_the) same_in)) (starts_then starts_the)
+    (λ parts. follows_starts (starts_then starts_the) same_in) (λ parts. follows_starts (starts_then starts_the) same_in)) (starts_then starts_the)
 
 inst_fork : {q : Set} → Fork q (only (code sign.Inst)) Inst Inst
 unfolding Inst
@@ -104,32 +104,34 @@ lookup_fork : {q : Set} (opening : Sign) (made : Expr → Expr → Named → Raw
 unfolding Lookup
 lookup_fork opening made = lone (clear_next clear_the λ s.
     expr_then (λ m. clear_next clear_the λ c. expr_then (λ k. clear_next clear_as λ a. clear_next clear_the λ e. clear_yields) (λ k. starts_then starts_as) (only_in _ refl))
-      (λ m. starts_then starts_the) (only_in _ refl)) (starts_then starts_the)
+    (λ m. starts_then starts_the) (only_in _ refl)) (starts_then starts_the)
 
 cong_fork : {q : Set} → Fork q (only (code sign.Cong)) Cong Cong
 unfolding Cong
 cong_fork = lone (clear_next clear_the λ s.
     expr_then (λ m. clear_next clear_the λ c.
-      expr_then (λ j. clear_next clear_the λ d.
-        expr_then (λ k. clear_next clear_as λ a. clear_next clear_the λ e. clear_yields) (λ k. starts_then starts_as) (only_in _ refl))
-        (λ j. starts_then starts_the) (only_in _ refl))
-      (λ m. starts_then starts_the) (only_in _ refl)) (starts_then starts_the)
+    expr_then (λ j. clear_next clear_the λ d.
+    expr_then (λ k. clear_next clear_as λ a. clear_next clear_the λ e. clear_yields) (λ k. starts_then starts_as) (only_in _ refl))
+    (λ j. starts_then starts_the) (only_in _ refl))
+    (λ m. starts_then starts_the) (only_in _ refl)) (starts_then starts_the)
 
 split_fork : {q : Set} {m n : Spelled RawBlock} → Clear any m n → Fork q (only (code sign.Split)) (Split m) (Split n)
 unfolding Split
 split_fork c = record {
-    clear = clear_next clear_the λ s. clear_next clear_hyp λ h. clear_next clear_as λ a. clear_next c λ x. clear_next c λ y. clear_yields;
-    left = starts_then starts_the;
-    right = starts_then starts_the }
+  clear = clear_next clear_the λ s. clear_next clear_hyp λ h. clear_next clear_as λ a. clear_next c λ x. clear_next c λ y. clear_yields;
+  left = starts_then starts_the;
+  right = starts_then starts_the;
+}
 
 cut_fork : {q : Set} {m n : Spelled RawBlock} → Clear any m n → Fork q (only (code sign.Cut)) (Cut m) (Cut n)
 unfolding Cut
 cut_fork c = record {
-    clear = clear_next clear_the λ s.
-        clear_then (others operators) clear_expr (λ f. clear_next clear_as λ a. clear_next c λ b. clear_yields)
-          (λ f. follows_starts (starts_then starts_as) (only_in _ refl)) (λ f. follows_starts (starts_then starts_as) (only_in _ refl));
-    left = starts_then starts_the;
-    right = starts_then starts_the }
+  clear = clear_next clear_the λ s.
+      clear_then (others operators) clear_expr (λ f. clear_next clear_as λ a. clear_next c λ b. clear_yields)
+      (λ f. follows_starts (starts_then starts_as) (only_in _ refl)) (λ f. follows_starts (starts_then starts_as) (only_in _ refl));
+  left = starts_then starts_the;
+  right = starts_then starts_the;
+}
 
 abbrev step_signs : Set
 step_signs = both (only (code sign.Split)) (both (only (code sign.Cut)) (both (only (code sign.Same)) (both (only (code sign.Sum)) (both (only (code sign.Inst)) (both (only (code sign.Parts))
@@ -160,7 +162,7 @@ clear_block_of : {q : Set} {m n : Spelled RawBlock} → Clear any m n → Clear 
 unfolding BlockOf
 clear_block_of c = clear_next clear_the λ o.
     clear_then (only (code sign.CloseBrace)) (clear_many {p = any} (clear_step c) (starts_step c) (starts_step' c) any_in any_in (only_in _ refl)) (λ xs. clear_next clear_the λ e. clear_yields)
-      (λ xs. follows_starts (starts_then starts_the) same_in) (λ xs. follows_starts (starts_then starts_the) same_in)
+    (λ xs. follows_starts (starts_then starts_the) same_in) (λ xs. follows_starts (starts_then starts_the) same_in)
 
 clear_nested : {q : Set} (depth other : ℕ) → Clear q (Nested depth) (Nested other)
 unfolding Nested

@@ -69,12 +69,26 @@ is_the w s e = go w.what e
 pub sign_sound : (left : ℕ) (s : Sign) (ts : List Word) → Sound (The s) ts (sign_at left s ts)
 unfolding sign_at
 sign_sound left s [] = stops
-sign_sound left s (w ∷ ws) = tested (is_sign w s) (λ is. either (left == 0) stops (record { holds = λ x rest e. record {
-    word = w; stands = ap (λ v. w ∷ v.1) (ok_is e); is = is_the w s is; line_is = sym (ap (λ v. v.0) (ok_is e)) } })) stops
+sign_sound left s (w ∷ ws) = tested (is_sign w s) (λ is. either (left == 0) stops (record {
+  holds = λ x rest e. record {
+    word = w;
+    stands = ap (λ v. w ∷ v.1) (ok_is e);
+    is = is_the w s is;
+    line_is = sym (ap (λ v. v.0) (ok_is e));
+  };
+})) stops
 
 name_case : (left : ℕ) (w : Word) (ws : List Word) (x : What) → w.what ≡ x → Sound AName (w ∷ ws) (name_said left w.line ws x)
-name_case left w ws (what.Name n strategy) is = either (left == 0) stops (record { holds = λ x rest e. record {
-    word = w; number = n; strategy = strategy; stands = ap (λ v. w ∷ v.1) (ok_is e); is = is; name_is = sym (ap (λ v. v.0) (ok_is e)) } })
+name_case left w ws (what.Name n strategy) is = either (left == 0) stops (record {
+  holds = λ x rest e. record {
+    word = w;
+    number = n;
+    strategy = strategy;
+    stands = ap (λ v. w ∷ v.1) (ok_is e);
+    is = is;
+    name_is = sym (ap (λ v. v.0) (ok_is e));
+  };
+})
 name_case left w ws (what.Number n) is = stops
 name_case left w ws (what.Sign s) is = stops
 
@@ -84,8 +98,13 @@ name_sound left [] = stops
 name_sound left (w ∷ ws) = name_case left w ws w.what refl
 
 number_case : (left : ℕ) (w : Word) (ws : List Word) (x : What) → w.what ≡ x → Sound ANumber (w ∷ ws) (number_said left w.line ws x)
-number_case left w ws (what.Number n) is = either (left == 0) stops (record { holds = λ x rest e. record {
-    word = w; stands = ap (λ v. w ∷ v.1) (ok_is e); is = is ∙ ap (λ v. what.Number v.0) (ok_is e) } })
+number_case left w ws (what.Number n) is = either (left == 0) stops (record {
+  holds = λ x rest e. record {
+    word = w;
+    stands = ap (λ v. w ∷ v.1) (ok_is e);
+    is = is ∙ ap (λ v. what.Number v.0) (ok_is e);
+  };
+})
 number_case left w ws (what.Name n strategy) is = stops
 number_case left w ws (what.Sign s) is = stops
 
@@ -95,8 +114,14 @@ number_sound left [] = stops
 number_sound left (w ∷ ws) = number_case left w ws w.what refl
 
 strategy_case : (left : ℕ) (w : Word) (ws : List Word) (x : What) → w.what ≡ x → Sound AStrategy (w ∷ ws) (strategy_said left w.line ws x)
-strategy_case left w ws (what.Name n (Some strategy)) is = either (left == 0) stops (record { holds = λ x rest e. record {
-    word = w; number = n; stands = ap (λ v. w ∷ v.1) (ok_is e); is = is ∙ ap (λ v. what.Name n (Some v.0)) (ok_is e) } })
+strategy_case left w ws (what.Name n (Some strategy)) is = either (left == 0) stops (record {
+  holds = λ x rest e. record {
+    word = w;
+    number = n;
+    stands = ap (λ v. w ∷ v.1) (ok_is e);
+    is = is ∙ ap (λ v. what.Name n (Some v.0)) (ok_is e);
+  };
+})
 strategy_case left w ws (what.Name n None) is = stops
 strategy_case left w ws (what.Number n) is = stops
 strategy_case left w ws (what.Sign s) is = stops
@@ -117,7 +142,7 @@ the_sign w ws s is = record { word = w; stands = refl; is = is; line_is = refl }
 
 row_step : {A : Type 0} {m : Spelled A} (begins : List Word → Bool) (item : Reader A) → ((ts : List Word) → Sound m ts (item ts))
     → (count : ℕ) → ((held : List A) (ts : List Word) (xs : List A) (rest : List Word) → row begins item count held ts ≡ Ok (xs, rest)
-        → (ys : List A) × Many m ts rest ys × (xs ≡ held ++ ys))
+    → (ys : List A) × Many m ts rest ys × (xs ≡ held ++ ys))
     → (held : List A) (ts : List Word) (xs : List A) (rest : List Word) (r : Read A) → item ts ≡ r
     → outcome.◌>>=◌ r (λ x. row begins item count (held ++ x.0 ∷ []) x.1) ≡ Ok (xs, rest)
     → (ys : List A) × Many m ts rest ys × (xs ≡ held ++ ys)
@@ -133,7 +158,7 @@ none_more {m = m} held ts xs rest e = ([], subst (λ us. Many m ts us []) (ap (�
 -- one more item, where the words begin one
 row_case : {A : Type 0} {m : Spelled A} (begins : List Word → Bool) (item : Reader A) → ((ts : List Word) → Sound m ts (item ts))
     → (count : ℕ) → ((held : List A) (ts : List Word) (xs : List A) (rest : List Word) → row begins item count held ts ≡ Ok (xs, rest)
-        → (ys : List A) × Many m ts rest ys × (xs ≡ held ++ ys))
+    → (ys : List A) × Many m ts rest ys × (xs ≡ held ++ ys))
     → (held : List A) (ts : List Word) (xs : List A) (rest : List Word) (c : Bool)
     → (if c then outcome.◌>>=◌ (item ts) (λ x. row begins item count (held ++ x.0 ∷ []) x.1) else Ok (held, ts)) ≡ Ok (xs, rest)
     → (ys : List A) × Many m ts rest ys × (xs ≡ held ++ ys)
@@ -155,7 +180,7 @@ row_sound {m = m} begins item sound count ts = record { holds = λ xs rest e. le
 
 commas_step : {A : Type 0} {m : Spelled A} (item : Reader A) → ((ts : List Word) → Sound m ts (item ts))
     → (count : ℕ) → ((held : List A) (ts : List Word) (xs : List A) (rest : List Word) → behind_commas item count held ts ≡ Ok (xs, rest)
-        → (ys : List A) × Many (The sign.Comma >> m) ts rest ys × (xs ≡ held ++ ys))
+    → (ys : List A) × Many (The sign.Comma >> m) ts rest ys × (xs ≡ held ++ ys))
     → (held : List A) (w : Word) (ws : List Word) (xs : List A) (rest : List Word) (r : Read A) → item ws ≡ r → w.what ≡ what.Sign sign.Comma
     → outcome.◌>>=◌ r (λ x. behind_commas item count (held ++ x.0 ∷ []) x.1) ≡ Ok (xs, rest)
     → (ys : List A) × Many (The sign.Comma >> m) (w ∷ ws) rest ys × (xs ≡ held ++ ys)
@@ -166,7 +191,7 @@ commas_step item sound count again held w ws xs rest (Ok v) read is e =
 
 commas_case : {A : Type 0} {m : Spelled A} (item : Reader A) → ((ts : List Word) → Sound m ts (item ts))
     → (count : ℕ) → ((held : List A) (ts : List Word) (xs : List A) (rest : List Word) → behind_commas item count held ts ≡ Ok (xs, rest)
-        → (ys : List A) × Many (The sign.Comma >> m) ts rest ys × (xs ≡ held ++ ys))
+    → (ys : List A) × Many (The sign.Comma >> m) ts rest ys × (xs ≡ held ++ ys))
     → (held : List A) (w : Word) (ws : List Word) (xs : List A) (rest : List Word) (c : Bool) → is_sign w sign.Comma ≡ c
     → (if c then outcome.◌>>=◌ (item ws) (λ x. behind_commas item count (held ++ x.0 ∷ []) x.1) else Ok (held, w ∷ ws)) ≡ Ok (xs, rest)
     → (ys : List A) × Many (The sign.Comma >> m) (w ∷ ws) rest ys × (xs ≡ held ++ ys)
@@ -185,8 +210,10 @@ commas_hold item sound (suc count) held (w ∷ ws) xs rest e =
 -- the first item with those behind commas
 series_end : {A : Type 0} {m : Spelled A} (item : Reader A) → ((ts : List Word) → Sound m ts (item ts))
     → (x : A) (ts : List Word) → Sound (Then (Many (The sign.Comma >> m)) (λ xs. Yields (x ∷ xs))) ts (behind_commas item (length ts) (x ∷ []) ts)
-series_end item sound x ts = record { holds = λ xs rest e. let h = commas_hold item sound (length ts) (x ∷ []) ts xs rest e in
-    record { value = h.0; middle = rest; one = h.1; next = record { none = refl; is = h.2 } } }
+series_end item sound x ts = record {
+  holds = λ xs rest e. let h = commas_hold item sound (length ts) (x ∷ []) ts xs rest e in
+      record { value = h.0; middle = rest; one = h.1; next = record { none = refl; is = h.2 } };
+}
 
 pub series_sound : {A : Type 0} {m : Spelled A} (item : Reader A) → ((ts : List Word) → Sound m ts (item ts)) → (ts : List Word) → Sound (Series m) ts (series item ts)
 unfolding series Series

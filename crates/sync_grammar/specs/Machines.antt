@@ -90,10 +90,10 @@ HaveAct = do
   The sign.Have
   x ← AName
   (The sign.Semicolon >> Yields (act.HaveVariable x))
-    or (do
-      The sign.AtLeast
-      p ← Closed Place
-      Yields (act.Have x p))
+      or (do
+        The sign.AtLeast
+        p ← Closed Place
+        Yields (act.Have x p))
 
 unfoldable pub ActKind : Spelled RawActKind
 ActKind =

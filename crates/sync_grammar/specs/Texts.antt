@@ -35,3 +35,7 @@ Spells text raw = (ws : Words) × (worded text ≡ Ok ws) × Text ws.list [] (ra
 unfoldable pub times_said : Sign → List Word → ℕ
 times_said s [] = 0
 times_said s (w ∷ ws) = (if is_sign w s then 1 else 0) + times_said s ws
+
+-- so often `by` stands in the text
+abbrev pub HasScripts : List ℕ → ℕ → Type 0
+HasScripts text n = (ws : Words) × (worded text ≡ Ok ws) × (times_said sign.By ws.list ≡ n)
