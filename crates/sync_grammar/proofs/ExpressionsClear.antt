@@ -75,7 +75,7 @@ starts_whole s = starts_here λ start. starts_then s
 
 -- ---- operands
 
-same_is : (s t : Sign) → is_same s t ≡ true → s ≡ t
+pub same_is : (s t : Sign) → is_same s t ≡ true → s ≡ t
 same_is s t e = same_true the_type tt s t e
 
 -- a row of a table of signs
@@ -114,7 +114,7 @@ pub record Inner (m n : Spelled ExprKind) : Type 0 where
   pub left : Starts m begins
   pub right : Starts n begins
 
-call_fork : {q : Set} {m n : Spelled ExprKind} → Inner m n → Fork q functions
+pub call_fork : {q : Set} {m n : Spelled ExprKind} → Inner m n → Fork q functions
     (OneOf function_of >>= λ f. InRound (Whole m) >>= λ args. Yields (kind.Call f.0 f.1 args))
     (OneOf function_of >>= λ f. InRound (Whole n) >>= λ args. Yields (kind.Call f.0 f.1 args))
 call_fork i = record {
@@ -137,7 +137,7 @@ bracket_fork i = record {
 abbrev others_begin : Set
 others_begin = both (only 1) (both (only (code sign.Dollar)) (both (only (code sign.Nil)) (both specials (both functions (only (code sign.OpenRound))))))
 
-special_fork : {q : Set} → Fork q specials (OneOf special_of >>= λ x. Yields (kind.Special x.0 x.1)) (OneOf special_of >>= λ x. Yields (kind.Special x.0 x.1))
+pub special_fork : {q : Set} → Fork q specials (OneOf special_of >>= λ x. Yields (kind.Special x.0 x.1)) (OneOf special_of >>= λ x. Yields (kind.Special x.0 x.1))
 special_fork = lone (clear_next clear_one_of λ x. clear_yields) (starts_then (starts_table special_in))
 
 other_fork : {q : Set} {m n : Spelled ExprKind} → Inner m n → Fork q others_begin (NoNumber m) (NoNumber n)
@@ -158,7 +158,7 @@ begin_in : {q : Set} → q 2 ≡ true → q 1 ≡ true → q (code sign.Dollar) 
     → In (both (only 2) others_begin) q
 begin_in a b c d e f g = both_in (only_in _ a) (both_in (only_in _ b) (both_in (only_in _ c) (both_in (only_in _ d) (both_in e (both_in f (only_in _ g))))))
 
-starts_operand : {m n : Spelled ExprKind} → Inner m n → Starts (Operand m) (among operands)
+pub starts_operand : {m n : Spelled ExprKind} → Inner m n → Starts (Operand m) (among operands)
 starts_operand i = starts_weaker (operand_fork {q = any} i).left (begin_in refl refl refl refl (among_in special_codes refl) (among_in function_codes refl) refl)
 
 starts_operand' : {m n : Spelled ExprKind} → Inner m n → Starts (Operand n) (among operands)
@@ -171,10 +171,10 @@ clash : {A B : Type 0} {m : Spelled A} {n : Spelled B} {p r : Set} → Starts m 
     → (ts us rest vs : List Word) (x : A) (y : B) → m ts rest x → n us vs y → ts ≡ us → {C : Type 0} → C
 clash {r = r} s t i ts us rest vs x y d e same = not_both (r (front ts)) (ap r (ap front same) ∙ t.at us vs y e) (i.at (front ts) (s.at ts rest x d))
 
-starts_bang : Starts (The sign.Bang) (only (code sign.Bang))
+pub starts_bang : Starts (The sign.Bang) (only (code sign.Bang))
 starts_bang = starts_the
 
-starts_minus : Starts (The sign.Minus) (only (code sign.Minus))
+pub starts_minus : Starts (The sign.Minus) (only (code sign.Minus))
 starts_minus = starts_the
 
 starts_unary_case : {m n : Spelled ExprKind} → Inner m n → (ts rest : List Word) (x : ExprKind) → Unary m ts rest x → begins (front ts) ≡ true
@@ -230,7 +230,7 @@ no_number : In others_begin (others (only 2))
 no_number = both_in (only_in _ refl) (both_in (only_in _ refl) (both_in (only_in _ refl) (both_in (among_in special_codes refl) (both_in (among_in function_codes refl) (only_in _ refl)))))
 
 -- an operand that begins with a number is that number
-number_alone : {m n : Spelled ExprKind} → Inner m n → (ts us rest vs : List Word) (x : ExprKind) (k : ℕ) → Unary m ts rest x → ANumber us vs k → ts ≡ us → rest ≡ vs
+pub number_alone : {m n : Spelled ExprKind} → Inner m n → (ts us rest vs : List Word) (x : ExprKind) (k : ℕ) → Unary m ts rest x → ANumber us vs k → ts ≡ us → rest ≡ vs
 unfolding Operand
 number_alone i ts us rest vs x k (Unary.operand (the_one d)) e same = sym d.next.none ∙ (plain_number.at ts us d.middle vs d.value k d.one e same refl refl).0
 number_alone i ts us rest vs x k (Unary.operand (the_other d)) e same = clash (other_fork {q = any} i).left starts_number no_number ts us rest vs x k d e same
@@ -259,7 +259,7 @@ starts_product i = starts_weaker (starts_or (starts_unary i) (starts_then starts
 
 -- ---- chains
 
-follows_chain_case : {q p r : Set} {Op : Spelled Operator} {m : Spelled ExprKind} {start : List Word} → Starts Op r → In r p → In q p
+pub follows_chain_case : {q p r : Set} {Op : Spelled Operator} {m : Spelled ExprKind} {start : List Word} → Starts Op r → In r p → In q p
     → (held : ExprKind) (ts rest : List Word) (z : ExprKind) → Chain Op m start held ts rest z → q (front rest) ≡ true → p (front ts) ≡ true
 follows_chain_case s i j held ts rest z Chain.ends a = j.at (front ts) a
 follows_chain_case s i j held ts rest z (Chain.goes_on {us = us} {o = o} y d e more) a = i.at (front ts) (s.at ts us o d)
@@ -294,14 +294,14 @@ starts_chained Op m s = starts_here λ start. starts_then s
 -- ---- the levels
 
 -- an operator's sign
-joins_fork : {q : Set} (s : Sign) (o : Operator) → Fork q (only (code s)) (Joins s o) (Joins s o)
+pub joins_fork : {q : Set} (s : Sign) (o : Operator) → Fork q (only (code s)) (Joins s o) (Joins s o)
 joins_fork s o = lone (clear_next clear_the λ l. clear_yields) (starts_then starts_the)
 
-sum_fork : {q : Set} → Fork q (both (only (code sign.Plus)) (only (code sign.Minus))) SumSign SumSign
+pub sum_fork : {q : Set} → Fork q (both (only (code sign.Plus)) (only (code sign.Minus))) SumSign SumSign
 unfolding SumSign
 sum_fork = fork_or (joins_fork sign.Plus operator.Plus) (joins_fork sign.Minus operator.Minus) (only_in _ refl)
 
-relation_fork : {q : Set} → Fork q (both (only (code sign.Equal)) (both (only (code sign.NotEqual)) (both (only (code sign.AtMost)) (only (code sign.Below))))) RelationSign RelationSign
+pub relation_fork : {q : Set} → Fork q (both (only (code sign.Equal)) (both (only (code sign.NotEqual)) (both (only (code sign.AtMost)) (only (code sign.Below))))) RelationSign RelationSign
 unfolding RelationSign
 relation_fork = fork_or (joins_fork sign.Equal operator.Equal) (fork_or (joins_fork sign.NotEqual operator.NotEqual)
     (fork_or (joins_fork sign.AtMost operator.AtMost) (joins_fork sign.Below operator.Below) (only_in _ refl)) (only_in _ refl)) (only_in _ refl)
@@ -315,10 +315,10 @@ pub starts_sum : {m n : Spelled ExprKind} → Inner m n → Starts (Sum m) begin
 unfolding Sum
 starts_sum {m = m} i = starts_chained SumSign (Product m) (starts_product i)
 
-abbrev relations : Set
+abbrev pub relations : Set
 relations = both (only (code sign.Equal)) (both (only (code sign.NotEqual)) (both (only (code sign.AtMost)) (only (code sign.Below))))
 
-relations_in : {q : Set} → q (code sign.Equal) ≡ true → q (code sign.NotEqual) ≡ true → q (code sign.AtMost) ≡ true → q (code sign.Below) ≡ true → In relations q
+pub relations_in : {q : Set} → q (code sign.Equal) ≡ true → q (code sign.NotEqual) ≡ true → q (code sign.AtMost) ≡ true → q (code sign.Below) ≡ true → In relations q
 relations_in a b c d = both_in (only_in _ a) (both_in (only_in _ b) (both_in (only_in _ c) (only_in _ d)))
 
 pub clear_relation : {m n : Spelled ExprKind} → Inner m n → Clear (others relation_signs) (Relation m) (Relation n)
@@ -355,7 +355,7 @@ pub starts_or_level : {m n : Spelled ExprKind} → Inner m n → Starts (Or m) b
 unfolding Or
 starts_or_level {m = m} i = starts_chained (Joins sign.Or operator.Or) (And m) (starts_and i)
 
-starts_implies : Starts (The sign.Implies) (only (code sign.Implies))
+pub starts_implies : Starts (The sign.Implies) (only (code sign.Implies))
 starts_implies = starts_the
 
 -- where a first side ends
@@ -363,11 +363,11 @@ first_side : {m n : Spelled ExprKind} → Inner m n → (ts us rest vs : List Wo
     → others or_signs (front rest) ≡ true → others or_signs (front vs) ≡ true → (rest ≡ vs) × (x ≡ y)
 first_side i = (clear_or_level i).at
 
-implies_follows : (us vs : List Word) (line : ℕ) → The sign.Implies us vs line → others or_signs (front us) ≡ true
+pub implies_follows : (us vs : List Word) (line : ℕ) → The sign.Implies us vs line → others or_signs (front us) ≡ true
 implies_follows us vs line p = (only_in {q = others or_signs} _ refl).at (front us) (starts_implies.at us vs line p)
 
 -- no sign that continues an expression is there, so none that continues its first side
-no_operator : (ts : List Word) → others operators (front ts) ≡ true → others or_signs (front ts) ≡ true
+pub no_operator : (ts : List Word) → others operators (front ts) ≡ true → others or_signs (front ts) ≡ true
 no_operator ts a = (others_in (only (code sign.Implies)) or_signs).at (front ts) a
 
 implied_case : {m n : Spelled ExprKind} → Inner m n → (ts us rest vs : List Word) (x y : ExprKind) → Implied m ts rest x → Implied n us vs y → ts ≡ us
@@ -398,13 +398,13 @@ nothing_inner : {m : Spelled ExprKind} → Starts m begins → Inner (Nested zer
 unfolding Nested
 nothing_inner s = record { clear = record { at = λ ts us rest vs x y d e same a b. absurd d }; left = record { at = λ ts rest x d. absurd d }; right = s }
 
-starts_nested : (depth : ℕ) → Starts (Nested depth) begins
+pub starts_nested : (depth : ℕ) → Starts (Nested depth) begins
 unfolding Nested
 starts_nested zero = record { at = λ ts rest x d. absurd d }
 starts_nested (suc depth) = record { at = starts_implied_case (turned (nothing_inner (starts_nested depth))) }
 
 -- brackets in brackets
-nested_inner : (depth other : ℕ) → Inner (Nested depth) (Nested other)
+pub nested_inner : (depth other : ℕ) → Inner (Nested depth) (Nested other)
 unfolding Nested
 nested_inner zero other = nothing_inner (starts_nested other)
 nested_inner (suc depth) zero = turned (nothing_inner (starts_nested (suc depth)))
