@@ -3,6 +3,8 @@
 #   wide      64 invariants by 60 transitions, a short sum for each of the 3,904 obligations
 #   sums      two invariants by 60 transitions, long sums
 #   chain     one invariant whose terms are left chains of sums
+#   maps      asserts of what is under a key of a map changed eight times, each by a `read` a change
+#   splits    asserts by 40 cases of an invariant, each a split in the one before
 function put(text) { printf "%s\n", text; written += length(text) + 1 }
 
 function head() {
@@ -87,10 +89,84 @@ function chained(name, count,    line, i) {
     return line
 }
 
+# the map changed `count` times
+function changed(count,    i, map) {
+    map = "m"
+    for (i = 1; i <= count; i++) map = "put(" map ", " i ", " i ")"
+    return map
+}
+
+# what is under key 1 of the map changed `count` times, as the map before says it
+function looked_up(count,    script) {
+    script = "read " changed(count) ", 1 as r" count "; split r" count " as w" count " "
+    if (count == 1)
+        return script "{ parts w1 as k, e; parts e as g1, h; sum 1 denied" gets(8) "; } { parts w1 as k, e; same; }"
+    return script "{ parts w" count " as k, e; same; } { parts w" count " as k, e; parts e as g" count ", h; " looked_up(count - 1) " }"
+}
+
+function gets(count,    i, list) {
+    for (i = 1; i <= count; i++) list = list ", -1 g" i
+    return list
+}
+
+# transitions of 64 asserts each
+function asserts(form, script,    i, j, count, each) {
+    each = length(form) + length(script) + 24
+    count = int((bytes * 0.98 - written) / each)
+    if (count > 60 * 64) count = 60 * 64
+    for (i = 0; i * 64 < count; i++) {
+        put("  property p" i "() {")
+        for (j = 0; j < 64 && i * 64 + j < count; j++) put("    assert " form ";")
+        put("  }")
+    }
+    return count
+}
+
+function assert_proofs(count, script,    i) {
+    for (i = 0; i < count; i++) put("  p" int(i / 64) " at " i % 64 + 1 " by { " script " }")
+}
+
+function maps(    form, script, count) {
+    put("version 1;")
+    put("machine Bench {")
+    put("  field m: map;")
+    put("  init begin() { init m = nil; }")
+    form = "get(" changed(8) ", 1) = 1"
+    script = looked_up(8)
+    count = asserts(form, script)
+    put("}")
+    put("proofs {")
+    assert_proofs(count, script)
+    put("}")
+}
+
+function splits(    i, cases, script, parts, count) {
+    put("version 1;")
+    put("machine Bench {")
+    put("  field x: variable;")
+    put("  init begin() { init x = 0; }")
+    cases = "x = 0"
+    for (i = 1; i <= 40; i++) cases = cases " || x = " i
+    script = "sum 1 denied, 1 a;"
+    for (i = 1; i <= 40; i++) {
+        parts = parts "parts " (i == 1 ? "denied" : "a") " as a, b; "
+        script = "split " (i == 40 ? "one" : "a") " as a { " script " } { sum 1 denied, 1 a; }"
+    }
+    count = asserts("x <= 40", script)
+    put("  invariant one(): " cases ";")
+    put("}")
+    put("proofs {")
+    put("  begin keeps one by { " parts "same; }")
+    assert_proofs(count, script)
+    put("}")
+}
+
 BEGIN {
     if (shape == "comments") comments()
     else if (shape == "wide") wide()
     else if (shape == "sums") sums()
     else if (shape == "chain") chain()
+    else if (shape == "maps") maps()
+    else if (shape == "splits") splits()
     else { print "no such shape: " shape > "/dev/stderr"; exit 2 }
 }

@@ -3,28 +3,40 @@ use Rattle.std.proofs.Common.{◌≡◌, ℕ, ◌+◌, ◌<◌, ◌≤◌, ◌�
 use Rattle.std.proofs.lemmas.Grind.{common_steps}
 use Rattle.std.specs.declared.alloc.Global.{Global}
 use Rattle.std.specs.Result.{result_unwrap_or}
+use Rattle.sync_base.specs.Outcome.{◌>>=◌}
 use Rattle.sync_base.specs.Outside.{GivesFront}
-use Rattle.sync_cli.specs.Answers.{status_of, out_of, err_of, IsVerdictLine}
-use Rattle.sync_cli.specs.Checking.{most_bytes, verdict_of, IsAccepted, verdict-too_long}
-use Rattle.sync_cli.specs.Serving.{AreCheck, Allowed, WasRead}
+use Rattle.sync_base.specs.declared.stops.Rule.TheVariants.{L1}
+use Rattle.sync_cli.specs.Answers.{status_of, out_of, err_of, IsAnswer}
+use Rattle.sync_check.specs.Checking.{most_bytes, judged, verdict_of, spelled-too_long}
+use Rattle.sync_cli.specs.Commands.{Asks, answered, accepted_lines, IsDone}
+use Rattle.sync_check.specs.Listing.{listed, listing_of}
+use Rattle.sync_cli.specs.Serving.{Allowed, WasRead}
 use Rattle.sync_cli.specs.Streams.{IsAtEnd}
 use Rattle.sync_cli.specs.declared.answers.Answer.{Answer}
 use Rattle.sync_cli.specs.declared.answers.Answer.TheVariants as variant
+use Rattle.sync_cli.specs.declared.commands.Command.{Command}
+use Rattle.sync_cli.specs.declared.commands.Command.TheVariants.{Check, Obligations}
 
--- a text of the source, of which the bytes that were read tell the verdict
+-- every command refuses a text that is longer than the limit
+answered-too_long : (command : Command) (bytes : List ℕ) → most_bytes < length bytes → answered command bytes ≡ Err (record { line = 1; rule = L1 })
+unfolding answered verdict_of listing_of
+answered-too_long Check bytes long = ap (λ r. (r >>= judged) >>= accepted_lines) (spelled-too_long bytes long)
+answered-too_long Obligations bytes long = ap (λ r. r >>= listed) (spelled-too_long bytes long)
+
+-- a text of the source, for which a command gives what it gives for the bytes that were read
 record ReadAs (told left : Option (List ℕ)) (faults faults' : ℕ) (read : List ℕ) : Type 0 where
   text : List ℕ
   was_read : WasRead told left faults faults' text
-  same : verdict_of text ≡ verdict_of read
-  accepted : (scripts : ℕ) → verdict_of read ≡ Ok scripts → IsAccepted read scripts → IsAccepted text scripts
+  same : (command : Command) → answered command text ≡ answered command read
+  done : (command : Command) (lines : List (List ℕ)) → answered command read ≡ Ok lines → IsDone command read lines → IsDone command text lines
 
 -- all of the source was read
 whole : (bytes rest read : List ℕ) (faults faults' : ℕ) → bytes ≡ read ++ rest → rest ≡ [] → length read ≤ most_bytes + 1 → faults' ≡ faults → ReadAs (Some bytes) (Some rest) faults faults' read
 whole bytes rest read faults faults' cut end bounded sound = record {
   text = bytes;
   was_read = record { sound = sound; is_told = refl; read_out = inl end; bounded = omega (arith, ap length cut, length-append read rest, ap length end) };
-  same = ap verdict_of same;
-  accepted = λ scripts v a. subst (λ xs. IsAccepted xs scripts) (sym same) a;
+  same = λ command. ap (answered command) same;
+  done = λ command lines gives is. subst (λ xs. IsDone command xs lines) (sym same) is;
 }
   where
     same : bytes ≡ read
@@ -37,8 +49,8 @@ beyond bytes rest read faults faults' cut long bounded sound =
     record {
       text = bytes;
       was_read = record { sound = sound; is_told = refl; read_out = inr (omega arith); bounded = omega arith };
-      same = verdict-too_long bytes (omega arith) ∙ sym (verdict-too_long read long);
-      accepted = λ scripts v a. absurd (let e = sym v ∙ verdict-too_long read long in cc);
+      same = λ command. answered-too_long command bytes (omega arith) ∙ sym (answered-too_long command read long);
+      done = λ command lines gives is. absurd (let e = sym gives ∙ answered-too_long command read long in cc);
     }
 
 -- nothing is told of the source
@@ -46,8 +58,8 @@ untold : (left : Option (List ℕ)) (read : List ℕ) (faults faults' : ℕ) →
 untold left read faults faults' sound = record {
   text = read;
   was_read = record { sound = sound; is_told = tt; read_out = tt; bounded = tt };
-  same = refl;
-  accepted = λ scripts v a. a;
+  same = λ command. refl;
+  done = λ command lines gives is. is;
 }
 
 read_as : (told left : Option (List ℕ)) (faults faults' : ℕ) (read : List ℕ) → GivesFront told left read → IsAtEnd left ⊎ (most_bytes < length read) → length read ≤ most_bytes + 1 → faults' ≡ faults → ReadAs told left faults faults' read
@@ -64,21 +76,21 @@ read_as (Some bytes) (Some rest) faults faults' read front (inr long) bounded so
     same : front.0 ≡ rest
     same = cc
 
--- the line of the verdict on what was read is an answer that is allowed
-allowed_by_line : (words : List (String Global)) (told left : Option (List ℕ)) (faults faults' : ℕ) (read : List ℕ) (answer : Answer) → AreCheck words → ReadAs told left faults faults' read → IsVerdictLine read answer → Allowed words told left faults faults' (status_of answer) (out_of answer) (err_of answer)
-allowed_by_line words told left faults faults' read (variant.Done line) w r l =
-    (w, r.text, l.0, r.was_read, r.same ∙ l.1, r.accepted l.0 l.1 l.2, l.3, refl)
-allowed_by_line words told left faults faults' read (variant.Refused line) w r l =
-    (w, r.text, l.0, r.was_read, r.same ∙ l.1, refl, l.2)
-allowed_by_line words told left faults faults' read variant.Usage w r l = absurd l
-allowed_by_line words told left faults faults' read variant.ReadFault w r l = absurd l
-allowed_by_line words told left faults faults' read variant.NoMemory w r l = (w, refl, refl)
+-- what a command answers for what was read is allowed
+allowed_by : (words : List (String Global)) (told left : Option (List ℕ)) (faults faults' : ℕ) (read : List ℕ) (command : Command) (answer : Answer) → Asks words command → ReadAs told left faults faults' read → IsAnswer command read answer → Allowed words told left faults faults' (status_of answer) (out_of answer) (err_of answer)
+allowed_by words told left faults faults' read command (variant.Done lines) w r a =
+    (command, r.text, lines, w, r.was_read, r.same command ∙ a.0, r.done command lines a.0 a.1, refl, refl)
+allowed_by words told left faults faults' read command (variant.Refused line) w r a =
+    (command, r.text, a.0, w, r.was_read, r.same command ∙ a.1, refl, a.2)
+allowed_by words told left faults faults' read command variant.Usage w r a = absurd a
+allowed_by words told left faults faults' read command variant.ReadFault w r a = absurd a
+allowed_by words told left faults faults' read command variant.NoMemory w r a = (command, w, refl, refl)
 
-pub Allowed-from_line : (words : List (String Global)) (told left : Option (List ℕ)) (faults faults' : ℕ) (read : List ℕ) (size : ℕ) (answer : Answer) → AreCheck words → GivesFront told left read → length read ≡ size → IsAtEnd left ⊎ (most_bytes < size) → size ≤ most_bytes + 1 → faults' ≡ faults → IsVerdictLine read answer → Allowed words told left faults faults' (status_of answer) (out_of answer) (err_of answer)
-Allowed-from_line words told left faults faults' read size answer w front len ends bounded sound l =
-    allowed_by_line words told left faults faults' read answer w (read_as told left faults faults' read front (subst (λ n. IsAtEnd left ⊎ (most_bytes < n)) (sym len) ends) (omega arith) sound) l
+pub Allowed-from_answer : (words : List (String Global)) (told left : Option (List ℕ)) (faults faults' : ℕ) (read : List ℕ) (size : ℕ) (command : Command) (answer : Answer) → Asks words command → GivesFront told left read → length read ≡ size → IsAtEnd left ⊎ (most_bytes < size) → size ≤ most_bytes + 1 → faults' ≡ faults → IsAnswer command read answer → Allowed words told left faults faults' (status_of answer) (out_of answer) (err_of answer)
+Allowed-from_answer words told left faults faults' read size command answer w front len ends bounded sound a =
+    allowed_by words told left faults faults' read command answer w (read_as told left faults faults' read front (subst (λ n. IsAtEnd left ⊎ (most_bytes < n)) (sym len) ends) (omega arith) sound) a
 
 -- where a line was not made the answer is want of memory
-pub IsVerdictLine-unwrap : {E : Type 0} (text : List ℕ) (made : Result Answer E) → IfOk made (IsVerdictLine text) → IsVerdictLine text (result_unwrap_or made variant.NoMemory)
-IsVerdictLine-unwrap text (Ok answer) h = h
-IsVerdictLine-unwrap text (Err e) h = tt
+pub IsAnswer-unwrap : {E : Type 0} (command : Command) (text : List ℕ) (made : Result Answer E) → IfOk made (IsAnswer command text) → IsAnswer command text (result_unwrap_or made variant.NoMemory)
+IsAnswer-unwrap command text (Ok answer) h = h
+IsAnswer-unwrap command text (Err e) h = tt

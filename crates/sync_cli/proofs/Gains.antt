@@ -1,7 +1,8 @@
 -- What a sink gained by one write after another.
-use Rattle.std.proofs.Common.{◌≡◌, ℕ, ◌<◌, List, [], ◌∷◌, ◌++◌, length, take, drop, Option, Some, None, refl, ap, sym, ◌∙◌, append_assoc, length-append, length-drop, ◌-◌, Result, OnErr, Ok, Err, arith}
-use Rattle.std.proofs.lemmas.List.{take-append-drop, take_all}
-use Rattle.std.proofs.Math.Seq.{take-append_seam}
+use Rattle.std.proofs.Common.{◌≡◌, ℕ, suc, ◌+◌, ◌<◌, List, [], ◌∷◌, ◌++◌, length, get_or, take, drop, Option, Some, None, refl, ap, sym, ◌∙◌, append_assoc, length-append, length-drop, add-one, ◌-◌, Result, OnErr, Ok, Err, arith}
+use Rattle.std.specs.List.{concat}
+use Rattle.std.proofs.lemmas.List.{take-append-drop, take-append-le, take_all}
+use Rattle.std.proofs.Math.Seq.{take-append_seam, take-append-add, drop-cons}
 use Rattle.std.proofs.lemmas.Grind.{common_steps}
 use Rattle.sync_base.specs.Outside.{gained}
 use Rattle.sync_cli.specs.Streams.{GainsPart}
@@ -48,6 +49,37 @@ HasWritten-part old mid new line rest h pos e = (
   omega (arith, ap length h.cut, length-append h.front rest),
   e ∙ h.written ∙ ap (λ xs. gained old xs) (sym (ap (take (length h.front)) h.cut ∙ take-append_seam h.front rest)),
 )
+
+-- a whole line was written, which stands in front of what was left
+pub HasWritten-line : (old mid new : Option (List ℕ)) (text rest line after : List ℕ) → HasWritten old mid text rest → rest ≡ line ++ after → new ≡ gained mid line → HasWritten old new text after
+HasWritten-line old mid new text rest line after h cut e = record {
+  front = h.front ++ line;
+  cut = h.cut ∙ ap (λ xs. h.front ++ xs) cut ∙ sym (append_assoc h.front line after);
+  written = e ∙ ap (λ o. gained o line) h.written ∙ gained-gained old h.front line;
+}
+
+-- a part of a line was written, which stands in front of what was left
+pub HasWritten-cut : (old mid new : Option (List ℕ)) (text rest line after : List ℕ) → HasWritten old mid text rest → rest ≡ line ++ after → GainsPart mid new line → GainsPart old new text
+HasWritten-cut old mid new text rest line after h cut (count, below, e) = (
+  length h.front + count,
+  omega (arith, ap length whole, length-append h.front (line ++ after), length-append line after, below),
+  e ∙ ap (λ o. gained o (take count line)) h.written ∙ gained-gained old h.front (take count line) ∙ ap (λ xs. gained old xs) (sym part),
+)
+  where
+    whole : text ≡ h.front ++ (line ++ after)
+    whole = h.cut ∙ ap (λ xs. h.front ++ xs) cut
+
+    part : take (length h.front + count) text ≡ h.front ++ take count line
+    part =
+        ap (take (length h.front + count)) whole ∙ take-append-add h.front (line ++ after) count
+        ∙ ap (λ xs. h.front ++ xs) (take-append-le count line after (omega (arith, below)))
+
+-- what is left of lines is the next one and what is left behind it
+pub concat-drop : (lines : List (List ℕ)) (i : ℕ) (line item : List ℕ) → i < length lines → item ≡ get_or lines i item → line ≡ item → concat (drop i lines) ≡ line ++ concat (drop (i + 1) lines)
+concat-drop lines i line item within is same =
+    ap concat (drop-cons lines i item within)
+    ∙ ap (λ xs. xs ++ concat (drop (suc i) lines)) (sym (same ∙ is))
+    ∙ ap (λ n. line ++ concat (drop n lines)) (sym (add-one i))
 
 -- a fact that holds holds for an error too
 pub OnErr-always : {A E : Type 0} (P : Type 0) (r : Result A E) → P → OnErr r P

@@ -1,4 +1,4 @@
 mod Gains
 mod WordLists
+mod Listed
 mod Answering
-mod Accepting

@@ -1,18 +1,16 @@
--- The one allowed list of words.
-use Rattle.std.proofs.Common.{◌≡◌, ℕ, ◌<◌, ◌≤◌, ◌↔◌, Bool, IsTrue, List, [], ◌∷◌, length, get_or, String, string_bytes, ap, sym, ◌∙◌, arith}
-use Rattle.std.specs.Prelude.{codes}
+-- The words that ask for a command.
+use Rattle.std.proofs.Common.{◌≡◌, ◌≢◌, ℕ, ◌<◌, ◌≤◌, List, [], ◌∷◌, length, get_or, Option, Some, None, String, string_bytes, ap, sym, ◌∙◌, arith}
+use Rattle.std.specs.Option.{MatchOption}
 use Rattle.std.specs.declared.alloc.Global.{Global}
-use Rattle.sync_cli.specs.Serving.{AreCheck}
+use Rattle.sync_cli.specs.Commands.{word_of, Asks, AsksNothing}
+use Rattle.sync_cli.specs.declared.commands.Command.{Command}
 
--- one word is the list where its text is the allowed one
-pub AreCheck-one : (word : String Global) (words : List (String Global)) (text : List ℕ) (same : Bool) → 1 ≤ length words → length words < 2 → word ≡ get_or words 0 word → text ≡ string_bytes word → (IsTrue same ↔ (text ≡ codes "check")) → IsTrue same ↔ AreCheck words
-AreCheck-one word [] text same low high e t h = absurd (omega arith)
-AreCheck-one word (x ∷ []) text same low high e t h =
-    (λ is. ap (λ bytes. bytes ∷ []) (sym spelled ∙ h.0 is), λ are. h.1 (spelled ∙ first are))
+-- words that are one word ask for the command of that word
+pub Asks-word : (word : String Global) (words : List (String Global)) (text : List ℕ) (named : Option Command) → 1 ≤ length words → length words < 2 → word ≡ get_or words 0 word → text ≡ string_bytes word → MatchOption named ((command : Command) → text ≢ word_of command) (λ command. text ≡ word_of command) → MatchOption named (AsksNothing words) (Asks words)
+Asks-word word [] text named low high e t h = absurd (omega arith)
+Asks-word word (x ∷ []) text (Some command) low high e t h = ap (λ bytes. bytes ∷ []) (sym (t ∙ ap string_bytes e) ∙ h)
+Asks-word word (x ∷ []) text None low high e t h = λ command asks. h command (t ∙ ap string_bytes e ∙ first command asks)
   where
-    spelled : text ≡ string_bytes x
-    spelled = t ∙ ap string_bytes e
-
-    first : (string_bytes x ∷ []) ≡ (codes "check" ∷ []) → string_bytes x ≡ codes "check"
-    first are = cc
-AreCheck-one word (x ∷ y ∷ words) text same low high e t h = absurd (omega arith)
+    first : (command : Command) → Asks (x ∷ []) command → string_bytes x ≡ word_of command
+    first command asks = cc
+Asks-word word (x ∷ y ∷ words) text named low high e t h = absurd (omega arith)

@@ -1,5 +1,5 @@
-pub mod Checking
 pub mod Lines
+pub mod Commands
 pub mod Statuses
 pub mod Streams
 pub mod Reading

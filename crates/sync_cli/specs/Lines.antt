@@ -14,7 +14,7 @@ refused_line refusal =
     codes "refused line " ++ decimal refusal.line ++ codes " rule " ++ code_of refusal.rule ++ codes "\n"
 
 abbrev pub usage_line : List ℕ
-usage_line = codes "usage: check\n"
+usage_line = codes "usage: check or obligations\n"
 
 abbrev pub read_fault_line : List ℕ
 read_fault_line = codes "read fault\n"

@@ -1,18 +1,15 @@
 -- What a call may answer for its words and its source.
-use Rattle.std.specs.Prelude.{◌≡◌, ℕ, List, [], ◌∷◌, map, codes, Option, Ok, Err, String}
-use Rattle.std.specs.String.{string_bytes}
+use Rattle.std.specs.Prelude.{◌≡◌, ◌⊎◌, ℕ, List, [], Option, Result, Ok, Err, String}
+use Rattle.std.specs.List.{concat}
 use Rattle.std.specs.declared.alloc.Global.{Global}
 use Rattle.sync_base.specs.Outside.{Rose}
 use Rattle.sync_base.specs.declared.stops.Refusal.{Refusal}
-use Rattle.sync_cli.specs.Checking.{verdict_of, IsAccepted}
-use Rattle.sync_cli.specs.Lines.{accepted_line, refused_line, usage_line, read_fault_line, no_memory_line}
+use Rattle.sync_cli.specs.Commands.{Asks, AsksNothing, answered, IsDone}
+use Rattle.sync_cli.specs.Lines.{refused_line, usage_line, read_fault_line, no_memory_line}
 use Rattle.sync_cli.specs.Streams.{IsTold, IsReadOut, TakesInBounds}
+use Rattle.sync_cli.specs.declared.commands.Command.{Command}
 use Rattle.sync_cli.specs.declared.statuses.Status.{Status}
 use Rattle.sync_cli.specs.declared.statuses.Status.TheVariants.{Done, Refused, Usage, ReadFault, WriteFault, NoMemory, Budget, Width}
-
--- the words are the one word `check`
-abbrev pub AreCheck : List (String Global) → Type 0
-AreCheck words = map string_bytes words ≡ codes "check" ∷ []
 
 -- the source did not fail, and gave this text to its end, or more than a text may have
 pub record WasRead (told left : Option (List ℕ)) (faults faults' : ℕ) (text : List ℕ) : Type 0 where
@@ -24,25 +21,25 @@ pub record WasRead (told left : Option (List ℕ)) (faults faults' : ℕ) (text 
 -- The statuses that a call may answer where no write fails, each with its texts for `out` and for `err`. The source
 -- told its bytes before the call and what was left of them after it, and counted its faults before and after.
 abbrev pub Allowed : List (String Global) → Option (List ℕ) → Option (List ℕ) → ℕ → ℕ → Status → List ℕ → List ℕ → Type 0
+-- the command's lines for the text of the source are on `out`
 Allowed words told left faults faults' Done out err =
-    AreCheck words × (text : List ℕ) × (scripts : ℕ) × WasRead told left faults faults' text × (verdict_of text ≡ Ok scripts) × IsAccepted text scripts × (out ≡ accepted_line scripts) × (err ≡ [])
+    (command : Command) × (text : List ℕ) × (lines : List (List ℕ)) × Asks words command × WasRead told left faults faults' text × (answered command text ≡ Ok lines) × IsDone command text lines × (out ≡ concat lines) × (err ≡ [])
+-- the first broken rule of the text of the source is on `err`
 Allowed words told left faults faults' Refused out err =
-    AreCheck words × (text : List ℕ) × (refusal : Refusal) × WasRead told left faults faults' text × (verdict_of text ≡ Err refusal) × (out ≡ []) × (err ≡ refused_line refusal)
-Allowed words told left faults faults' Usage out err = (¬ AreCheck words) × (out ≡ []) × (err ≡ usage_line)
+    (command : Command) × (text : List ℕ) × (refusal : Refusal) × Asks words command × WasRead told left faults faults' text × (answered command text ≡ Err refusal) × (out ≡ []) × (err ≡ refused_line refusal)
+-- the words are no command's
+Allowed words told left faults faults' Usage out err = AsksNothing words × (out ≡ []) × (err ≡ usage_line)
+-- the source's faults rose
 Allowed words told left faults faults' ReadFault out err =
-    AreCheck words × Rose faults faults' × (out ≡ []) × (err ≡ read_fault_line)
+    (command : Command) × Asks words command × Rose faults faults' × (out ≡ []) × (err ≡ read_fault_line)
 Allowed words told left faults faults' WriteFault out err = ⊥
-Allowed words told left faults faults' NoMemory out err = AreCheck words × (out ≡ []) × (err ≡ no_memory_line)
+-- want of memory is free
+Allowed words told left faults faults' NoMemory out err =
+    (command : Command) × Asks words command × (out ≡ []) × (err ≡ no_memory_line)
 Allowed words told left faults faults' Budget out err = ⊥
 Allowed words told left faults faults' Width out err = ⊥
 
--- a status that is said of a text
-abbrev pub IsOfText : Status → Type 0
-IsOfText Done = Unit {0}
-IsOfText Refused = Unit {0}
-IsOfText Budget = Unit {0}
-IsOfText Width = Unit {0}
-IsOfText Usage = ⊥
-IsOfText ReadFault = ⊥
-IsOfText WriteFault = ⊥
-IsOfText NoMemory = ⊥
+-- where nothing fails, the status tells what a command gives for a text, or want of memory
+abbrev pub Tells : Result (List (List ℕ)) Refusal → Status → Type 0
+Tells (Ok lines) status = (status ≡ Done) ⊎ (status ≡ NoMemory)
+Tells (Err refusal) status = (status ≡ Refused) ⊎ (status ≡ NoMemory)

@@ -1,17 +1,17 @@
 -- What a call takes from a source and gives to a sink.
 use Rattle.std.specs.Prelude.{◌≡◌, ℕ, ◌+◌, ◌<◌, ◌≤◌, ◌⊎◌, List, [], length, take, Option, Some, None}
 use Rattle.sync_base.specs.Outside.{gained}
-use Rattle.sync_cli.specs.Checking.{most_bytes}
+use Rattle.sync_check.specs.Checking.{most_bytes}
 
 -- the text is what the source told, where it told that
 abbrev pub IsTold : Option (List ℕ) → List ℕ → Type 0
 IsTold None text = Unit {0}
 IsTold (Some bytes) text = text ≡ bytes
 
--- where the source tells its bytes, none is left, or more were taken than a text may have
+-- Where the source tells its bytes, none is left, or more were taken than a text may have. A source that tells goes on to tell.
 abbrev pub IsReadOut : Option (List ℕ) → Option (List ℕ) → Type 0
 IsReadOut None left = Unit {0}
-IsReadOut told None = Unit {0}
+IsReadOut (Some told) None = ⊥
 IsReadOut (Some told) (Some left) = (left ≡ []) ⊎ (most_bytes + length left < length told)
 
 -- a sink got a part of the text, and not all of it
@@ -26,7 +26,7 @@ IsAtEnd (Some left) = left ≡ []
 -- no more was taken than one byte beyond what a text may have
 abbrev pub TakesInBounds : Option (List ℕ) → Option (List ℕ) → Type 0
 TakesInBounds None left = Unit {0}
-TakesInBounds told None = Unit {0}
+TakesInBounds (Some told) None = ⊥
 TakesInBounds (Some told) (Some left) = length told ≤ most_bytes + 1 + length left
 
 -- The texts were not gained whole: `out` got a part of its own and `err` nothing, or `out` got all of its own and

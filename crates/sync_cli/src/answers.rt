@@ -1,17 +1,18 @@
 //! What a call answers, before it is written.
 ghost use Rattle.std.specs.Prelude.{◌≡◌};
-ghost use Rattle.sync_cli.specs.Answers.{status_of, out_of, err_of};
+ghost use Rattle.sync_cli.specs.Answers.{status_of, lines_of, err_of};
 
 use crate::statuses::Status;
+use sqlite_items::Items;
 
 /// The words that are allowed, with a line feed.
-pub const USAGE: &str = "usage: check\n";
+pub const USAGE: &str = "usage: check or obligations\n";
 
-/// An answer. A line has its line feed.
+/// An answer. Each line has its line feed.
 #[derive(Debug, Drop)]
 pub enum Answer {
-    /// The text is accepted, and the line says with how many scripts.
-    Done(String),
+    /// What the command gives, line by line.
+    Done(Items<Items<u8>>),
     /// The text breaks a rule, and the line says which.
     Refused(String),
     /// The words are not allowed.
@@ -36,13 +37,13 @@ impl Answer {
         }
     }
 
-    /// The text for the output.
-    pub fn out(&self) -> &str
-        ensures { result.now ≡ out_of self.now }
+    /// The lines for the output.
+    pub fn lines(&self) -> &[Items<u8>]
+        ensures { result.now ≡ lines_of self.now }
     {
         match self {
-            Answer::Done(line) => line.as_str(),
-            _ => "",
+            Answer::Done(lines) => lines.as_slice(),
+            _ => &[],
         }
     }
 

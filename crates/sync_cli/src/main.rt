@@ -1,17 +1,17 @@
-//! Checks a text from standard input, in which a state machine and its proofs are written.
+//! Checks a text from standard input, in which a state machine and its proofs are written, or lists what has to be proved.
 #![tactic(auto)]
 
 mod answers;
-mod checking;
+mod commands;
 mod lines;
+#[cfg(test)]
+mod listing_tests;
 mod reading;
 mod serving;
 mod statuses;
 mod streams;
 #[cfg(test)]
 mod tests;
-#[cfg(test)]
-mod text_tests;
 mod writing;
 
 use answers::USAGE;

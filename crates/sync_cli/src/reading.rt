@@ -1,7 +1,7 @@
 //! Reads a source to its end, or until it gave more than a text may have.
 ghost use Rattle.std.specs.Prelude.{◌≡◌, ◌+◌, ◌<◌, ◌≤◌, ◌⊎◌, IfOk, length, vec_len};
 ghost use Rattle.sync_base.specs.Outside.{Rose, GivesFront};
-ghost use Rattle.sync_cli.specs.Checking.{most_bytes};
+ghost use Rattle.sync_check.specs.Checking.{most_bytes};
 ghost use Rattle.sync_cli.specs.Streams.{IsAtEnd};
 ghost use Rattle.sync_cli.specs.Reading.{IsSoundUnlessFault, GivesPiece};
 

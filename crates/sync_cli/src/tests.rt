@@ -2,7 +2,8 @@
 use crate::serving::serve;
 use crate::statuses::Status;
 use crate::streams::{StdSink, StdSource};
-use crate::writing::{write_line, write_texts};
+use crate::writing::{write_all, write_line};
+use sqlite_items::Items;
 use std::alloc::{AllocError, Global};
 use std::test::Fail;
 use sync_base::{Failed, MemSink, MemSource, OpenGate, Source};
@@ -44,7 +45,7 @@ fn a_second_word_is_refused(rt: HostRuntime) -> Result<(), Fail> {
     assert_eq!(rt; status, Status::Usage);
     assert_eq!(rt; status.number(), 2);
     assert_eq!(rt; out.got(), b"".as_slice());
-    assert_eq!(rt; err.got(), b"usage: check\n".as_slice());
+    assert_eq!(rt; err.got(), b"usage: check or obligations\n".as_slice());
     Ok(())
 }
 
@@ -98,7 +99,9 @@ fn nothing_is_written_after_a_failed_write(rt: HostRuntime) -> Result<(), Fail> 
     let alloc = rt.alloc();
     let mut out = MemSink::new(alloc, 3, Vec::new(alloc))?;
     let mut err = MemSink::new(alloc, ROOM, Vec::new(alloc))?;
-    let written = write_texts(&mut out, "accepted 4\n", &mut err, "more\n");
+    let mut lines = Items::new(alloc);
+    lines.push(Items::from_slice(alloc, b"accepted 4\n")?)?;
+    let written = write_all(&mut out, lines.as_slice(), &mut err, "more\n");
     assert_eq!(rt; written, Err(Failed));
     assert_eq!(rt; out.got(), b"acc".as_slice());
     assert_eq!(rt; err.got(), b"".as_slice());

@@ -103,9 +103,9 @@ word_operand inner left line None None ws = Err (Wanted line)
 
 abbrev pub bracketed : Reader ExprKind → ℕ → Reader ExprKind
 bracketed inner left ws = do
-  x ← inner ws
+  x ← whole inner ws
   e ← sign_at (left - 1) sign.CloseRound x.1
-  Ok (x.0, e.1)
+  Ok (kind.Bracketed x.0, e.1)
 
 abbrev pub param : ℕ → ℕ → Reader ExprKind
 param left line ws = do

@@ -204,9 +204,9 @@ fn sign_operand<'a>(
         return Ok((ExprKind::Param(line, param), rest));
     }
     if first == Sign::OpenRound {
-        let (what, rest) = implies(alloc, words, left - 1, CHAIN)?;
+        let (inner, rest) = expr_inside(alloc, words, left)?;
         let (_, rest) = sign(rest, left - 1, Sign::CloseRound)?;
-        return Ok((what, rest));
+        return Ok((ExprKind::Bracketed(Boxed::new(alloc, inner)?), rest));
     }
     if let Some(word) = special_of(first) {
         return Ok((ExprKind::Special(word, line), words));

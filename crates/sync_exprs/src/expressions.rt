@@ -2,7 +2,7 @@
 use crate::naming::Named;
 use sqlite_items::{Boxed, Items};
 
-/// An expression, with the line of its first lexeme. Brackets round it belong to it, and make no node of their own.
+/// An expression, with the line of its first lexeme.
 #[derive(Debug, Drop)]
 #[cycle(expressions)]
 pub struct Expr {
@@ -20,6 +20,8 @@ pub enum ExprKind {
     /// `$` before a name, with the line of `$`.
     Param(u32, Named),
     Nil,
+    /// An expression in round brackets, which is what stands in them, but begins with a bracket.
+    Bracketed(Boxed<Expr>),
     /// A word that has a value at some places, with its own line.
     Special(Special, u32),
     /// A function with its arguments, as many as there are, and the function's line.

@@ -8,6 +8,7 @@ const LEVELS: u32 = 65;
 fn operator_of(what: &ExprKind) -> Option<Operator> {
     match what {
         ExprKind::Two(operator, _, _) => Some(*operator),
+        ExprKind::Bracketed(inner) => operator_of(&inner.get().what),
         _ => None,
     }
 }

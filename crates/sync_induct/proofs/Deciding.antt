@@ -1,6 +1,6 @@
 -- The answer on a whole machine, and the machine over its store that has grown.
-use Rattle.std.proofs.Common.{◌≡◌, ℕ, Bool, true, false, List, [], ◌∷◌, map, All, Option, Some, None, Result, Ok, Err, refl, sym, ap, subst, ◌∙◌}
-use Rattle.std.specs.Prelude.{slice_get, if◌then◌else◌}
+use Rattle.std.proofs.Common.{◌≡◌, ℕ, Bool, List, [], ◌∷◌, map, All, Option, Some, None, Err, refl, sym, ap, subst, ◌∙◌}
+use Rattle.std.specs.Prelude.{slice_get}
 use Rattle.std.specs.Option.{option_map}
 use Rattle.std.specs.List.{AllByRecursion}
 use Rattle.std.proofs.lemmas.Option.{slice_get-map}
@@ -14,25 +14,18 @@ use Rattle.sync_machine.specs.declared.machine.Invariant.{Invariant}
 use Rattle.sync_machine.specs.declared.machine.Step.{Step}
 use Rattle.sync_machine.specs.declared.machine.Operation.{Operation}
 use Rattle.sync_machine.specs.declared.machine.Machine.{Machine}
-use Rattle.sync_machine.specs.Machines.{OperationTree, MachineTree}
+use Rattle.sync_machine.specs.Machines.{MachineTree}
 use Rattle.sync_machine.specs.Views.{operation_tree, invariant_tree, machine_tree, HasActIds, HasOwnIds}
 use Rattle.sync_machine.specs.Scope.{IsNamed}
-use Rattle.sync_rules.specs.Strategies.{AreAllowed}
-use Rattle.sync_terms.specs.Plans.{Plan, plan_of}
-use Rattle.sync_kernel.specs.Scripts.{script_fault}
-use Rattle.sync_kernel.proofs.Blind.{script_blind}
-use Rattle.sync_base.specs.declared.stops.Rule.TheVariants.{K8}
 use Rattle.sync_rules.specs.declared.claims.Obligation.{Obligation}
 use Rattle.sync_rules.specs.Obligations.{obligations_of}
 use Rattle.sync_induct.specs.declared.index.Title.{Title}
-use Rattle.sync_induct.specs.Titles.{titled, same_title}
 use Rattle.sync_induct.specs.declared.proofs.Proof.{Proof}
-use Rattle.sync_induct.specs.Checks.{ProofTree, title_of, titles_of, proof_trees, proofs_in, no_store, proof_of, is_large, judged, has_title, stray_fault, duties_fault, proof_fault, unbuilt_fault}
+use Rattle.sync_induct.specs.Checklist.{checks_from, checks_of}
+use Rattle.sync_induct.specs.Checks.{ProofTree, title_of, titles_of, proofs_in, has_title, stray_fault, checks_fault, proof_fault}
 use Rattle.sync_induct.specs.Closing.{IsKeepable, AreWanted}
-use Rattle.sync_induct.specs.Duties.{Duty, duties_from, duties_of}
-use Rattle.sync_induct.specs.Walks.{IsWalkable}
 use Rattle.sync_induct.proofs.Lasting.{operation-stays, invariants-stay}
-use Rattle.sync_induct.proofs.Ready.{operations-walkable, invariants-keepable}
+use Rattle.sync_induct.proofs.Ready.{operations-ids, invariants-keepable}
 use Rattle.sync_induct.proofs.Wanting.{wanted-of}
 
 -- ---- the machine over a larger store
@@ -53,58 +46,31 @@ titles-are : (s : Stored) (ps : List Proof) → map (λ (p : ProofTree). p.title
 titles-are s [] = refl
 titles-are s (p ∷ ps) = ap (λ (os : List Obligation). title_of p ∷ os) (titles-are s ps)
 
--- what a duty's proof is worth does not depend on the store that the scripts' ids are of
-chosen : (b : Bool) (d : Duty) (x y : Plan) (more less : Option Plan) → script_fault d.facts d.claim x ≡ script_fault d.facts d.claim y → judged d more ≡ judged d less
-    → judged d (if b then Some x else more) ≡ judged d (if b then Some y else less)
-chosen true d x y more less one rest = ap (λ (o : Option Refusal). if is_large d then Some (record { line = d.obligation.line; rule = K8 }) else o) one
-chosen false d x y more less one rest = rest
+stops-first : (A B : Type 0) (e : Stop) (x y : Option Refusal) → Passes {A = A} (Err e) x → Passes {A = B} (Err e) (first x y)
+stops-first A B Memory x y p = tt
+stops-first A B (Refused r) x y p = ap (λ (a : Option Refusal). first a y) p
 
-judged-alike : (s t : Stored) (d : Duty) (at : Title) (ps : List Proof) → judged d (proof_of at (proofs_in s ps)) ≡ judged d (proof_of at (proofs_in t ps))
-unfolding proof_of
-judged-alike s t d at [] = refl
-judged-alike s t d at (p ∷ ps) =
-    chosen (same_title (titled (title_of p)) at) d (plan_of s p.script.block) (plan_of t p.script.block) (proof_of at (proofs_in s ps)) (proof_of at (proofs_in t ps))
-    (script_blind s t d.facts d.claim p.script.block) (judged-alike s t d at ps)
+stops-second : (A B : Type 0) (e : Stop) (x y : Option Refusal) → x ≡ None → Passes {A = A} (Err e) y → Passes {A = B} (Err e) (first x y)
+stops-second A B Memory x y none p = tt
+stops-second A B (Refused r) x y none p = ap (λ (a : Option Refusal). first a y) none ∙ p
 
-duties-alike : (s t : Stored) (ps : List Proof) (ds : List Duty) → duties_fault (proofs_in s ps) ds ≡ duties_fault (proofs_in t ps) ds
-unfolding duties_fault
-duties-alike s t ps [] = refl
-duties-alike s t ps (d ∷ ds) =
-    let one = judged-alike s t d (titled d.obligation) ps in
-    let more = duties-alike s t ps ds in
-    λ i. first (one i) (more i)
+module _ (s : Stored) (m : MachineTree) (ps : List Proof) where
+  -- both parts of the answer, one after the other
+  answer-is : first (stray_fault (obligations_of m) [] (titles_of ps)) (checks_fault (proofs_in s ps) (checks_of m)) ≡ proof_fault m (proofs_in s ps)
+  answer-is = ap (λ (os : List Obligation). first (stray_fault (obligations_of m) [] os) (checks_fault (proofs_in s ps) (checks_of m))) (sym (titles-are s ps))
 
--- all three parts of the answer, one after another
-abbrev pub answer : Option Refusal → MachineTree → List Proof → Option Refusal
-answer unbuilt m ps = first unbuilt (first (stray_fault (obligations_of m) [] (titles_of ps)) (duties_fault (proof_trees ps) (duties_of m)))
-
-answer-is : (unbuilt : Option Refusal) (s : Stored) (m : MachineTree) (ps : List Proof) → answer unbuilt m ps ≡ first unbuilt (proof_fault m (proofs_in s ps))
-answer-is unbuilt s m ps =
-    ap (λ (os : List Obligation). first unbuilt (first (stray_fault (obligations_of m) [] os) (duties_fault (proof_trees ps) (duties_of m)))) (sym (titles-are s ps))
-    ∙ ap (λ (o : Option Refusal). first unbuilt (first (stray_fault (obligations_of m) [] (map (λ (p : ProofTree). p.title) (proofs_in s ps))) o)) (duties-alike no_store s ps (duties_of m))
-
-stops-second : (A B : Type 0) (e : Stop) (x y z : Option Refusal) → x ≡ None → Passes {A = A} (Err e) y → Passes {A = B} (Err e) (first x (first y z))
-stops-second A B Memory x y z none p = tt
-stops-second A B (Refused r) x y z none p = ap (λ (a : Option Refusal). first a (first y z)) none ∙ ap (λ (b : Option Refusal). first b z) p
-
-stops-third : (A B : Type 0) (e : Stop) (x y z : Option Refusal) → x ≡ None → y ≡ None → Passes {A = A} (Err e) z → Passes {A = B} (Err e) (first x (first y z))
-stops-third A B Memory x y z none also p = tt
-stops-third A B (Refused r) x y z none also p = ap (λ (a : Option Refusal). first a (first y z)) none ∙ (ap (λ (b : Option Refusal). first b z) also ∙ p)
-
-module _ (unbuilt : Option Refusal) (s : Stored) (m : MachineTree) (ps : List Proof) (built : unbuilt ≡ None) where
   -- a proof is of no obligation, or a second one
-  pub stray-answer : (A B : Type 0) (e : Stop) → Passes {A = A} (Err e) (stray_fault (obligations_of m) [] (titles_of ps)) → Passes {A = B} (Err e) (first unbuilt (proof_fault m (proofs_in s ps)))
-  stray-answer A B e h = subst (λ (x : Option Refusal). Passes {A = B} (Err e) x) (answer-is unbuilt s m ps)
-      (stops-second A B e unbuilt (stray_fault (obligations_of m) [] (titles_of ps)) (duties_fault (proof_trees ps) (duties_of m)) built h)
+  pub stray-answer : (A B : Type 0) (e : Stop) → Passes {A = A} (Err e) (stray_fault (obligations_of m) [] (titles_of ps)) → Passes {A = B} (Err e) (proof_fault m (proofs_in s ps))
+  stray-answer A B e h = subst (λ (x : Option Refusal). Passes {A = B} (Err e) x) answer-is
+      (stops-first A B e (stray_fault (obligations_of m) [] (titles_of ps)) (checks_fault (proofs_in s ps) (checks_of m)) h)
 
   module _ (none : stray_fault (obligations_of m) [] (titles_of ps) ≡ None) where
-    pub duty-answer : (A B : Type 0) (e : Stop) → Passes {A = A} (Err e) (duties_fault (proof_trees ps) (duties_of m)) → Passes {A = B} (Err e) (first unbuilt (proof_fault m (proofs_in s ps)))
-    duty-answer A B e h = subst (λ (x : Option Refusal). Passes {A = B} (Err e) x) (answer-is unbuilt s m ps)
-        (stops-third A B e unbuilt (stray_fault (obligations_of m) [] (titles_of ps)) (duties_fault (proof_trees ps) (duties_of m)) built none h)
+    pub check-answer : (A B : Type 0) (e : Stop) → Passes {A = A} (Err e) (checks_fault (proofs_in s ps) (checks_of m)) → Passes {A = B} (Err e) (proof_fault m (proofs_in s ps))
+    check-answer A B e h = subst (λ (x : Option Refusal). Passes {A = B} (Err e) x) answer-is
+        (stops-second A B e (stray_fault (obligations_of m) [] (titles_of ps)) (checks_fault (proofs_in s ps) (checks_of m)) none h)
 
-    pub no-answer : duties_fault (proof_trees ps) (duties_of m) ≡ None → first unbuilt (proof_fault m (proofs_in s ps)) ≡ None
-    no-answer h = sym (answer-is unbuilt s m ps) ∙ (ap (λ (x : Option Refusal). first x (first (stray_fault (obligations_of m) [] (titles_of ps)) (duties_fault (proof_trees ps) (duties_of m)))) built
-        ∙ (ap (λ (x : Option Refusal). first x (duties_fault (proof_trees ps) (duties_of m))) none ∙ h))
+    pub no-answer : checks_fault (proofs_in s ps) (checks_of m) ≡ None → proof_fault m (proofs_in s ps) ≡ None
+    no-answer h = sym answer-is ∙ (ap (λ (x : Option Refusal). first x (checks_fault (proofs_in s ps) (checks_of m))) none ∙ h)
 
 -- the titles of the obligations, operation by operation
 pub wanted-in : (m : Machine) (is_wanted : Title → Bool) (ops : List Operation) → ((t : Title) → is_wanted t ≡ has_title (obligations_of (machine_tree m)) t) → ops ≡ m.ops → (k : ℕ) (o : Operation) → slice_get ops k ≡ Some o
@@ -113,25 +79,17 @@ wanted-in m is_wanted ops knows same k o e =
     wanted-of (machine_tree m) is_wanted knows k (operation_tree m.terms o)
     (slice_get-map (operation_tree m.terms) m.ops k ∙ ap (option_map (operation_tree m.terms)) (ap (λ (xs : List Operation). slice_get xs k) (sym same) ∙ e))
 
--- every statement of the machine is built
-pub unbuilt-none : (m : Machine) (fs : List Field) (os : List Operation) (r : Option Refusal) → fs ≡ m.fields → os ≡ m.ops → r ≡ unbuilt_fault fs (map (operation_tree m.terms) os) → r ≡ None → unbuilt_fault m.fields (machine_tree m).ops ≡ None
-unbuilt-none m fs os r fields ops is none =
-    let same : unbuilt_fault fs (map (operation_tree m.terms) os) ≡ unbuilt_fault m.fields (machine_tree m).ops = λ j. unbuilt_fault (fields j) (map (operation_tree m.terms) (ops j)) in
-    sym same ∙ (sym is ∙ none)
-
 -- ---- the machine's lists, as the code meets them
 
 module _ (m : Machine) (fs : List Field) (is : List Invariant) (os : List Operation) (fields : fs ≡ m.fields) (invariants : is ≡ m.invariants) (ops : os ≡ m.ops) where
-  pub duties-are : duties_from fs (map (invariant_tree m.terms) is) 0 (map (operation_tree m.terms) os) ≡ duties_of (machine_tree m)
-  duties-are = λ j. duties_from (fields j) (map (invariant_tree m.terms) (invariants j)) 0 (map (operation_tree m.terms) (ops j))
+  pub checks-are : checks_from fs (map (invariant_tree m.terms) is) 0 (map (operation_tree m.terms) os) ≡ checks_of (machine_tree m)
+  checks-are = λ j. checks_from (fields j) (map (invariant_tree m.terms) (invariants j)) 0 (map (operation_tree m.terms) (ops j))
 
   pub met-keepable : HasOwnIds m → IsNamed (machine_tree m) → AllByRecursion (IsKeepable m.terms) is
   met-keepable ids named = subst (λ (xs : List Invariant). AllByRecursion (IsKeepable m.terms) xs) (sym invariants) (invariants-keepable m.terms m.fields m.invariants ids.invariants named.invariants)
 
-  pub met-walkable : HasOwnIds m → unbuilt_fault m.fields (machine_tree m).ops ≡ None → AllByRecursion (λ (o : Operation). All (IsWalkable m.terms fs) o.steps) os
-  met-walkable ids built =
-      subst (λ (xs : List Field). AllByRecursion (λ (o : Operation). All (IsWalkable m.terms xs) o.steps) os) (sym fields)
-      (subst (λ (xs : List Operation). AllByRecursion (λ (o : Operation). All (IsWalkable m.terms m.fields) o.steps) xs) (sym ops) (operations-walkable m.terms m.fields m.ops ids.ops built))
+  pub met-ids : HasOwnIds m → AllByRecursion (λ (o : Operation). All (λ (x : Step). HasActIds m.terms x.act) o.steps) os
+  met-ids ids = subst (λ (xs : List Operation). AllByRecursion (λ (o : Operation). All (λ (x : Step). HasActIds m.terms x.act) o.steps) xs) (sym ops) (operations-ids m.terms m.ops ids.ops)
 
   pub met-wanted : (is_wanted : Title → Bool) → ((t : Title) → is_wanted t ≡ has_title (obligations_of (machine_tree m)) t) → (k : ℕ) (o : Operation) → slice_get os k ≡ Some o
       → AreWanted is_wanted k (operation_tree m.terms o) (map (invariant_tree m.terms) is)

@@ -1,5 +1,5 @@
 -- A walk that goes on: one more fact, one more value, and a store that grows.
-use Rattle.std.proofs.Common.{◌≡◌, ℕ, zero, suc, ◌+◌, ◌-◌, ◌^◌, min, List, [], ◌∷◌, ◌++◌, map, set, sym, ap, subst, ◌∙◌, arith}
+use Rattle.std.proofs.Common.{◌≡◌, ℕ, zero, suc, ◌+◌, ◌-◌, ◌^◌, min, List, [], ◌∷◌, ◌++◌, map, set, Option, Some, sym, ap, subst, ◌∙◌, arith}
 use Rattle.std.specs.Prelude.{slice_set}
 use Rattle.std.specs.List.{AllByRecursion}
 use Rattle.std.proofs.lemmas.List.{map-set, map-append}
@@ -11,7 +11,7 @@ use Rattle.sync_kernel.specs.Facts.{Fact, fact_of}
 use Rattle.sync_induct.specs.declared.walks.Walk.{Walk}
 use Rattle.sync_induct.specs.Checks.{facts_size, capped}
 use Rattle.sync_induct.specs.Duties.{facts_of, HaveForms}
-use Rattle.sync_induct.specs.Walks.{values_of, known_of, IsWalk, HasCome}
+use Rattle.sync_induct.specs.Walks.{values_of, known_of, IsWalk, HasCome, values_with}
 
 facts_size-append : (xs : List Fact) (f : Fact) → facts_size (xs ++ f ∷ []) ≡ facts_size xs + formula_size f.form
 unfolding facts_size
@@ -60,3 +60,9 @@ assigned s w v f t h one sequent current size =
       known = known;
       now = ap (λ (xs : List TermId). map (tree s) xs) current ∙ map-set (tree s) w.current.items f t;
     }
+
+-- the same where the field is known to be there
+pub assigned-some : (s : Stored) (w v : Walk) (o : Option ℕ) (f : ℕ) (t : TermId) → o ≡ Some f → IsWalk s w → IsTerm s t → v.sequent ≡ w.sequent → v.current.items ≡ set w.current.items f t → v.size ≡ w.size
+    → HasCome s v (known_of s w) (values_with o (tree s t) (values_of s w))
+assigned-some s w v o f t is h one sequent current size =
+    subst (λ (x : Option ℕ). HasCome s v (known_of s w) (values_with x (tree s t) (values_of s w))) (sym is) (assigned s w v f t h one sequent current size)

@@ -20,7 +20,7 @@ use Rattle.sync_induct.specs.declared.proofs.Proof.{Proof}
 use Rattle.sync_induct.specs.Duties.{Duty, facts_of, givens_of}
 use Rattle.sync_induct.specs.Titles.{titled, same_title, first_at}
 use Rattle.sync_induct.proofs.Titles.{none_of}
-use Rattle.sync_induct.specs.Checks.{ProofTree, title_of, titles_of, proof_trees, proof_of, facts_size, sequent_size, is_large, no_store, judged, duty_fault, capped}
+use Rattle.sync_induct.specs.Checks.{ProofTree, title_of, titles_of, proofs_in, proof_of, sequent_size, is_large, judged, duty_fault}
 
 cond_at : {A : Type 0} (b : Bool) (x y : A) → b ≡ true → cond b x y ≡ x
 cond_at true x y e = refl
@@ -31,19 +31,19 @@ cond_not true x y e = absurd (true≢false e)
 cond_not false x y e = refl
 
 -- the proof at the place k, behind n others, is the first of the title
-pub record IsFound (ps : List Proof) (t : Title) (n i : ℕ) : Type 0 where
+pub record IsFound (s : Stored) (ps : List Proof) (t : Title) (n i : ℕ) : Type 0 where
   pub place : ℕ
   pub is : i ≡ n + place
   pub proof : Proof
   pub there : slice_get ps place ≡ Some proof
-  pub script : proof_of t (proof_trees ps) ≡ Some (plan_of no_store proof.script.block)
+  pub script : proof_of t (proofs_in s ps) ≡ Some (plan_of s proof.script.block)
 
 some_is : (a b : ℕ) → Some a ≡ Some b → b ≡ a
 some_is a b e = cc
 
-proof_of-cons : (t : Title) (p : Proof) (ps : List Proof) → proof_of t (proof_trees (p ∷ ps)) ≡ cond (same_title (titled (title_of p)) t) (Some (plan_of no_store p.script.block)) (proof_of t (proof_trees ps))
+proof_of-cons : (s : Stored) (t : Title) (p : Proof) (ps : List Proof) → proof_of t (proofs_in s (p ∷ ps)) ≡ cond (same_title (titled (title_of p)) t) (Some (plan_of s p.script.block)) (proof_of t (proofs_in s ps))
 unfolding proof_of
-proof_of-cons t p ps = refl
+proof_of-cons s t p ps = refl
 
 first_at-cons : (t : Title) (n : ℕ) (p : Proof) (ps : List Proof) → first_at t n (titles_of (p ∷ ps)) ≡ cond (same_title (titled (title_of p)) t) (Some n) (first_at t (suc n) (titles_of ps))
 unfolding first_at
@@ -53,9 +53,9 @@ no_first : (t : Title) (n i : ℕ) → first_at t n [] ≡ Some i → ⊥
 unfolding first_at
 no_first t n i e = let f : None ≡ Some i = e in cc
 
-pub found : (ps : List Proof) (t : Title) (n i : ℕ) → first_at t n (titles_of ps) ≡ Some i → IsFound ps t n i
-found [] t n i e = absurd (no_first t n i e)
-found (p ∷ ps) t n i e =
+pub found : (s : Stored) (ps : List Proof) (t : Title) (n i : ℕ) → first_at t n (titles_of ps) ≡ Some i → IsFound s ps t n i
+found s [] t n i e = absurd (no_first t n i e)
+found s (p ∷ ps) t n i e =
     elim (cases_Bool (same_title (titled (title_of p)) t)) [
       | inl y ↦
           let here : Some n ≡ Some i = sym (first_at-cons t n p ps ∙ cond_at (same_title (titled (title_of p)) t) (Some n) (first_at t (suc n) (titles_of ps)) y) ∙ e in
@@ -64,17 +64,17 @@ found (p ∷ ps) t n i e =
             is = some_is n i here ∙ sym (add-zero n);
             proof = p;
             there = refl;
-            script = proof_of-cons t p ps ∙ cond_at (same_title (titled (title_of p)) t) (Some (plan_of no_store p.script.block)) (proof_of t (proof_trees ps)) y;
+            script = proof_of-cons s t p ps ∙ cond_at (same_title (titled (title_of p)) t) (Some (plan_of s p.script.block)) (proof_of t (proofs_in s ps)) y;
           }
       | inr f ↦
           let later : first_at t (suc n) (titles_of ps) ≡ Some i = sym (first_at-cons t n p ps ∙ cond_not (same_title (titled (title_of p)) t) (Some n) (first_at t (suc n) (titles_of ps)) f) ∙ e in
-          let r = found ps t (suc n) i later in
+          let r = found s ps t (suc n) i later in
           record {
             place = suc r.place;
             is = r.is ∙ moved n r.place;
             proof = r.proof;
             there = r.there;
-            script = proof_of-cons t p ps ∙ (cond_not (same_title (titled (title_of p)) t) (Some (plan_of no_store p.script.block)) (proof_of t (proof_trees ps)) f ∙ r.script);
+            script = proof_of-cons s t p ps ∙ (cond_not (same_title (titled (title_of p)) t) (Some (plan_of s p.script.block)) (proof_of t (proofs_in s ps)) f ∙ r.script);
           }
     ] where
       moved : (n k : ℕ) → suc n + k ≡ n + suc k
@@ -83,17 +83,17 @@ found (p ∷ ps) t n i e =
 none_some : (n : ℕ) → Some n ≡ None → ⊥
 none_some n e = cc
 
-no_proof : (t : Title) → proof_of t (proof_trees []) ≡ None
+no_proof : (s : Stored) (t : Title) → proof_of t (proofs_in s []) ≡ None
 unfolding proof_of
-no_proof t = refl
+no_proof s t = refl
 
-pub missing : (ps : List Proof) (t : Title) (n : ℕ) → first_at t n (titles_of ps) ≡ None → proof_of t (proof_trees ps) ≡ None
-missing [] t n e = no_proof t
-missing (p ∷ ps) t n e =
+pub missing : (s : Stored) (ps : List Proof) (t : Title) (n : ℕ) → first_at t n (titles_of ps) ≡ None → proof_of t (proofs_in s ps) ≡ None
+missing s [] t n e = no_proof s t
+missing s (p ∷ ps) t n e =
     elim (cases_Bool (same_title (titled (title_of p)) t)) [
       | inl y ↦ absurd (none_some n (sym (first_at-cons t n p ps ∙ cond_at (same_title (titled (title_of p)) t) (Some n) (first_at t (suc n) (titles_of ps)) y) ∙ e))
-      | inr f ↦ proof_of-cons t p ps ∙ (cond_not (same_title (titled (title_of p)) t) (Some (plan_of no_store p.script.block)) (proof_of t (proof_trees ps)) f
-          ∙ missing ps t (suc n) (sym (first_at-cons t n p ps ∙ cond_not (same_title (titled (title_of p)) t) (Some n) (first_at t (suc n) (titles_of ps)) f) ∙ e))
+      | inr f ↦ proof_of-cons s t p ps ∙ (cond_not (same_title (titled (title_of p)) t) (Some (plan_of s p.script.block)) (proof_of t (proofs_in s ps)) f
+          ∙ missing s ps t (suc n) (sym (first_at-cons t n p ps ∙ cond_not (same_title (titled (title_of p)) t) (Some n) (first_at t (suc n) (titles_of ps)) f) ∙ e))
     ]
 
 -- ---- what the proof of a duty is worth
@@ -138,20 +138,20 @@ pub valid-same : {A : Type 0} (r : Result A Stop) (s : Stored) (hs : List Hyp) (
 valid-same r s hs claim h = subst (λ (gs : List Given). OnOk r (IsValid gs claim)) (givens-same s hs) h
 
 -- the script at the place that the index gives
-pub script-at : (ps : List Proof) (t : Title) (i : ℕ) (p : Proof) → first_at t 0 (titles_of ps) ≡ Some i → slice_get ps i ≡ Some p → proof_of t (proof_trees ps) ≡ Some (plan_of no_store p.script.block)
-script-at ps t i p e there =
-    let f = found ps t 0 i e in
+pub script-at : (s : Stored) (ps : List Proof) (t : Title) (i : ℕ) (p : Proof) → first_at t 0 (titles_of ps) ≡ Some i → slice_get ps i ≡ Some p → proof_of t (proofs_in s ps) ≡ Some (plan_of s p.script.block)
+script-at s ps t i p e there =
+    let f = found s ps t 0 i e in
     let same_place : f.place ≡ i = sym (f.is ∙ zero-add f.place) in
     let both : Some f.proof ≡ Some p = sym f.there ∙ (ap (λ (k : ℕ). slice_get ps k) same_place ∙ there) in
     let same_proof : f.proof ≡ p = one f.proof p both in
-    f.script ∙ ap (λ (q : Proof). Some (plan_of no_store q.script.block)) same_proof where
+    f.script ∙ ap (λ (q : Proof). Some (plan_of s q.script.block)) same_proof where
       one : (a b : Proof) → Some a ≡ Some b → a ≡ b
       one a b e = cc
 
 -- the place is one of the list
-pub place-there : (ps : List Proof) (t : Title) (i : ℕ) → first_at t 0 (titles_of ps) ≡ Some i → slice_get ps i ≡ None → ⊥
-place-there ps t i e none =
-    let f = found ps t 0 i e in
+pub place-there : (s : Stored) (ps : List Proof) (t : Title) (i : ℕ) → first_at t 0 (titles_of ps) ≡ Some i → slice_get ps i ≡ None → ⊥
+place-there s ps t i e none =
+    let f = found s ps t 0 i e in
     let same_place : f.place ≡ i = sym (f.is ∙ zero-add f.place) in
     let both : Some f.proof ≡ None = sym f.there ∙ (ap (λ (k : ℕ). slice_get ps k) same_place ∙ none) in
     apart f.proof both where
@@ -170,13 +170,13 @@ place-some : (o : Option ℕ) → is_some o ≡ true → (i : ℕ) × (o ≡ Som
 place-some (Some i) e = (i, refl)
 place-some None e = absurd (false≢true e)
 
-pub large-with_proof : (ps : List Proof) (d : Duty) (o : Obligation) → d.obligation ≡ o → is_large d ≡ true → is_some (first_at (titled o) 0 (titles_of ps)) ≡ true → duty_fault (proof_trees ps) d ≡ Some (record { line = o.line; rule = K8 })
-large-with_proof ps d o same large there =
+pub large-with_proof : (s : Stored) (ps : List Proof) (d : Duty) (o : Obligation) → d.obligation ≡ o → is_large d ≡ true → is_some (first_at (titled o) 0 (titles_of ps)) ≡ true → duty_fault (proofs_in s ps) d ≡ Some (record { line = o.line; rule = K8 })
+large-with_proof s ps d o same large there =
     let at = place-some (first_at (titled o) 0 (titles_of ps)) there in
-    let f = found ps (titled o) 0 at.0 at.1 in
-    judged-too-large (proof_trees ps) d (plan_of no_store f.proof.script.block) (ap (λ (x : Obligation). proof_of (titled x) (proof_trees ps)) same ∙ f.script) large ∙ ap (λ (x : Obligation). Some (record { line = x.line; rule = K8 })) same
+    let f = found s ps (titled o) 0 at.0 at.1 in
+    judged-too-large (proofs_in s ps) d (plan_of s f.proof.script.block) (ap (λ (x : Obligation). proof_of (titled x) (proofs_in s ps)) same ∙ f.script) large ∙ ap (λ (x : Obligation). Some (record { line = x.line; rule = K8 })) same
 
-pub large-without_proof : (ps : List Proof) (d : Duty) (o : Obligation) → d.obligation ≡ o → is_some (first_at (titled o) 0 (titles_of ps)) ≡ false → duty_fault (proof_trees ps) d ≡ Some (record { line = o.line; rule = I1 })
-large-without_proof ps d o same none =
-    judged-none (proof_trees ps) d (ap (λ (x : Obligation). proof_of (titled x) (proof_trees ps)) same ∙ missing ps (titled o) 0 (none_of (first_at (titled o) 0 (titles_of ps)) none))
+pub large-without_proof : (s : Stored) (ps : List Proof) (d : Duty) (o : Obligation) → d.obligation ≡ o → is_some (first_at (titled o) 0 (titles_of ps)) ≡ false → duty_fault (proofs_in s ps) d ≡ Some (record { line = o.line; rule = I1 })
+large-without_proof s ps d o same none =
+    judged-none (proofs_in s ps) d (ap (λ (x : Obligation). proof_of (titled x) (proofs_in s ps)) same ∙ missing s ps (titled o) 0 (none_of (first_at (titled o) 0 (titles_of ps)) none))
     ∙ ap (λ (x : Obligation). Some (record { line = x.line; rule = I1 })) same

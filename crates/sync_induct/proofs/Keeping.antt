@@ -21,7 +21,8 @@ use Rattle.sync_rules.specs.declared.claims.Obligation.{Obligation}
 use Rattle.sync_rules.specs.Obligations.{has_to_keep}
 use Rattle.sync_induct.specs.declared.index.Title.{Title}
 use Rattle.sync_induct.specs.declared.walks.Walk.{Walk}
-use Rattle.sync_induct.specs.Checks.{ProofTree, duty_fault, duties_fault, duty_of, facts_size, capped}
+use Rattle.sync_induct.specs.Checklist.{Check, Proves, proves}
+use Rattle.sync_induct.specs.Checks.{ProofTree, duty_fault, checks_fault, duty_of, facts_size, capped}
 use Rattle.sync_induct.specs.Duties.{Duty, facts_of, closed_form, kept_duty, keeps_duties, IsProved}
 use Rattle.sync_induct.specs.Titles.{title}
 use Rattle.sync_induct.specs.Closing.{IsKeepable, AreWanted}
@@ -55,8 +56,13 @@ here-is s t w v op line number j x e walk hyps current form n =
 -- ---- the loop over invariants
 
 -- what is left from the invariant with index j on
-abbrev pub kept_from : Stored → OperationTree → ℕ → List Fact → List Tree → List Invariant → ℕ → List Duty
-kept_from s o op facts last xs j = keeps_duties o op facts last j (map (invariant_tree s) (drop j xs))
+abbrev pub kept_from : Stored → OperationTree → ℕ → List Fact → List Tree → List Invariant → ℕ → List Check
+kept_from s o op facts last xs j = proves (keeps_duties o op facts last j (map (invariant_tree s) (drop j xs)))
+
+-- the checks of duties of which the first is there where b is
+with-first : (b : Bool) (d : Duty) (ds : List Duty) → proves (cond b (d ∷ ds) ds) ≡ cond b (Proves d ∷ proves ds) (proves ds)
+with-first true d ds = refl
+with-first false d ds = refl
 
 module _ (s : Stored) (o : OperationTree) (op : ℕ) (facts : List Fact) (last : List Tree) (xs : List Invariant) (j : ℕ) (x : Invariant) (lt : j < length xs) (is : x ≡ get_or xs j x) where
   abbrev pub duty_here : Duty
@@ -65,15 +71,16 @@ module _ (s : Stored) (o : OperationTree) (op : ℕ) (facts : List Fact) (last :
   pub listed : slice_get (map (invariant_tree s) xs) j ≡ Some (invariant_tree s x)
   listed = slice_get-map (invariant_tree s) xs j ∙ ap (option_map (invariant_tree s)) (slice_get_read xs (length xs) j x refl lt is)
 
-  from-here : kept_from s o op facts last xs j ≡ cond (has_to_keep o (invariant_tree s x)) (duty_here ∷ kept_from s o op facts last xs (j + 1)) (kept_from s o op facts last xs (j + 1))
+  from-here : kept_from s o op facts last xs j ≡ cond (has_to_keep o (invariant_tree s x)) (Proves duty_here ∷ kept_from s o op facts last xs (j + 1)) (kept_from s o op facts last xs (j + 1))
   unfolding keeps_duties
   from-here =
-      at_drop_more (λ (ys : List Invariant). keeps_duties o op facts last j (map (invariant_tree s) ys)) xs j x lt
-      ∙ (λ k. cond (has_to_keep o (invariant_tree s (same k))) (kept_duty (record { op = op; claim = claims.Keeps j; line = o.line }) facts last (invariant_tree s (same k)) ∷ rest k) (rest k)) where
+      ap proves (at_drop_more (λ (ys : List Invariant). keeps_duties o op facts last j (map (invariant_tree s) ys)) xs j x lt
+      ∙ (λ k. cond (has_to_keep o (invariant_tree s (same k))) (kept_duty (record { op = op; claim = claims.Keeps j; line = o.line }) facts last (invariant_tree s (same k)) ∷ rest k) (rest k)))
+      ∙ with-first (has_to_keep o (invariant_tree s x)) duty_here (keeps_duties o op facts last (j + 1) (map (invariant_tree s) (drop (j + 1) xs))) where
         same : get_or xs j x ≡ x
         same = sym is
 
-        rest : keeps_duties o op facts last (suc j) (map (invariant_tree s) (drop (j + 1) xs)) ≡ kept_from s o op facts last xs (j + 1)
+        rest : keeps_duties o op facts last (suc j) (map (invariant_tree s) (drop (j + 1) xs)) ≡ keeps_duties o op facts last (j + 1) (map (invariant_tree s) (drop (j + 1) xs))
         rest = ap (λ (k : ℕ). keeps_duties o op facts last k (map (invariant_tree s) (drop (j + 1) xs))) (sym (add-one j))
 
   -- whether it is wanted
@@ -85,23 +92,23 @@ module _ (s : Stored) (o : OperationTree) (op : ℕ) (facts : List Fact) (last :
   pub keepable-here : AllByRecursion (IsKeepable s) xs → IsKeepable s x
   keepable-here h = subst (IsKeepable s) (sym is) (All-get_or (IsKeepable s) xs j x lt (All-from_recursion (IsKeepable s) xs h))
 
-  module _ (ps : List ProofTree) (all : List Duty) (h : Remains ps all (kept_from s o op facts last xs j)) where
+  module _ (ps : List ProofTree) (all : List Check) (h : Remains ps all (kept_from s o op facts last xs j)) where
     pub kept-skipped : has_to_keep o (invariant_tree s x) ≡ false → Remains ps all (kept_from s o op facts last xs (j + 1))
-    kept-skipped e = remains-same ps all (kept_from s o op facts last xs j) _ (from-here ∙ ap (λ (b : Bool). cond b (duty_here ∷ kept_from s o op facts last xs (j + 1)) (kept_from s o op facts last xs (j + 1))) e) h
+    kept-skipped e = remains-same ps all (kept_from s o op facts last xs j) _ (from-here ∙ ap (λ (b : Bool). cond b (Proves duty_here ∷ kept_from s o op facts last xs (j + 1)) (kept_from s o op facts last xs (j + 1))) e) h
 
-    wanted-here : has_to_keep o (invariant_tree s x) ≡ true → Remains ps all (duty_here ∷ kept_from s o op facts last xs (j + 1))
-    wanted-here e = remains-same ps all (kept_from s o op facts last xs j) _ (from-here ∙ ap (λ (b : Bool). cond b (duty_here ∷ kept_from s o op facts last xs (j + 1)) (kept_from s o op facts last xs (j + 1))) e) h
+    wanted-here : has_to_keep o (invariant_tree s x) ≡ true → Remains ps all (Proves duty_here ∷ kept_from s o op facts last xs (j + 1))
+    wanted-here e = remains-same ps all (kept_from s o op facts last xs j) _ (from-here ∙ ap (λ (b : Bool). cond b (Proves duty_here ∷ kept_from s o op facts last xs (j + 1)) (kept_from s o op facts last xs (j + 1))) e) h
 
     pub kept-passed : has_to_keep o (invariant_tree s x) ≡ true → duty_fault ps duty_here ≡ None → IsProved duty_here → Remains ps all (kept_from s o op facts last xs (j + 1))
-    kept-passed e none proved = remains-past_one ps all (kept_from s o op facts last xs (j + 1)) duty_here (wanted-here e) none proved
+    kept-passed e none proved = remains-past_one ps all (kept_from s o op facts last xs (j + 1)) (Proves duty_here) (wanted-here e) none proved
 
-    pub kept-refused : (A B : Type 0) (stop : Stop) → has_to_keep o (invariant_tree s x) ≡ true → Passes {A = A} (Err stop) (duty_fault ps duty_here) → Passes {A = B} (Err stop) (duties_fault ps all)
-    kept-refused A B stop e p = remains-refused_one A B stop ps all (kept_from s o op facts last xs (j + 1)) duty_here (wanted-here e) p
+    pub kept-refused : (A B : Type 0) (stop : Stop) → has_to_keep o (invariant_tree s x) ≡ true → Passes {A = A} (Err stop) (duty_fault ps duty_here) → Passes {A = B} (Err stop) (checks_fault ps all)
+    kept-refused A B stop e p = remains-refused_one A B stop ps all (kept_from s o op facts last xs (j + 1)) (Proves duty_here) (wanted-here e) p
 
-pub kept-end : (s : Stored) (o : OperationTree) (op : ℕ) (facts : List Fact) (last : List Tree) (xs : List Invariant) (j : ℕ) (ps : List ProofTree) (all : List Duty) → length xs ≤ j
+pub kept-end : (s : Stored) (o : OperationTree) (op : ℕ) (facts : List Fact) (last : List Tree) (xs : List Invariant) (j : ℕ) (ps : List ProofTree) (all : List Check) → length xs ≤ j
     → Remains ps all (kept_from s o op facts last xs j) → Remains ps all []
 unfolding keeps_duties
-kept-end s o op facts last xs j ps all le h = remains-same ps all (kept_from s o op facts last xs j) [] (at_drop_all (λ (ys : List Invariant). keeps_duties o op facts last j (map (invariant_tree s) ys)) xs j le) h
+kept-end s o op facts last xs j ps all le h = remains-same ps all (kept_from s o op facts last xs j) [] (at_drop_all (λ (ys : List Invariant). proves (keeps_duties o op facts last j (map (invariant_tree s) ys))) xs j le) h
 
 -- where the loop stands before the invariant with index j, over the store t, having begun over s
 pub record IsKeeping (s t : Stored) (w v : Walk) (o : OperationTree) (op : ℕ) (xs : List Invariant) (ps : List ProofTree) (j : ℕ) : Type 0 where
@@ -143,7 +150,7 @@ module _ (s t : Stored) (w v : Walk) (o : OperationTree) (op : ℕ) (xs : List I
         (subst (λ (d : Duty). duty_fault ps d ≡ None) met-is none) (subst IsProved met-is proved);
   }
 
-  pub keeping-refused : (A B : Type 0) (stop : Stop) → has_to_keep o (invariant_tree s x) ≡ true → Passes {A = A} (Err stop) (duty_fault ps duty_met) → Passes {A = B} (Err stop) (duties_fault ps (kept_from s o op (known_of s w) (values_of s w) xs 0))
+  pub keeping-refused : (A B : Type 0) (stop : Stop) → has_to_keep o (invariant_tree s x) ≡ true → Passes {A = A} (Err stop) (duty_fault ps duty_met) → Passes {A = B} (Err stop) (checks_fault ps (kept_from s o op (known_of s w) (values_of s w) xs 0))
   keeping-refused A B stop e p =
       kept-refused s o op (known_of s w) (values_of s w) xs j x lt is ps (kept_from s o op (known_of s w) (values_of s w) xs 0) h.left A B stop e
       (subst (λ (d : Duty). Passes {A = A} (Err stop) (duty_fault ps d)) met-is p)

@@ -5,7 +5,6 @@ use Rattle.sync_terms.specs.Trees.{Tree}
 use Rattle.sync_terms.specs.Trees as terms
 use Rattle.sync_terms.specs.declared.nodes.TermId.{TermId}
 use Rattle.sync_terms.specs.Stored.{Stored, tree, IsTerm, IsForm, Extends}
-use Rattle.sync_machine.specs.declared.fields.Field.{Field}
 use Rattle.sync_machine.specs.declared.machine.Pattern.{Pattern}
 use Rattle.sync_machine.specs.declared.machine.Pattern.TheVariants as patterns
 use Rattle.sync_machine.specs.declared.machine.Place.{Place}
@@ -15,16 +14,15 @@ use Rattle.sync_machine.specs.declared.machine.Step.{Step}
 use Rattle.sync_machine.specs.declared.machine.Invariant.{Invariant}
 use Rattle.sync_machine.specs.Machines.{PatternTree, PlaceTree, ActTree, StepTree}
 use Rattle.sync_machine.specs.Machines as trees
-use Rattle.sync_machine.specs.States.{strategy_of}
 use Rattle.sync_machine.specs.declared.machine.Operation.{Operation}
 use Rattle.sync_machine.specs.Views.{invariant_tree, operation_tree, symbols_of, key_tree, pattern_tree, place_tree, act_tree, step_tree, steps_tree, HasKeyId, HasPatternId, HasPlaceIds, HasActIds}
 use Rattle.sync_kernel.specs.declared.sequents.Hyp.{Hyp}
 use Rattle.sync_kernel.specs.Facts.{Fact, fact_of}
 use Rattle.sync_induct.specs.declared.walks.Walk.{Walk}
-use Rattle.sync_induct.specs.Checks.{facts_size, capped, is_built}
+use Rattle.sync_induct.specs.Checks.{facts_size, capped}
 use Rattle.sync_induct.specs.Duties.{facts_of, HaveForms}
 use Rattle.sync_induct.specs.Closing.{IsKeepable}
-use Rattle.sync_induct.specs.Walks.{values_of, known_of, IsWalk, IsPlain, IsWalkable}
+use Rattle.sync_induct.specs.Walks.{values_of, known_of, IsWalk}
 
 module _ (s t : Stored) (e : Extends s t) where
   key-stays : (o : Option TermId) → HasKeyId s o → key_tree t o ≡ key_tree s o
@@ -87,13 +85,6 @@ module _ (s t : Stored) (e : Extends s t) where
   pub keepable-stays : (is : List Invariant) → AllByRecursion (IsKeepable s) is → AllByRecursion (IsKeepable t) is
   keepable-stays [] h = tt
   keepable-stays (i ∷ is) h = (record { form = (e.forms i.form h.0.form).0; names = h.0.names }, keepable-stays is h.1)
-
-  pub walkable-stays : (fs : List Field) (x : Step) → IsWalkable s fs x → IsWalkable t fs x
-  walkable-stays fs x h = record {
-    ids = act-ids x.act h.ids;
-    plain = subst IsPlain (sym (act-stays x.act h.ids)) h.plain;
-    built = ap (λ (a : ActTree). is_built (strategy_of fs a) a) (act-stays x.act h.ids) ∙ h.built;
-  }
 
   fact-stays : (h : Hyp) → IsForm s h.form → fact_of t h ≡ fact_of s h
   fact-stays h i = ap (λ (f : terms.Formula). record { name = h.name; params = map (λ x. x.0) h.params; form = f }) (e.forms h.form i).1

@@ -4,10 +4,10 @@ pub mod Soundness
 pub mod Scoping
 pub mod Titles
 pub mod Negations
+pub mod Scripts
 pub mod Judging
-pub mod Plain
 pub mod Growing
-pub mod Passing
+pub mod Stating
 pub mod Lasting
 pub mod Remaining
 pub mod Stepping
@@ -18,5 +18,6 @@ pub mod Keeping
 pub mod Operating
 pub mod Wanting
 pub mod Ready
+pub mod Showing
 pub mod Law
 pub mod Deciding

@@ -1,26 +1,23 @@
 -- Whether a machine's proofs prove its obligations: nothing, or the first line and rule that they break.
-use Rattle.std.specs.Prelude.{ℕ, ◌+◌, ◌-◌, ◌^◌, min, List, [], ◌∷◌, ◌++◌, map, Bool, true, false, not, ◌&&◌, ◌||◌, nat_lt, Option, Some, None, if◌then◌else◌}
-use Rattle.std.specs.List.{list_any}
+use Rattle.std.specs.Prelude.{ℕ, ◌+◌, ◌-◌, ◌^◌, min, List, [], ◌∷◌, ◌++◌, map, Bool, not, ◌&&◌, ◌||◌, nat_lt, Option, Some, None, if◌then◌else◌}
+use Rattle.std.specs.List.{AllByRecursion, list_any}
 use Rattle.sync_base.specs.declared.stops.Refusal.{Refusal}
-use Rattle.sync_base.specs.declared.stops.Rule.TheVariants.{I1, I2, K8, G9}
+use Rattle.sync_base.specs.declared.stops.Rule.TheVariants.{I1, I2, K8}
 use Rattle.sync_base.specs.Outcome.{first}
 use Rattle.sync_terms.specs.Trees.{Formula, formula_size, neg}
 use Rattle.sync_terms.specs.declared.nodes.FormId.{FormId}
 use Rattle.sync_terms.specs.Stored.{Stored, formula}
-use Rattle.sync_machine.specs.declared.fields.Field.{Field}
-use Rattle.sync_machine.specs.declared.fields.Strategy.{Strategy}
-use Rattle.sync_machine.specs.declared.fields.Strategy.TheVariants.{Variable, Constant, NotTokenized, Option as OptionField, Map, Set, Multiset, Count, PersistentOption, PersistentMap, PersistentSet, PersistentCount, StorageMap}
-use Rattle.sync_machine.specs.Machines.{ActTree, Init, Require, Assert, Update, HaveVariable, Add, Remove, Have, Deposit, Withdraw, Guard, StepTree, OperationTree, MachineTree}
-use Rattle.sync_machine.specs.States.{strategy_of}
+use Rattle.sync_machine.specs.Machines.{MachineTree}
 use Rattle.sync_rules.specs.declared.claims.Obligation.{Obligation}
 use Rattle.sync_rules.specs.Obligations.{obligations_of}
 use Rattle.sync_kernel.specs.Facts.{Fact}
-use Rattle.sync_terms.specs.Plans.{Plan, plan_of}
+use Rattle.sync_terms.specs.Plans.{Plan, plan_of, IsScriptOf}
 use Rattle.sync_kernel.specs.Scripts.{script_fault}
 use Rattle.sync_induct.specs.declared.proofs.Proof.{Proof}
 use Rattle.sync_induct.specs.declared.index.Title.{Title}
 use Rattle.sync_kernel.specs.declared.sequents.Hyp.{Hyp}
-use Rattle.sync_induct.specs.Duties.{Duty, duties_of, facts_of}
+use Rattle.sync_induct.specs.Duties.{Duty, facts_of}
+use Rattle.sync_induct.specs.Checklist.{Check, Proves, Fits, checks_of}
 use Rattle.sync_induct.specs.Titles.{titled, same_title}
 
 -- a proof: what it is of, with its own line, and its script as a plan
@@ -41,12 +38,9 @@ proof_in s p = record { title = title_of p; plan = plan_of s p.script.block }
 abbrev pub proofs_in : Stored → List Proof → List ProofTree
 proofs_in s ps = map (proof_in s) ps
 
--- the steps that are built so far take no terms, so that over no store a script is worth as much
-abbrev pub no_store : Stored
-no_store = record { nodes = []; forms = [] }
-
-abbrev pub proof_trees : List Proof → List ProofTree
-proof_trees ps = proofs_in no_store ps
+-- the scripts' ids are of the store: whatever it gains, they stay the same
+abbrev pub AreScriptsOf : Stored → List Proof → Type 0
+AreScriptsOf s ps = AllByRecursion (λ (p : Proof). IsScriptOf s p.script.block) ps
 
 -- a list has a proof or an obligation of this title
 abbrev pub has_title : List Obligation → Title → Bool
@@ -85,51 +79,21 @@ judged d (Some plan) = if is_large d then Some (record { line = d.obligation.lin
 abbrev pub duty_fault : List ProofTree → Duty → Option Refusal
 duty_fault ps d = judged d (proof_of (titled d.obligation) ps)
 
-unfoldable pub duties_fault : List ProofTree → List Duty → Option Refusal
-duties_fault ps [] = None
-duties_fault ps (d ∷ ds) = first (duty_fault ps d) (duties_fault ps ds)
+-- what is made has more than 1,000,000 nodes
+abbrev pub size_fault : ℕ → ℕ → Option Refusal
+size_fault line nodes = if nat_lt 1000000 nodes then Some (record { line = line; rule = K8 }) else None
 
--- first the proofs of no obligation, then the obligations in order
+abbrev pub check_fault : List ProofTree → Check → Option Refusal
+check_fault ps (Proves d) = duty_fault ps d
+check_fault ps (Fits line nodes) = size_fault line nodes
+
+unfoldable pub checks_fault : List ProofTree → List Check → Option Refusal
+checks_fault ps [] = None
+checks_fault ps (c ∷ cs) = first (check_fault ps c) (checks_fault ps cs)
+
+-- first the proofs of no obligation, then the checks in order
 abbrev pub proof_fault : MachineTree → List ProofTree → Option Refusal
-proof_fault m ps = first (stray_fault (obligations_of m) [] (map (λ (p : ProofTree). p.title) ps)) (duties_fault ps (duties_of m))
-
-abbrev pub is_count : Strategy → Bool
-is_count Count = true
-is_count Variable = false
-is_count Constant = false
-is_count NotTokenized = false
-is_count OptionField = false
-is_count Map = false
-is_count Set = false
-is_count Multiset = false
-is_count PersistentOption = false
-is_count PersistentMap = false
-is_count PersistentSet = false
-is_count PersistentCount = false
-is_count StorageMap = false
-
--- a statement that is checked so far, on a field of this strategy: none on tokens or stored objects, and no first value of a count
-abbrev pub is_built : Strategy → ActTree → Bool
-is_built k (Init f t) = not (is_count k)
-is_built k (Require form) = true
-is_built k (Assert form) = true
-is_built k (Update f t) = true
-is_built k (HaveVariable f) = true
-is_built k (Add f p) = false
-is_built k (Remove f p) = false
-is_built k (Have f p) = false
-is_built k (Deposit f p) = false
-is_built k (Withdraw f p) = false
-is_built k (Guard f p) = false
-
--- the first statement that is not
-unfoldable pub unbuilt_step : List Field → List StepTree → Option Refusal
-unbuilt_step fs [] = None
-unbuilt_step fs (x ∷ xs) = if is_built (strategy_of fs x.act) x.act then unbuilt_step fs xs else Some (record { line = x.line; rule = G9 })
-
-unfoldable pub unbuilt_fault : List Field → List OperationTree → Option Refusal
-unbuilt_fault fs [] = None
-unbuilt_fault fs (o ∷ os) = first (unbuilt_step fs o.steps) (unbuilt_fault fs os)
+proof_fault m ps = first (stray_fault (obligations_of m) [] (map (λ (p : ProofTree). p.title) ps)) (checks_fault ps (checks_of m))
 
 -- a count that stands still at the end of its type
 abbrev pub capped : ℕ → ℕ

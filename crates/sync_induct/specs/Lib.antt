@@ -1,7 +1,7 @@
 pub mod Duties
 pub mod Titles
+pub mod Checklist
 pub mod Checks
-pub mod Acts
 pub mod Walks
 pub mod Starts
 pub mod Closing

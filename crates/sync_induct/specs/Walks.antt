@@ -1,20 +1,21 @@
 -- What is known at a place of an operation: hypotheses, and each field's value so far, over a store that grows.
-use Rattle.std.specs.Prelude.{◌≡◌, ℕ, ◌++◌, List, [], map, true}
+use Rattle.std.specs.Prelude.{◌≡◌, ℕ, ◌++◌, List, map, Option, Some, None, slice_set}
 use Rattle.std.specs.List.{AllByRecursion}
-use Rattle.sync_terms.specs.Trees.{Tree, Formula}
-use Rattle.sync_terms.specs.declared.scripts.HypName.TheVariants.{At}
+use Rattle.sync_terms.specs.Trees.{Tree, Nil, Formula}
 use Rattle.sync_terms.specs.declared.nodes.TermId.{TermId}
 use Rattle.sync_terms.specs.Stored.{Stored, tree, IsTerm}
 use Rattle.sync_machine.specs.declared.fields.Field.{Field}
 use Rattle.sync_machine.specs.declared.machine.Step.{Step}
-use Rattle.sync_machine.specs.Machines.{ActTree, Init, Require, Assert, Update, HaveVariable, Add, Remove, Have, Deposit, Withdraw, Guard}
-use Rattle.sync_machine.specs.Statements.{safety}
+use Rattle.sync_machine.specs.Machines.{StepTree}
+use Rattle.sync_machine.specs.Statements.{safety, condition, after}
 use Rattle.sync_machine.specs.States.{strategy_of, current_of, advanced}
 use Rattle.sync_machine.specs.Views.{act_tree, step_tree, HasActIds}
 use Rattle.sync_kernel.specs.Facts.{Fact}
+use Rattle.sync_induct.specs.declared.statements.Statement.{Statement}
 use Rattle.sync_induct.specs.declared.walks.Walk.{Walk}
-use Rattle.sync_induct.specs.Duties.{Duty, facts_of, HaveForms, safety_duties, step_facts}
-use Rattle.sync_induct.specs.Checks.{facts_size, capped, is_built}
+use Rattle.sync_induct.specs.Duties.{facts_of, HaveForms, safety_duties, step_facts}
+use Rattle.sync_induct.specs.Checklist.{Check, proves, statement_checks}
+use Rattle.sync_induct.specs.Checks.{facts_size, capped}
 
 -- the fields' values so far
 abbrev pub values_of : Stored → Walk → List Tree
@@ -29,10 +30,6 @@ pub record HaveTrees (s : Stored) (ids : List TermId) (trees : List Tree) : Type
   pub terms : AllByRecursion (IsTerm s) ids
   pub are : map (tree s) ids ≡ trees
 
--- the condition of the statement with number n, as a fact
-abbrev pub known_at : ℕ → Formula → Fact
-known_at n form = record { name = At n; params = []; form = form }
-
 -- a walk over a store: its ids are of the store, and it has the size of its hypotheses
 pub record IsWalk (s : Stored) (w : Walk) : Type 0 where
   pub hyps : HaveForms s w.sequent.hyps
@@ -45,31 +42,46 @@ pub record HasCome (s : Stored) (w : Walk) (facts : List Fact) (values : List Tr
   pub known : known_of s w ≡ facts
   pub now : values_of s w ≡ values
 
--- a statement on no tokens and no stored objects
-abbrev pub IsPlain : ActTree → Type 0
-IsPlain (Init f t) = Unit {0}
-IsPlain (Update f t) = Unit {0}
-IsPlain (Require form) = Unit {0}
-IsPlain (Assert form) = Unit {0}
-IsPlain (HaveVariable f) = Unit {0}
-IsPlain (Add f p) = ⊥
-IsPlain (Remove f p) = ⊥
-IsPlain (Have f p) = ⊥
-IsPlain (Deposit f p) = ⊥
-IsPlain (Withdraw f p) = ⊥
-IsPlain (Guard f p) = ⊥
+-- ---- one statement
 
--- a statement that can be walked over: its ids are of the store, and it is checked so far
-pub record IsWalkable (s : Stored) (fs : List Field) (x : Step) : Type 0 where
-  pub ids : HasActIds s x.act
-  pub plain : IsPlain (act_tree s x.act)
-  pub built : is_built (strategy_of fs (act_tree s x.act)) (act_tree s x.act) ≡ true
+-- a value; the empty map where there is none
+abbrev pub tree_or_nil : Stored → Option TermId → Tree
+tree_or_nil s (Some id) = tree s id
+tree_or_nil s None = Nil
 
--- what the statement with number n has to show, after the walk so far
-abbrev pub owed : Stored → List Field → ℕ → ℕ → Walk → Step → List Duty
-owed s fs op n w x = safety_duties op n x.line (known_of s w) (safety (strategy_of fs (act_tree s x.act)) (current_of (values_of s w) (act_tree s x.act)) (act_tree s x.act))
+-- The code holds the statement x, which has the number n in the operation op, with its field's strategy and value so far.
+pub record IsStatement (s : Stored) (fs : List Field) (op n : ℕ) (cur : List Tree) (x : StepTree) (a : Statement) : Type 0 where
+  pub owner : a.op ≡ op
+  pub number : a.number ≡ n
+  pub ids : HasActIds s a.step.act
+  pub is : step_tree s a.step ≡ x
+  pub strategy : a.strategy ≡ strategy_of fs x.act
+  pub stored : IsTerm s a.current
+  pub value : tree s a.current ≡ current_of cur x.act
 
--- the facts and the values behind it
+-- the safety condition of a statement, what is known behind it, and its field's value behind it
+abbrev pub safety_at : Stored → Statement → Option Formula
+safety_at s a = safety a.strategy (tree s a.current) (act_tree s a.step.act)
+
+abbrev pub condition_at : Stored → Statement → Option Formula
+condition_at s a = condition a.strategy (tree s a.current) (act_tree s a.step.act)
+
+abbrev pub value_at : Stored → Statement → Tree
+value_at s a = after a.strategy (tree s a.current) (act_tree s a.step.act)
+
+-- what it has to show, after the walk so far
+abbrev pub owed : Stored → Walk → Statement → List Check
+owed s w a = proves (safety_duties a.op a.number a.step.line (known_of s w) (safety_at s a))
+
+-- the values where the one of a field is replaced, if there is a field
+abbrev pub values_with : Option ℕ → Tree → List Tree → List Tree
+values_with (Some f) t cur = slice_set cur f t
+values_with None t cur = cur
+
+-- the checks of the statement x, and the facts and values behind it
+abbrev pub checks_at : Stored → List Field → ℕ → ℕ → Walk → Step → List Check
+checks_at s fs op n w x = statement_checks op n (known_of s w) (strategy_of fs (act_tree s x.act)) (current_of (values_of s w) (act_tree s x.act)) (step_tree s x)
+
 abbrev pub facts_after : Stored → List Field → ℕ → Walk → Step → List Fact
 facts_after s fs n w x = known_of s w ++ step_facts fs (values_of s w) n (step_tree s x)
 

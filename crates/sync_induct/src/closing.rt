@@ -1,5 +1,5 @@
 //! The claims that an operation keeps the invariants.
-ghost use Rattle.std.specs.Prelude.{◌≡◌, ◌<◌, ◌++◌, ℕ, suc, List, map, true, Err, OnOk, IfOk};
+ghost use Rattle.std.specs.Prelude.{◌≡◌, ◌<◌, ◌++◌, ℕ, suc, List, map, Err, OnOk, IfOk};
 ghost use Rattle.std.specs.List.{AllByRecursion};
 ghost use Rattle.std.specs.HashMap.{get};
 ghost use Rattle.std.specs.HashSet.{contains};
@@ -10,19 +10,20 @@ ghost use Rattle.sync_terms.specs.Trees.{Tree, formula_size};
 ghost use Rattle.sync_machine.specs.Scope.{IsNameSymbol};
 ghost use Rattle.sync_machine.specs.Views.{invariant_tree, operation_tree, symbols_of};
 ghost use Rattle.sync_induct.specs.declared.index.Title.{Title as Named};
-ghost use Rattle.sync_induct.specs.Checks.{titles_of, proof_trees, duty_fault, duties_fault, is_large};
+ghost use Rattle.sync_induct.specs.Checks.{titles_of, AreScriptsOf, proofs_in, duty_fault, checks_fault};
+ghost use Rattle.sync_induct.specs.Checklist.{AreShown, proves};
 ghost use Rattle.sync_induct.specs.Closing.{HavePairs, IsKeepable, AreWanted, dollar_pair};
 ghost use Rattle.sync_induct.specs.Closing as closing;
-ghost use Rattle.sync_induct.specs.Duties.{Duty, IsProved, AreProved, closed_form, kept_duty, keeps_duties};
+ghost use Rattle.sync_induct.specs.Duties.{IsProved, closed_form, kept_duty, keeps_duties};
 ghost use Rattle.sync_induct.specs.Titles.{same_title, first_at};
 ghost use Rattle.sync_induct.specs.Walks.{IsWalk, known_of, values_of};
 
-use crate::index::Title;
-use crate::judges::{judge, refused};
+use crate::index::{Book, Title};
+use crate::judges::{judge, too_large};
 use crate::numbers::number;
-use crate::walks::{Book, Walk};
+use crate::walks::Walk;
 use std::alloc::Global;
-use sync_base::{NoMemory, Rule, Stop};
+use sync_base::{NoMemory, Stop};
 use sync_machine::{Invariant, Operation};
 use sync_rules::{Claim, Obligation};
 use sync_terms::{FormId, Node, Sym, TermId, TermStop, Terms};
@@ -64,19 +65,6 @@ fn add_dollars(terms: &mut Terms, pairs: &mut Vec<Pair>, params: &[Sym]) -> Resu
     Ok(())
 }
 
-/// Why an obligation is refused whose claim would be too large: it has no proof, or its sequent is too large.
-fn too_large(book: Book<'_>, obligation: Obligation) -> Stop
-    requires { (t : Named) → get same_title book.places.now t ≡ first_at t 0 (titles_of book.proofs.now) }
-    ensures { (d : Duty) → d.obligation ≡ obligation → is_large d ≡ true → Passes {A = Unit {0}} (Err result) (duty_fault (proof_trees book.entry.proofs.now) d) }
-{
-    let title = Title::new(obligation.op, obligation.claim);
-    if book.places.contains_key(&title) {
-        refused(obligation.line, Rule::K8)
-    } else {
-        refused(obligation.line, Rule::I1)
-    }
-}
-
 impl Walk {
     /// An invariant behind the operation: each field replaced by its last value, and each parameter p by `$p`.
     fn closed(
@@ -107,8 +95,9 @@ impl Walk {
     ) -> Result<(), Stop>
         requires walk { IsWalk terms.old self.old }
         requires invariant { IsKeepable terms.old invariant.now }
+        requires scripts { AreScriptsOf terms.old book.proofs.now }
         requires placed { (t : Named) → get same_title book.places.now t ≡ first_at t 0 (titles_of book.proofs.now) }
-        ensures exact { Passes result (duty_fault (proof_trees book.entry.proofs.now) (kept_duty obligation (known_of terms.old self.old) (values_of terms.old self.old) (invariant_tree terms.old invariant.now))) }
+        ensures exact { Passes result (duty_fault (proofs_in terms.old book.entry.proofs.now) (kept_duty obligation (known_of terms.old self.old) (values_of terms.old self.old) (invariant_tree terms.old invariant.now))) }
         ensures proved { OnOk result (IsProved (kept_duty obligation (known_of terms.old self.old) (values_of terms.old self.old) (invariant_tree terms.old invariant.now))) }
         ensures keeps { Extends terms.old terms.new }
         ensures hyps { self.new.sequent.hyps ≡ self.old.sequent.hyps }
@@ -146,11 +135,12 @@ impl Walk {
         requires walk { IsWalk terms.old self.old }
         requires invariants { AllByRecursion (IsKeepable terms.old) invariants.now }
         requires wanted { AreWanted (contains same_title book.wanted.now) op (operation_tree terms.old operation.now) (map (invariant_tree terms.old) invariants.now) }
+        requires scripts { AreScriptsOf terms.old book.proofs.now }
         requires placed { (t : Named) → get same_title book.places.now t ≡ first_at t 0 (titles_of book.proofs.now) }
-        ensures exact { Passes result (duties_fault (proof_trees book.entry.proofs.now)
-            (keeps_duties (operation_tree terms.old operation.now) op (known_of terms.old self.old) (values_of terms.old self.old) 0 (map (invariant_tree terms.old) invariants.now))) }
-        ensures proved { OnOk result (AreProved
-            (keeps_duties (operation_tree terms.old operation.now) op (known_of terms.old self.old) (values_of terms.old self.old) 0 (map (invariant_tree terms.old) invariants.now))) }
+        ensures exact { Passes result (checks_fault (proofs_in terms.old book.entry.proofs.now)
+            (proves (keeps_duties (operation_tree terms.old operation.now) op (known_of terms.old self.old) (values_of terms.old self.old) 0 (map (invariant_tree terms.old) invariants.now)))) }
+        ensures shown { OnOk result (AreShown
+            (proves (keeps_duties (operation_tree terms.old operation.now) op (known_of terms.old self.old) (values_of terms.old self.old) 0 (map (invariant_tree terms.old) invariants.now)))) }
         ensures keeps { Extends terms.old terms.new }
     {
         for (j, invariant) in invariants.iter().enumerate() {

@@ -45,6 +45,14 @@ impl Title {
 /// The place of each title's first proof in a text's proofs.
 pub type Places = HashMap<Title, usize>;
 
+/// A text's proofs, where each title's first one stands, and the titles of the obligations.
+#[derive(Clone, Copy)]
+pub struct Book<'a> {
+    pub proofs: &'a [Proof],
+    pub places: &'a Places,
+    pub wanted: &'a HashSet<Title>,
+}
+
 /// The titles of obligations.
 pub fn wanted(alloc: Global, obligations: &[Obligation]) -> Result<HashSet<Title>, NoMemory>
     ensures { IfOk result (λ s. (t : Title) → contains same_title s t ≡ has_title obligations.now t) }

@@ -1,15 +1,15 @@
 //! The check of one obligation.
-ghost use Rattle.std.specs.Prelude.{◌≡◌, OnOk};
+ghost use Rattle.std.specs.Prelude.{◌≡◌, true, Err, OnOk};
 ghost use Rattle.std.specs.HashMap.{get};
 ghost use Rattle.sync_base.specs.Outcome.{Passes};
-ghost use Rattle.sync_terms.specs.Stored.{Extends, IsForm, formula};
+ghost use Rattle.sync_terms.specs.Stored.{Stored, Extends, IsForm, formula};
 ghost use Rattle.sync_terms.specs.Values.{IsValid};
-ghost use Rattle.sync_induct.specs.Checks.{titles_of, proof_trees, duty_fault, duty_of, facts_size, capped};
-ghost use Rattle.sync_induct.specs.Duties.{facts_of, givens_of, HaveForms};
+ghost use Rattle.sync_induct.specs.Checks.{titles_of, AreScriptsOf, proofs_in, duty_fault, duty_of, facts_size, is_large, capped};
+ghost use Rattle.sync_induct.specs.Duties.{Duty, facts_of, givens_of, HaveForms};
 ghost use Rattle.sync_induct.specs.Titles.{same_title, first_at};
 ghost use Rattle.sync_induct.specs.declared.index.Title.{Title};
 
-use crate::index::{Places, Title};
+use crate::index::{Book, Places, Title};
 use crate::proofs::Proof;
 use crate::sizes::{LIMIT, denied_size};
 use std::alloc::Global;
@@ -22,6 +22,19 @@ pub fn refused(line: u32, rule: Rule) -> Stop
     ensures { result ≡ Stop.Refused (record { line = line; rule = rule }) }
 {
     Stop::Refused(Refusal { line, rule })
+}
+
+/// Why an obligation is refused whose claim would be too large: it has no proof, or its sequent is too large.
+pub fn too_large(book: Book<'_>, obligation: Obligation) -> Stop
+    requires { (t : Title) → get same_title book.places.now t ≡ first_at t 0 (titles_of book.proofs.now) }
+    ensures { (s : Stored) (d : Duty) → d.obligation ≡ obligation → is_large d ≡ true → Passes {A = Unit {0}} (Err result) (duty_fault (proofs_in s book.entry.proofs.now) d) }
+{
+    let title = Title::new(obligation.op, obligation.claim);
+    if book.places.contains_key(&title) {
+        refused(obligation.line, Rule::K8)
+    } else {
+        refused(obligation.line, Rule::I1)
+    }
 }
 
 /// Checks the proof of an obligation whose sequent is given, with the number of nodes of its hypotheses.
@@ -37,8 +50,9 @@ pub fn judge(
     requires hyps { HaveForms terms.old q.now.hyps }
     requires claim { IsForm terms.old q.now.claim }
     requires size { size ≡ capped (facts_size (facts_of terms.old q.now.hyps)) }
+    requires scripts { AreScriptsOf terms.old proofs.now }
     requires placed { (t : Title) → get same_title places.now t ≡ first_at t 0 (titles_of proofs.now) }
-    ensures exact { Passes result (duty_fault (proof_trees proofs.now) (duty_of terms.old q.now.hyps q.now.claim obligation)) }
+    ensures exact { Passes result (duty_fault (proofs_in terms.old proofs.now) (duty_of terms.old q.now.hyps q.now.claim obligation)) }
     ensures valid { OnOk result (IsValid (givens_of (facts_of terms.old q.now.hyps)) (formula terms.old q.now.claim)) }
     ensures keeps { Extends terms.old terms.new }
 {

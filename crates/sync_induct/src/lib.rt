@@ -11,6 +11,7 @@ mod operations;
 mod proofs;
 mod sizes;
 mod starts;
+mod statements;
 mod walks;
 
 pub use checking::inductive;

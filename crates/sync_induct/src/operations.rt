@@ -5,17 +5,17 @@ ghost use Rattle.std.specs.HashMap.{get};
 ghost use Rattle.std.specs.HashSet.{contains};
 ghost use Rattle.sync_base.specs.Outcome.{Passes};
 ghost use Rattle.sync_terms.specs.Stored.{Extends};
-ghost use Rattle.sync_machine.specs.Views.{invariant_tree, operation_tree};
+ghost use Rattle.sync_machine.specs.Views.{invariant_tree, operation_tree, HasActIds};
 ghost use Rattle.sync_machine.specs.declared.machine.Operation.{Operation as Declared};
 ghost use Rattle.sync_induct.specs.declared.index.Title.{Title};
-ghost use Rattle.sync_induct.specs.Checks.{titles_of, proof_trees, duties_fault};
+ghost use Rattle.sync_induct.specs.Checks.{titles_of, AreScriptsOf, proofs_in, checks_fault};
 ghost use Rattle.sync_induct.specs.Closing.{IsKeepable, AreWanted};
-ghost use Rattle.sync_induct.specs.Duties.{AreProved, operation_duties, duties_from};
+ghost use Rattle.sync_induct.specs.Checklist.{AreShown, operation_checks, checks_from};
 ghost use Rattle.sync_induct.specs.Titles.{same_title, first_at};
-ghost use Rattle.sync_induct.specs.Walks.{IsWalkable};
 
+use crate::index::Book;
 use crate::numbers::number;
-use crate::walks::{Book, Walk};
+use crate::walks::Walk;
 use std::alloc::Global;
 use sync_base::Stop;
 use sync_machine::{Field, Invariant, Operation};
@@ -32,12 +32,13 @@ fn check_operation(
     book: Book<'_>,
 ) -> Result<(), Stop>
     requires invariants { AllByRecursion (IsKeepable terms.old) invariants.now }
-    requires walkable { All (IsWalkable terms.old fields.now) operation.now.steps }
+    requires ids { All (λ x. HasActIds terms.old x.act) operation.now.steps }
     requires wanted { AreWanted (contains same_title book.wanted.now) number (operation_tree terms.old operation.now) (map (invariant_tree terms.old) invariants.now) }
+    requires scripts { AreScriptsOf terms.old book.proofs.now }
     requires placed { (t : Title) → get same_title book.places.now t ≡ first_at t 0 (titles_of book.proofs.now) }
-    ensures exact { Passes result (duties_fault (proof_trees book.entry.proofs.now)
-        (operation_duties fields.now (map (invariant_tree terms.old) invariants.now) number (operation_tree terms.old operation.now))) }
-    ensures proved { OnOk result (AreProved (operation_duties fields.now (map (invariant_tree terms.old) invariants.now) number (operation_tree terms.old operation.now))) }
+    ensures exact { Passes result (checks_fault (proofs_in terms.old book.entry.proofs.now)
+        (operation_checks fields.now (map (invariant_tree terms.old) invariants.now) number (operation_tree terms.old operation.now))) }
+    ensures shown { OnOk result (AreShown (operation_checks fields.now (map (invariant_tree terms.old) invariants.now) number (operation_tree terms.old operation.now))) }
     ensures keeps { Extends terms.old terms.new }
 {
     let mut walk = Walk::begin(alloc, terms, fields, invariants, operation.mode)?;
@@ -62,13 +63,14 @@ pub fn check_operations(
     book: Book<'_>,
 ) -> Result<(), Stop>
     requires invariants { AllByRecursion (IsKeepable terms.old) invariants.now }
-    requires walkable { AllByRecursion (λ (o : Declared). All (IsWalkable terms.old fields.now) o.steps) operations.now }
+    requires ids { AllByRecursion (λ (o : Declared). All (λ x. HasActIds terms.old x.act) o.steps) operations.now }
     requires wanted { (k : ℕ) (o : Declared) → slice_get operations.now k ≡ Some o
         → AreWanted (contains same_title book.wanted.now) k (operation_tree terms.old o) (map (invariant_tree terms.old) invariants.now) }
+    requires scripts { AreScriptsOf terms.old book.proofs.now }
     requires placed { (t : Title) → get same_title book.places.now t ≡ first_at t 0 (titles_of book.proofs.now) }
-    ensures exact { Passes result (duties_fault (proof_trees book.entry.proofs.now)
-        (duties_from fields.now (map (invariant_tree terms.old) invariants.now) 0 (map (operation_tree terms.old) operations.now))) }
-    ensures proved { OnOk result (AreProved (duties_from fields.now (map (invariant_tree terms.old) invariants.now) 0 (map (operation_tree terms.old) operations.now))) }
+    ensures exact { Passes result (checks_fault (proofs_in terms.old book.entry.proofs.now)
+        (checks_from fields.now (map (invariant_tree terms.old) invariants.now) 0 (map (operation_tree terms.old) operations.now))) }
+    ensures shown { OnOk result (AreShown (checks_from fields.now (map (invariant_tree terms.old) invariants.now) 0 (map (operation_tree terms.old) operations.now))) }
     ensures keeps { Extends terms.old terms.new }
 {
     for (i, operation) in operations.iter().enumerate() {

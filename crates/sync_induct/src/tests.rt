@@ -1,9 +1,9 @@
-//! Two counters that are raised together: accepted with their four proofs, and refused for each rule where a proof is changed.
-ghost use Rattle.std.specs.Prelude.{◌≡◌, ◌≤◌, [], length, IfOk};
+//! Machines without proofs: accepted where nothing has to be proved, and refused for what lacks its proof or is too large.
+ghost use Rattle.std.specs.Prelude.{◌≡◌, ◌≤◌, [], length, Some, None, IfOk};
 ghost use Rattle.sync_terms.specs.Stored.{IsTerm, IsForm, HasChildren, HasParts};
-ghost use Rattle.sync_machine.specs.Views.{operation_tree, machine_tree, HasOwnIds};
+ghost use Rattle.sync_machine.specs.Views.{act_tree, operation_tree, machine_tree, HasActIds, HasOwnIds};
 ghost use Rattle.sync_machine.specs.Scoped.{HaveIds};
-ghost use Rattle.sync_machine.specs.Naming.{HasTextNames, AreTextNames};
+ghost use Rattle.sync_machine.specs.Naming.{bound_by, BindsTextName, HasTextNames, AreTextNames};
 
 use super::*;
 use sqlite_items::Items;
@@ -11,12 +11,10 @@ use std::alloc::Global;
 use std::test::*;
 use sync_base::{Refusal, Rule, Stop};
 use sync_machine::{
-    Act, Field, Invariant, Machine, OpMode, Operation, Step, Strategy, well_formed,
+    Act, Field, Invariant, Machine, OpMode, Operation, Pattern, Place, Step, Strategy, well_formed,
 };
-use sync_rules::{Claim, check_ops};
-use sync_terms::{
-    Block, FormId, FormNode, HypName, Node, Part, Script, ScriptStep, StepKind, Sym, TermId, Terms,
-};
+use sync_rules::check_ops;
+use sync_terms::{FormId, FormNode, Node, Sym, TermId, Terms};
 
 /// Adds a term.
 #[tactic(auto, using(sync_machine::proofs::Longer::nodes_grow, sync_machine::proofs::Longer::forms_grow))]
@@ -200,121 +198,200 @@ fn two_counters(alloc: Global) -> Result<Machine, Fail>
     })
 }
 
-/// A proof of one step.
-fn proof(alloc: Global, op: u32, kept: u32, what: StepKind, line: u32) -> Result<Proof, Fail> {
-    let mut steps = Items::new(alloc);
-    steps.push(ScriptStep { what, line })?;
-    let block = Block {
+/// A field with so many tokens as its strategy has, and a transition in line 4 with two statements, in lines 5 and 6.
+#[tactic(auto, unfolding(sync_machine::specs::Naming::bound_by))]
+fn two_statements(
+    alloc: Global,
+    terms: Terms,
+    strategy: Strategy,
+    first: Act,
+    second: Act,
+) -> Result<Machine, Fail>
+    requires first { HasActIds terms first }
+    requires second { HasActIds terms second }
+    requires free { BindsTextName (bound_by (act_tree terms first)) }
+    requires also_free { BindsTextName (bound_by (act_tree terms second)) }
+    ensures ids { IfOk result (λ m. HasOwnIds m) }
+    ensures names { IfOk result (λ m. AreTextNames (machine_tree m)) }
+{
+    let steps = Items::from_slice(
+        alloc,
+        &[
+            Step {
+                act: first,
+                line: 5,
+            },
+            Step {
+                act: second,
+                line: 6,
+            },
+        ],
+    )?;
+    let mut ops = Items::new(alloc);
+    ops.push(Operation {
+        name: 2,
+        mode: OpMode::Transition,
+        params: Items::new(alloc),
         steps,
-        end_line: line,
+        line: 4,
+    })?;
+    let field = Field {
+        name: 1,
+        strategy,
+        line: 3,
     };
-    Ok(Proof {
-        op,
-        claim: Claim::Keeps(kept),
-        script: Script { block, line },
-        line,
+    Ok(Machine {
+        name: 0,
+        fields: Items::from_slice(alloc, &[field])?,
+        ops,
+        invariants: Items::new(alloc),
+        terms,
     })
 }
 
-/// `sum 1 denied, TIMES HYP`.
-fn sum(alloc: Global, times: i128, hyp: HypName) -> Result<StepKind, Fail> {
-    let parts = [
-        Part {
-            times: 1,
-            hyp: HypName::Denied,
-        },
-        Part { times, hyp },
-    ];
-    Ok(StepKind::Sum(Items::from_slice(alloc, &parts)?))
-}
-
-/// The first three proofs, in lines 11 to 13, the third with this multiplier.
-fn three_proofs(alloc: Global, times: i128) -> Result<Items<Proof>, Fail> {
-    let mut list = Items::new(alloc);
-    list.push(proof(alloc, 0, 0, StepKind::Same, 11)?)?;
-    list.push(proof(alloc, 0, 1, StepKind::Same, 12)?)?;
-    let step = sum(alloc, times, HypName::Label(5))?;
-    list.push(proof(alloc, 1, 0, step, 13)?)?;
-    Ok(list)
-}
-
-/// The fourth proof, in this line.
-fn fourth(alloc: Global, line: u32) -> Result<Proof, Fail> {
-    proof(alloc, 1, 1, sum(alloc, 1, HypName::At(1))?, line)
-}
-
-/// What the check answers to these proofs.
-fn answer(alloc: Global, list: Items<Proof>) -> Result<Result<Inductive, Stop>, Fail> {
-    let m = two_counters(alloc)?;
+/// What the check answers to a machine without proofs.
+fn answer(alloc: Global, m: Machine) -> Result<Result<Inductive, Stop>, Fail>
+    requires ids { HasOwnIds m }
+    requires names { AreTextNames (machine_tree m) }
+{
     let Ok(()) = well_formed(&m) else {
         return Err(Fail::new("names"));
     };
     let Ok(()) = check_ops(&m) else {
         return Err(Fail::new("strategies"));
     };
+    let list = Items::new(alloc);
     Ok(inductive(alloc, m, Proofs { list }))
 }
 
-/// Why it refuses them.
-fn refusal(alloc: Global, list: Items<Proof>) -> Result<Option<Stop>, Fail> {
-    Ok(answer(alloc, list)?.err())
+/// Why it refuses it.
+fn refusal(alloc: Global, m: Machine) -> Result<Option<Stop>, Fail>
+    requires ids { HasOwnIds m }
+    requires names { AreTextNames (machine_tree m) }
+{
+    Ok(answer(alloc, m)?.err())
+}
+
+/// A rule that is broken in line 6.
+fn in_second(rule: Rule) -> Option<Stop> {
+    Some(Stop::Refused(Refusal { line: 6, rule }))
+}
+
+/// The sum of a term and itself.
+fn doubled(terms: &mut Terms, of: TermId) -> Result<TermId, Fail>
+    requires { IsTerm terms.old of }
+    ensures id { IfOk result (IsTerm terms.new) }
+{
+    term(terms, Node::Add(of, of))
+}
+
+/// A term doubled six times.
+fn doubled_six_times(terms: &mut Terms, of: TermId) -> Result<TermId, Fail>
+    requires { IsTerm terms.old of }
+    ensures id { IfOk result (IsTerm terms.new) }
+{
+    let sum = doubled(terms, of)?;
+    let sum = doubled(terms, sum)?;
+    let sum = doubled(terms, sum)?;
+    let sum = doubled(terms, sum)?;
+    let sum = doubled(terms, sum)?;
+    doubled(terms, sum)
+}
+
+/// A term of 2^19 - 1 nodes, more than half of what is allowed.
+fn large(terms: &mut Terms) -> Result<TermId, Fail>
+    ensures id { IfOk result (IsTerm terms.new) }
+{
+    let sum = term(terms, Node::Lit(1))?;
+    let sum = doubled_six_times(terms, sum)?;
+    let sum = doubled_six_times(terms, sum)?;
+    doubled_six_times(terms, sum)
+}
+
+/// The formula that 1 is 1.
+fn truth(terms: &mut Terms) -> Result<FormId, Fail>
+    ensures id { IfOk result (IsForm terms.new) }
+    ensures nodes { length terms.old.nodes ≤ length terms.new.nodes }
+{
+    let one = term(terms, Node::Lit(1))?;
+    form(terms, FormNode::Eq(one, one))
+}
+
+/// The place of an element.
+fn element(key: TermId) -> Place
+    ensures { result ≡ record { key = Some key; value = None } }
+{
+    Place {
+        key: Some(key),
+        value: None,
+    }
+}
+
+/// The place of a value that is its own key.
+fn pair(key: TermId) -> Place
+    ensures { result ≡ record { key = Some key; value = Some (Pattern.Term key) } }
+{
+    Place {
+        key: Some(key),
+        value: Some(Pattern::Term(key)),
+    }
 }
 
 #[test]
-fn four_proofs(rt: HostRuntime) -> Result<(), Fail> {
-    let mut list = three_proofs(rt.alloc(), -1)?;
-    list.push(fourth(rt.alloc(), 14)?)?;
-    let found = answer(rt.alloc(), list)?.ok().ok_or("refused")?;
-    assert_eq!(rt; found.machine().invariants.len(), 2);
-    Ok(())
-}
-
-#[test]
-fn wrong_multiplier(rt: HostRuntime) -> Result<(), Fail> {
-    let mut list = three_proofs(rt.alloc(), -2)?;
-    list.push(fourth(rt.alloc(), 14)?)?;
-    let wrong = Stop::Refused(Refusal {
-        line: 13,
-        rule: Rule::K5,
-    });
-    assert_eq!(rt; refusal(rt.alloc(), list)?, Some(wrong));
-    Ok(())
-}
-
-#[test]
-fn missing_proof(rt: HostRuntime) -> Result<(), Fail> {
+fn counters_without_proofs(rt: HostRuntime) -> Result<(), Fail> {
     let missing = Stop::Refused(Refusal {
-        line: 6,
+        line: 5,
         rule: Rule::I1,
     });
-    assert_eq!(rt;
-        refusal(rt.alloc(), three_proofs(rt.alloc(), -1)?)?,
-        Some(missing)
-    );
+    let m = two_counters(rt.alloc())?;
+    assert_eq!(rt; refusal(rt.alloc(), m)?, Some(missing));
     Ok(())
 }
 
 #[test]
-fn stray_proof(rt: HostRuntime) -> Result<(), Fail> {
-    let mut list = three_proofs(rt.alloc(), -1)?;
-    list.push(proof(rt.alloc(), 1, 2, StepKind::Same, 14)?)?;
-    let stray = Stop::Refused(Refusal {
-        line: 14,
-        rule: Rule::I2,
-    });
-    assert_eq!(rt; refusal(rt.alloc(), list)?, Some(stray));
+#[tactic(auto, unfolding(sync_machine::specs::Naming::bound_by))]
+fn elements_that_need_no_proof(rt: HostRuntime) -> Result<(), Fail> {
+    let mut terms = Terms::new(rt.alloc());
+    let one = term(&mut terms, Node::Lit(1))?;
+    let out = Act::Remove(0, element(one));
+    let into = Act::Add(0, element(one));
+    let m = two_statements(rt.alloc(), terms, Strategy::Multiset, out, into)?;
+    let found = answer(rt.alloc(), m)?.ok().ok_or("refused")?;
+    assert_eq!(rt; found.machine().ops.len(), 1);
     Ok(())
 }
 
 #[test]
-fn second_proof(rt: HostRuntime) -> Result<(), Fail> {
-    let mut list = three_proofs(rt.alloc(), -1)?;
-    list.push(fourth(rt.alloc(), 14)?)?;
-    list.push(fourth(rt.alloc(), 15)?)?;
-    let second = Stop::Refused(Refusal {
-        line: 15,
-        rule: Rule::I2,
-    });
-    assert_eq!(rt; refusal(rt.alloc(), list)?, Some(second));
+#[tactic(auto, unfolding(sync_machine::specs::Naming::bound_by))]
+fn a_value_that_is_too_large(rt: HostRuntime) -> Result<(), Fail> {
+    let mut terms = Terms::new(rt.alloc());
+    let key = large(&mut terms)?;
+    let into = Act::Add(0, element(key));
+    let m = two_statements(rt.alloc(), terms, Strategy::Multiset, into, into)?;
+    assert_eq!(rt; refusal(rt.alloc(), m)?, in_second(Rule::K8));
+    Ok(())
+}
+
+#[test]
+#[tactic(auto, unfolding(sync_machine::specs::Naming::bound_by))]
+fn a_condition_that_is_too_large(rt: HostRuntime) -> Result<(), Fail> {
+    let mut terms = Terms::new(rt.alloc());
+    let key = large(&mut terms)?;
+    let first = Act::Require(truth(&mut terms)?);
+    let out = Act::Remove(0, pair(key));
+    let m = two_statements(rt.alloc(), terms, Strategy::Map, first, out)?;
+    assert_eq!(rt; refusal(rt.alloc(), m)?, in_second(Rule::K8));
+    Ok(())
+}
+
+#[test]
+#[tactic(auto, unfolding(sync_machine::specs::Naming::bound_by))]
+fn a_large_promise_without_proof(rt: HostRuntime) -> Result<(), Fail> {
+    let mut terms = Terms::new(rt.alloc());
+    let key = large(&mut terms)?;
+    let first = Act::Require(truth(&mut terms)?);
+    let into = Act::Add(0, pair(key));
+    let m = two_statements(rt.alloc(), terms, Strategy::PersistentMap, first, into)?;
+    assert_eq!(rt; refusal(rt.alloc(), m)?, in_second(Rule::I1));
     Ok(())
 }

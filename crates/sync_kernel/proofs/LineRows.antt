@@ -1,14 +1,13 @@
 -- Lines of stored formulas: their shapes, and when they fit.
-use Rattle.std.proofs.Common.{rules, ◌≡◌, ◌≢◌, ◌⊎◌, inl, inr, ℕ, ℤ, pos, Bool, true, false, [], Option, Some, None, Result, Ok, Err, refl, sym, ap, subst, ◌∙◌}
+use Rattle.std.proofs.Common.{◌≡◌, ◌⊎◌, inl, inr, pos, Bool, true, false, [], Option, None, Result, Ok, Err, refl, sym, ap, subst, ◌∙◌}
 use Rattle.std.specs.Prelude.{IfOk, OnOk}
 use Rattle.sync_terms.specs.declared.nodes.TermId.{TermId}
 use Rattle.sync_terms.specs.declared.nodes.FormId.{FormId}
 use Rattle.sync_terms.specs.declared.nodes.FormNode.{FormNode}
 use Rattle.sync_terms.specs.declared.nodes.FormNode.TheVariants as form
-use Rattle.sync_terms.specs.Trees.{Tree, Lit, Add, Sub, Formula, neg}
-use Rattle.sync_terms.specs.Stored.{Stored, tree, IsTerm, IsForm, formula, form_shape}
+use Rattle.sync_terms.specs.Trees.{Tree, Lit, Sub, Formula, neg}
+use Rattle.sync_terms.specs.Stored.{Stored, tree, form_shape}
 use Rattle.sync_linear.specs.declared.stops.LinearStop.{LinearStop}
-use Rattle.sync_linear.specs.declared.stops.LinearStop.TheVariants.{Width}
 use Rattle.sync_linear.specs.declared.changes.Change.TheVariants as change
 use Rattle.sync_linear.specs.Lines.{Line, IsChanged, LineFits}
 use Rattle.sync_linear.specs.Forms.{IsWithin, Narrow}

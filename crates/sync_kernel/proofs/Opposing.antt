@@ -1,25 +1,20 @@
 -- `same`: facts that are each other's negation, found by the ids of formulas.
-use Rattle.std.proofs.Common.{rules, ◌≡◌, ◌≢◌, ◌⊎◌, inl, inr, ℕ, ◌<◌, length, Bool, true, false, cond, ◌&&◌, ◌||◌, if◌then◌else◌, List, [], ◌∷◌, ◌++◌, map, Option, Some, None, Result, Ok, Err, refl, sym, ap, subst, ◌∙◌}
-use Rattle.std.specs.Prelude.{nat_eq, not}
-use Rattle.std.specs.List.{AllByRecursion, list_any}
-use Rattle.std.proofs.lemmas.Bool.{and_parts, and_from, or_cases, or_left, or_right, cases_Bool, cond-true, cond-false, both_ways, eqb-true, eq-eqb, false_from_ne_true}
-use Rattle.sync_base.specs.declared.stops.Rule.{Rule}
+use Rattle.std.proofs.Common.{◌≡◌, ◌⊎◌, inl, inr, ℕ, Bool, true, false, ◌&&◌, ◌||◌, if◌then◌else◌, List, [], ◌∷◌, ◌++◌, Some, None, refl, sym, ap, subst, ◌∙◌}
+use Rattle.std.specs.Prelude.{nat_eq}
+use Rattle.std.specs.List.{list_any}
+use Rattle.std.proofs.lemmas.Bool.{and_parts, and_from, or_cases, or_left, or_right, eqb-true, eq-eqb}
 use Rattle.sync_base.specs.declared.stops.Rule.TheVariants.{K4}
-use Rattle.sync_terms.specs.declared.nodes.Sym.{Sym}
 use Rattle.sync_terms.specs.declared.nodes.FormId.{FormId}
 use Rattle.sync_terms.specs.Trees.{Tree, Formula, Le, Lt, Eq, Not, And, Or, Imp, neg}
-use Rattle.sync_terms.specs.Values.{Valuation, truth, Holds, IsValid}
+use Rattle.sync_terms.specs.Values.{Valuation, truth, Holds}
 use Rattle.sync_terms.specs.Stored.{Stored, formula, IsForm, IsShared}
 use Rattle.sync_linear.specs.Forms.{tree_eq}
 use Rattle.sync_linear.proofs.Trees.{same_tree, tree_is}
-use Rattle.sync_kernel.specs.declared.sequents.Hyp.{Hyp}
-use Rattle.sync_kernel.specs.declared.sequents.Sequent.{Sequent}
-use Rattle.sync_kernel.specs.Facts.{Fact, fact_of, denied, facts, given, givens}
+use Rattle.sync_kernel.specs.Facts.{Fact}
 use Rattle.sync_kernel.specs.Rows.{row_of, formula_eq}
-use Rattle.sync_kernel.specs.Steps.{no_params, is_plain, is_opposed, is_false_row, same_fault}
-use Rattle.sync_kernel.specs.Holding.{AreForms}
-use Rattle.sync_kernel.specs.Opposed.{is_fact, is_undone, closes_same, is_bare, has_form}
-use Rattle.sync_kernel.proofs.Sound.{AllHold, truth_neg, valid_from, false_row_refutes, not_true}
+use Rattle.sync_kernel.specs.Steps.{is_plain, is_opposed, is_false_row, same_fault}
+use Rattle.sync_kernel.specs.Opposed.{is_undone, closes_same}
+use Rattle.sync_kernel.proofs.Sound.{AllHold, truth_neg, false_row_refutes, not_true}
 
 -- ---- equality of formulas by a test
 both : (f : Tree → Tree → Formula) (a b c d : Tree) → a ≡ c → b ≡ d → f a b ≡ f c d
@@ -97,8 +92,8 @@ none_of : (b : Bool) → (if b then None else Some K4) ≡ None → b ≡ true
 none_of true h = refl
 none_of false h = absurd (cc)
 
-pub same_valid : (s : Stored) (q : Sequent) → same_fault (facts s q) ≡ None → IsValid (givens s q) (formula s q.claim)
-same_valid s q h = valid_from s q (λ v hold. refuted v (facts s q) hold (none_of (list_any (full (facts s q)) (facts s q)) h))
+pub same_refutes : (v : Valuation) (fs : List Fact) → AllHold v fs → same_fault fs ≡ None → ⊥
+same_refutes v fs hold h = refuted v fs hold (none_of (list_any (full fs) fs) h)
 
 -- ---- it is enough to look from the negated side
 opposes_form : (fs : List Fact) (f : Formula) → is_undone fs f ≡ true → list_any (λ (g : Fact). is_plain g && formula_eq g.form (neg f)) fs ≡ true
@@ -164,23 +159,6 @@ ids_tell s f g shared p q = same_bool (nat_eq f.0 g.0) (formula_eq (formula s f)
     (λ e. (let same : f ≡ g = ap (λ (n : ℕ). record { 0 = n }) (eqb-true f.0 g.0 e) in subst (λ (x : FormId). formula_eq (formula s f) (formula s x) ≡ true) same (formula_is (formula s f))))
     (λ e. eq-eqb f.0 g.0 (ap (λ (x : FormId). x.0) (shared.forms f g p q (same_formula (formula s f) (formula s g) e))))
 
-bare_is : (ps : List Sym) → is_bare ps ≡ no_params (map (λ (p : Sym). p.0) ps)
-bare_is [] = refl
-bare_is (p ∷ ps) = refl
-
-two_and : (a b c d : Bool) → a ≡ c → b ≡ d → (a && b) ≡ (c && d)
-two_and a b c d e f = ap (λ (x : Bool). x && b) e ∙ ap (λ (x : Bool). c && x) f
-
-two_or : (a b c d : Bool) → a ≡ c → b ≡ d → (a || b) ≡ (c || d)
-two_or a b c d e f = ap (λ (x : Bool). x || b) e ∙ ap (λ (x : Bool). c || x) f
-
-known : (s : Stored) (hyps : List Hyp) (g : FormId) → IsShared s → AreForms s hyps → IsForm s g → has_form hyps g.0 ≡ is_fact (map (fact_of s) hyps) (formula s g)
-known s [] g shared all q = refl
-known s (h ∷ hs) g shared all q =
-    two_or (is_bare h.params && nat_eq h.form.0 g.0) (has_form hs g.0) (is_plain (fact_of s h) && formula_eq (formula s h.form) (formula s g)) (is_fact (map (fact_of s) hs) (formula s g))
-    (two_and (is_bare h.params) (nat_eq h.form.0 g.0) (no_params (map (λ (p : Sym). p.0) h.params)) (formula_eq (formula s h.form) (formula s g)) (bare_is h.params) (ids_tell s h.form g shared all.0 q))
-    (known s hs g shared all.1 q)
-
 or_nothing : (b : Bool) → (b || false) ≡ b
 or_nothing true = refl
 or_nothing false = refl
@@ -192,9 +170,3 @@ or_assoc false b c = refl
 pub any_push : (test : Fact → Bool) (fs : List Fact) (f : Fact) → list_any test (fs ++ f ∷ []) ≡ (list_any test fs || test f)
 any_push test [] f = or_nothing (test f)
 any_push test (x ∷ xs) f = ap (λ (b : Bool). test x || b) (any_push test xs f) ∙ sym (or_assoc (test x) (list_any test xs) (test f))
-
-pub fact_known : (s : Stored) (q : Sequent) (g : FormId) (b d : Bool) → IsShared s → AreForms s q.hyps → IsForm s g → b ≡ has_form q.hyps g.0 → d ≡ formula_eq (neg (formula s q.claim)) (formula s g)
-    → (b || d) ≡ is_fact (facts s q) (formula s g)
-fact_known s q g b d shared all p e f =
-    two_or b d (is_fact (map (fact_of s) q.hyps) (formula s g)) (formula_eq (neg (formula s q.claim)) (formula s g)) (e ∙ known s q.hyps g shared all p) f
-    ∙ sym (any_push (λ (x : Fact). is_plain x && formula_eq x.form (formula s g)) (map (fact_of s) q.hyps) (denied s q.claim))

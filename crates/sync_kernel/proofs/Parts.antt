@@ -1,19 +1,17 @@
 -- One part of a `sum`: what the code answers against what is defined.
-use Rattle.std.proofs.Common.{rules, ◌≡◌, ◌≢◌, ◌⊎◌, inl, inr, ℕ, ℤ, pos, Bool, true, false, cond, ◌&&◌, if◌then◌else◌, List, [], ◌∷◌, ◌++◌, drop, take, map, Option, Some, None, Result, Ok, Err, refl, sym, ap, subst, ◌∙◌}
+use Rattle.std.proofs.Common.{◌≡◌, ℕ, ℤ, pos, Bool, true, false, ◌&&◌, if◌then◌else◌, List, [], ◌∷◌, ◌++◌, Option, Some, None, Result, Ok, Err, refl, sym, ap, subst, ◌∙◌}
 use Rattle.std.specs.Prelude.{option_map, IfSome}
-use Rattle.std.specs.List.{AllByRecursion, list_all}
-use Rattle.std.specs.Ordering.{int_eq}
-use Rattle.std.proofs.lemmas.Bool.{and_parts, and_from, cases_Bool, cond-true, cond-false, false_from_ne_true}
+use Rattle.std.specs.List.{list_all}
+use Rattle.std.proofs.lemmas.Bool.{and_parts, and_from, cond-false, false_from_ne_true}
 use Rattle.sync_base.specs.declared.stops.Rule.{Rule}
-use Rattle.sync_base.specs.declared.stops.Rule.TheVariants.{K1, K2, K5, K6, K7}
+use Rattle.sync_base.specs.declared.stops.Rule.TheVariants.{K6, K7}
 use Rattle.sync_base.specs.declared.stops.Stop.{Stop}
 use Rattle.sync_base.specs.declared.stops.Stop.TheVariants.{Refused, Memory}
 use Rattle.sync_base.specs.declared.stops.Refusal.{Refusal}
-use Rattle.sync_base.specs.Outcome.{first, Passes}
-use Rattle.sync_terms.specs.declared.scripts.HypName.{HypName}
+use Rattle.sync_base.specs.Outcome.{Passes}
 use Rattle.sync_terms.specs.declared.scripts.Part.{Part}
-use Rattle.sync_terms.specs.Trees.{Tree, Lit, Add, Scale, Formula, neg}
-use Rattle.sync_terms.specs.Stored.{Stored, tree, formula, IsForm}
+use Rattle.sync_terms.specs.Trees.{Tree, Lit, Add, Scale, Formula}
+use Rattle.sync_terms.specs.Stored.{Stored}
 use Rattle.sync_linear.specs.declared.stops.LinearStop.{LinearStop}
 use Rattle.sync_linear.specs.declared.stops.LinearStop.TheVariants as linear
 use Rattle.sync_linear.specs.declared.changes.Change.TheVariants as change
@@ -22,24 +20,23 @@ use Rattle.sync_linear.specs.Forms.{IsWithin, Narrow}
 use Rattle.sync_linear.specs.Stores.{IsLineOf}
 use Rattle.sync_linear.proofs.Spines.{zero_line}
 use Rattle.sync_linear.proofs.Joins.{join_line, join_fits, fits_line}
-use Rattle.sync_kernel.specs.declared.held.Held.{Held}
+use Rattle.sync_kernel.specs.declared.branches.Known.{Known}
 use Rattle.sync_kernel.specs.declared.rows.Shape.{Shape}
-use Rattle.sync_kernel.specs.declared.rows.Kind.{Kind}
-use Rattle.sync_kernel.specs.declared.rows.Kind.TheVariants.{AtMostZero, Zero, NotZero}
 use Rattle.sync_kernel.specs.declared.rows.Used.{Used}
 use Rattle.sync_kernel.specs.declared.sums.Summed.{Summed}
-use Rattle.sync_kernel.specs.Facts.{Fact, same_name, newest}
+use Rattle.sync_kernel.specs.Facts.{Fact, newest}
 use Rattle.sync_kernel.specs.Rows.{Row, row_of, within, narrow}
-use Rattle.sync_kernel.specs.Steps.{is_plain, usable, is_turned, fits_in, Next, with_row, with_part, is_bound, is_equation, apart_first, one_apart, closes, go_on, added, sum_fault}
+use Rattle.sync_kernel.specs.Steps.{at_line, usable, is_turned, fits_in, Next, with_row, with_part, is_equation, one_apart, go_on, added, sum_fault}
 use Rattle.sync_kernel.specs.Shapes.{row_shaped}
-use Rattle.sync_kernel.specs.Holding.{held_form, IsHeld, stop_of, at_line, StepGives}
+use Rattle.sync_kernel.specs.Literals.{literal_form, IsLiteral}
+use Rattle.sync_kernel.specs.Holding.{IsKnown, stop_of, StepGives}
 use Rattle.sync_kernel.proofs.Atoms.{within_is, is_within, narrow_is, is_narrow}
 
-usable_is : (s : Stored) (h : Held) (f : Fact) (row : Option Row) → IsHeld s (Some h) (Some f) → row ≡ (if h.plain then row_of (held_form s h) else None) → row ≡ usable f
+usable_is : (s : Stored) (h : Known) (f : Fact) (row : Option Row) → IsKnown s (Some h) (Some f) → row ≡ (if h.plain then row_of (literal_form s h.says) else None) → row ≡ usable f
 usable_is s h f row i e = e ∙ ap (λ (x : Formula). if h.plain then row_of x else None) i.0 ∙ ap (λ (b : Bool). if b then row_of f.form else None) i.1
 
-pub part_is : (s : Stored) (h : Held) (o : Option Fact) (shape : Option Shape) (sh : Shape) (sum : Tree) (p : Part) → IsHeld s (Some h) o
-    → option_map (row_shaped s) shape ≡ (if h.plain then row_of (held_form s h) else None) → shape ≡ Some sh → with_part o sum p ≡ with_row (Some (row_shaped s sh)) sum p
+pub part_is : (s : Stored) (h : Known) (o : Option Fact) (shape : Option Shape) (sh : Shape) (sum : Tree) (p : Part) → IsKnown s (Some h) o
+    → option_map (row_shaped s) shape ≡ (if h.plain then row_of (literal_form s h.says) else None) → shape ≡ Some sh → with_part o sum p ≡ with_row (Some (row_shaped s sh)) sum p
 part_is s h None shape sh sum p i e g = absurd i
 part_is s h (Some f) shape sh sum p i e g =
     ap (λ (r : Option Row). with_row r sum p) (sym (usable_is s h f (option_map (row_shaped s) shape) i e) ∙ ap (option_map (row_shaped s)) g)
@@ -134,10 +131,10 @@ module _ (s : Stored) (line : ℕ) (fs : List Fact) (parts rest : List Part) (us
   pub goes_at : (x : Summed) → StepGives s line (Ok x) (with_part (newest p.hyp fs) h.sum p) → Summing s fs parts rest (used ++ x.used ∷ []) x.total
   goes_at x g = goes_with x (with_part (newest p.hyp fs) h.sum p) refl g
 
-pub held_stored : (s : Stored) (h : Option Held) (o : Option Fact) → IsHeld s h o → IfSome h (λ x. IsForm s x.form)
-held_stored s None o i = tt
-held_stored s (Some h) None i = absurd i
-held_stored s (Some h) (Some f) i = i.2
+pub known_stored : (s : Stored) (h : Option Known) (o : Option Fact) → IsKnown s h o → IfSome h (λ x. IsLiteral s x.says)
+known_stored s None o i = tt
+known_stored s (Some h) None i = absurd i
+known_stored s (Some h) (Some f) i = i.2
 
 pub passes_err : (r : Result (Unit {0}) Stop) (stop : Stop) (fault : Option Refusal) → r ≡ Err stop → Stops stop fault → Passes r fault
 passes_err r Memory fault e h = subst (λ (x : Result (Unit {0}) Stop). Passes x fault) (sym e) tt

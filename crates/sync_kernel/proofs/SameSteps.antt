@@ -1,37 +1,36 @@
 -- `same`, one fact after the other: what the code answers against what is defined.
-use Rattle.std.proofs.Common.{rules, ◌≡◌, ◌≢◌, ◌⊎◌, inl, inr, ℕ, zero, suc, ◌+◌, ◌<◌, ◌≤◌, length, get_or, take, map, ℤ, pos, Bool, true, false, ◌&&◌, ◌||◌, if◌then◌else◌, List, [], ◌∷◌, ◌++◌, Option, Some, None, refl, sym, ap, subst, ◌∙◌, arith}
+use Rattle.std.proofs.Common.{◌≡◌, ℕ, zero, suc, ◌<◌, length, get_or, ℤ, pos, Bool, true, false, cond, ◌&&◌, ◌||◌, if◌then◌else◌, List, [], ◌∷◌, ◌++◌, Option, Some, None, refl, sym, ap, subst, ◌∙◌, arith}
 use Rattle.std.specs.Prelude.{nat_eq, not, int_lt, ◌<ℤ◌, option_map}
+use Rattle.std.specs.Bool.{beq}
 use Rattle.std.specs.Ordering.{int_eq}
 use Rattle.std.specs.List.{list_any}
 use Rattle.std.proofs.lemmas.Bool.{and_parts, and_from, or_left, or_right, false_from_ne_true, both_ways}
 use Rattle.std.proofs.lemmas.Bool.Decides.{Decides-int_eq}
-use Rattle.sync_base.specs.declared.stops.Refusal.{Refusal}
-use Rattle.sync_base.specs.declared.stops.Rule.{Rule}
 use Rattle.sync_base.specs.declared.stops.Rule.TheVariants.{K4}
-use Rattle.sync_terms.specs.declared.nodes.TermId.{TermId}
 use Rattle.sync_terms.specs.declared.nodes.FormId.{FormId}
-use Rattle.sync_terms.specs.declared.nodes.FormNode.{FormNode}
-use Rattle.sync_terms.specs.declared.nodes.FormNode.TheVariants as form
-use Rattle.sync_terms.specs.Trees.{Tree, Formula, Le, Lt, Eq, Not, And, Or, Imp, neg}
-use Rattle.sync_terms.specs.Stored.{Stored, tree, formula, form_shape, IsForm, IsShared}
+use Rattle.sync_terms.specs.Trees.{Tree, Formula, Le, Lt, Eq, Not, And, Or, Imp}
+use Rattle.sync_terms.specs.Stored.{Stored, formula, IsForm, IsShared}
 use Rattle.sync_linear.specs.Lines.{Line, IsLine}
 use Rattle.sync_linear.specs.Forms.{constant_of, Narrow}
 use Rattle.sync_linear.specs.Stores.{IsLineOf}
-use Rattle.sync_kernel.specs.declared.held.Held.{Held}
+use Rattle.sync_kernel.specs.declared.literals.Literal.{Literal}
+use Rattle.std.proofs.lemmas.List.{length-map, get_or-map}
+use Rattle.sync_kernel.specs.declared.branches.Said.{Said}
+use Rattle.sync_kernel.specs.declared.branches.Held.{Held}
+use Rattle.sync_kernel.specs.Stacks.{saids}
 use Rattle.sync_kernel.specs.declared.rows.Shape.{Shape}
 use Rattle.sync_kernel.specs.declared.rows.Kind.{Kind}
 use Rattle.sync_kernel.specs.declared.rows.Kind.TheVariants.{AtMostZero, Zero, NotZero}
-use Rattle.sync_kernel.specs.declared.sequents.Hyp.{Hyp}
-use Rattle.sync_kernel.specs.Facts.{Fact, fact_of, denied, facts}
-use Rattle.sync_kernel.specs.Rows.{Row, row_of, narrow, no_atom, is_false, formula_eq}
-use Rattle.sync_kernel.specs.Steps.{is_false_row, same_fault, is_plain, is_opposed}
+use Rattle.sync_kernel.specs.Facts.{Fact}
+use Rattle.sync_kernel.specs.Rows.{Row, narrow, no_atom, is_false, formula_eq}
+use Rattle.sync_kernel.specs.Steps.{at_line, is_false_row, same_fault, is_plain}
 use Rattle.sync_kernel.specs.Shapes.{row_shaped}
-use Rattle.sync_kernel.specs.Holding.{held_form, at_line}
+use Rattle.sync_kernel.specs.Literals.{literal_form, IsLiteral, IsBare, same_literal, is_negation}
+use Rattle.sync_kernel.specs.Branches.{said_fact, facts_in}
 use Rattle.sync_kernel.specs.Opposed.{is_fact, is_undone, closes_same}
 use Rattle.sync_kernel.proofs.Atoms.{is_narrow, narrow_is}
 use Rattle.sync_kernel.proofs.Closing.{empty_is, is_empty, shown, above}
 use Rattle.sync_kernel.proofs.Opposing.{same_bool, ids_tell, same_test, any_push}
-use Rattle.sync_kernel.proofs.Names.{taken_more}
 
 -- ---- lines without atoms
 module _ (s : Stored) (t : Tree) (l : Line) (is : IsLine l) (i : IsLineOf s t l) where
@@ -70,105 +69,87 @@ module _ (s : Stored) (t : Tree) (l : Line) (is : IsLine l) (i : IsLineOf s t l)
   pub line_not_number : (k : Kind) (c : Bool) → c ≡ false → (l.atoms ≡ [] → c ≡ true) → c ≡ (no_atom t && is_false k (constant_of t))
   line_not_number k c e g = and_false (no_atom t) (is_false k (constant_of t)) c e (λ n. both_ways c e (g (is_empty s t l l.atoms is i refl n)))
 
--- ---- the false line of a fact
-plain_false : (b : Bool) (o : Option Row) → is_false_row (if b then o else None) ≡ (b && is_false_row o)
-plain_false true o = refl
-plain_false false o = refl
+-- ---- the false line of what is said
+pub false_known : (s : Stored) (row : Option Row) (shape : Option Shape) (sh : Shape) (b : Bool) → option_map (row_shaped s) shape ≡ row → shape ≡ Some sh → Narrow (row_shaped s sh).line
+    → b ≡ (no_atom (row_shaped s sh).line && is_false sh.kind (constant_of (row_shaped s sh).line)) → b ≡ is_false_row row
+false_known s row shape sh b e g n f =
+    f ∙ sym (ap (λ (x : Bool). x && (no_atom (row_shaped s sh).line && is_false sh.kind (constant_of (row_shaped s sh).line))) (is_narrow (row_shaped s sh).line n))
+    ∙ ap is_false_row (sym (ap (option_map (row_shaped s)) g) ∙ e)
 
-row_false : (s : Stored) (h : Held) (shape : Option Shape) (sh : Shape) → option_map (row_shaped s) shape ≡ (if h.plain then row_of (held_form s h) else None) → shape ≡ Some sh
-    → is_false_row (Some (row_shaped s sh)) ≡ (h.plain && is_false_row (row_of (held_form s h)))
-row_false s h shape sh e g = ap is_false_row (sym (ap (option_map (row_shaped s)) g) ∙ e) ∙ plain_false h.plain (row_of (held_form s h))
+pub wide_known : (s : Stored) (row : Option Row) (shape : Option Shape) (sh : Shape) → option_map (row_shaped s) shape ≡ row → shape ≡ Some sh → (Narrow (row_shaped s sh).line → ⊥) → false ≡ is_false_row row
+wide_known s row shape sh e g n =
+    sym (ap (λ (x : Bool). x && (no_atom (row_shaped s sh).line && is_false sh.kind (constant_of (row_shaped s sh).line))) (false_from_ne_true (narrow (row_shaped s sh).line) (λ t. n (narrow_is (row_shaped s sh).line t))))
+    ∙ ap is_false_row (sym (ap (option_map (row_shaped s)) g) ∙ e)
 
-pub false_known : (s : Stored) (h : Held) (shape : Option Shape) (sh : Shape) (b : Bool) → option_map (row_shaped s) shape ≡ (if h.plain then row_of (held_form s h) else None) → shape ≡ Some sh
-    → Narrow (row_shaped s sh).line → b ≡ (no_atom (row_shaped s sh).line && is_false sh.kind (constant_of (row_shaped s sh).line)) → b ≡ (h.plain && is_false_row (row_of (held_form s h)))
-false_known s h shape sh b e g n f =
-    f ∙ sym (ap (λ (x : Bool). x && (no_atom (row_shaped s sh).line && is_false sh.kind (constant_of (row_shaped s sh).line))) (is_narrow (row_shaped s sh).line n)) ∙ row_false s h shape sh e g
+pub no_line : (s : Stored) (row : Option Row) (shape : Option Shape) → option_map (row_shaped s) shape ≡ row → shape ≡ None → false ≡ is_false_row row
+no_line s row shape e g = ap is_false_row (sym (ap (option_map (row_shaped s)) g) ∙ e)
 
-pub wide_known : (s : Stored) (h : Held) (shape : Option Shape) (sh : Shape) → option_map (row_shaped s) shape ≡ (if h.plain then row_of (held_form s h) else None) → shape ≡ Some sh
-    → (Narrow (row_shaped s sh).line → ⊥) → false ≡ (h.plain && is_false_row (row_of (held_form s h)))
-wide_known s h shape sh e g n =
-    sym (ap (λ (x : Bool). x && (no_atom (row_shaped s sh).line && is_false sh.kind (constant_of (row_shaped s sh).line))) (false_from_ne_true (narrow (row_shaped s sh).line) (λ t. n (narrow_is (row_shaped s sh).line t)))) ∙ row_false s h shape sh e g
+-- ---- literals tell formulas apart
+apart_forms : (f g : Formula) → is_negation g ≡ false → formula_eq (Not f) g ≡ false
+apart_forms f (Not g) h = absurd (cc)
+apart_forms f (Le a b) h = refl
+apart_forms f (Lt a b) h = refl
+apart_forms f (Eq a b) h = refl
+apart_forms f (And a b) h = refl
+apart_forms f (Or a b) h = refl
+apart_forms f (Imp a b) h = refl
 
--- ---- formulas by their nodes
-pub not_form : (s : Stored) (f : Formula) (was : FormNode) (inner : FormId) → form_shape s was ≡ f → was ≡ form.Not inner → f ≡ Not (formula s inner)
-unfolding form_shape formula
-not_form s f was inner e g = sym e ∙ ap (form_shape s) g
+apart_back : (f g : Formula) → is_negation f ≡ false → formula_eq f (Not g) ≡ false
+apart_back (Not f) g h = absurd (cc)
+apart_back (Le a b) g h = refl
+apart_back (Lt a b) g h = refl
+apart_back (Eq a b) g h = refl
+apart_back (And a b) g h = refl
+apart_back (Or a b) g h = refl
+apart_back (Imp a b) g h = refl
 
-abbrev pub Other : FormNode → Type 0
-Other n =
-    ((a : TermId) × (b : TermId) × (n ≡ form.Le a b)) ⊎ (((a : TermId) × (b : TermId) × (n ≡ form.Lt a b)) ⊎ (((a : TermId) × (b : TermId) × (n ≡ form.Eq a b))
-    ⊎ (((a : FormId) × (b : FormId) × (n ≡ form.And a b)) ⊎ (((a : FormId) × (b : FormId) × (n ≡ form.Or a b)) ⊎ ((a : FormId) × (b : FormId) × (n ≡ form.Imp a b))))))
+and_no : (a : Bool) → (a && false) ≡ false
+and_no true = refl
+and_no false = refl
 
--- what holds of each formula that is no negation
-record IsOther (f : Formula) : Type 0 where
-  negated : neg f ≡ Not f
-  apart : (g : Formula) → formula_eq (Not g) f ≡ false
-  never : (fs : List Fact) → is_undone fs f ≡ false
+and_yes : (a : Bool) → (a && true) ≡ a
+and_yes true = refl
+and_yes false = refl
 
-other_node : (s : Stored) (n : FormNode) → Other n → IsOther (form_shape s n)
-unfolding form_shape
-other_node s n (inl h) = subst (λ (x : FormNode). IsOther (form_shape s x)) (sym h.2) (record { negated = refl; apart = λ g. refl; never = λ fs. refl })
-other_node s n (inr (inl h)) = subst (λ (x : FormNode). IsOther (form_shape s x)) (sym h.2) (record { negated = refl; apart = λ g. refl; never = λ fs. refl })
-other_node s n (inr (inr (inl h))) = subst (λ (x : FormNode). IsOther (form_shape s x)) (sym h.2) (record { negated = refl; apart = λ g. refl; never = λ fs. refl })
-other_node s n (inr (inr (inr (inl h)))) = subst (λ (x : FormNode). IsOther (form_shape s x)) (sym h.2) (record { negated = refl; apart = λ g. refl; never = λ fs. refl })
-other_node s n (inr (inr (inr (inr (inl h))))) = subst (λ (x : FormNode). IsOther (form_shape s x)) (sym h.2) (record { negated = refl; apart = λ g. refl; never = λ fs. refl })
-other_node s n (inr (inr (inr (inr (inr h))))) = subst (λ (x : FormNode). IsOther (form_shape s x)) (sym h.2) (record { negated = refl; apart = λ g. refl; never = λ fs. refl })
+signs_tell : (s : Stored) (a b : FormId) (m n : Bool) → IsShared s → IsForm s a → IsForm s b → (m ≡ false → is_negation (formula s a) ≡ false) → (n ≡ false → is_negation (formula s b) ≡ false)
+    → (nat_eq a.0 b.0 && beq m n) ≡ formula_eq (if m then Not (formula s a) else formula s a) (if n then Not (formula s b) else formula s b)
+signs_tell s a b true true shared p q f g = and_yes (nat_eq a.0 b.0) ∙ ids_tell s a b shared p q
+signs_tell s a b true false shared p q f g = and_no (nat_eq a.0 b.0) ∙ sym (apart_forms (formula s a) (formula s b) (g refl))
+signs_tell s a b false true shared p q f g = and_no (nat_eq a.0 b.0) ∙ sym (apart_back (formula s a) (formula s b) (f refl))
+signs_tell s a b false false shared p q f g = and_yes (nat_eq a.0 b.0) ∙ ids_tell s a b shared p q
 
-other : (s : Stored) (f : Formula) (n : FormNode) → form_shape s n ≡ f → Other n → IsOther f
-other s f n e o = subst IsOther e (other_node s n o)
+pub literals_tell : (s : Stored) (a b : Literal) → IsShared s → IsLiteral s a → IsLiteral s b → IsBare s a → IsBare s b → same_literal a b ≡ formula_eq (literal_form s a) (literal_form s b)
+literals_tell s a b shared p q f g = signs_tell s a.form b.form a.negated b.negated shared p q f g
 
-pub denied_not : (s : Stored) (claim g inner : FormId) (was : FormNode) → IsShared s → IsForm s inner → IsForm s g → form_shape s was ≡ formula s claim → was ≡ form.Not inner
-    → nat_eq inner.0 g.0 ≡ formula_eq (neg (formula s claim)) (formula s g)
-denied_not s claim g inner was shared p q e w =
-    ids_tell s inner g shared p q ∙ ap (λ (x : Formula). formula_eq (neg x) (formula s g)) (sym (not_form s (formula s claim) was inner e w))
+not_undone : (fs : List Fact) (f : Formula) → is_negation f ≡ false → is_undone fs f ≡ false
+not_undone fs (Not f) h = absurd (cc)
+not_undone fs (Le a b) h = refl
+not_undone fs (Lt a b) h = refl
+not_undone fs (Eq a b) h = refl
+not_undone fs (And a b) h = refl
+not_undone fs (Or a b) h = refl
+not_undone fs (Imp a b) h = refl
 
-pub denied_other : (s : Stored) (claim g inner : FormId) (was node : FormNode) → IsShared s → IsForm s claim → IsForm s inner → form_shape s was ≡ formula s claim → Other was
-    → form_shape s node ≡ formula s g → node ≡ form.Not inner → nat_eq claim.0 inner.0 ≡ formula_eq (neg (formula s claim)) (formula s g)
-denied_other s claim g inner was node shared p q e o f w =
-    ids_tell s claim inner shared p q
-    ∙ ap (λ (x : Formula). formula_eq (Not (formula s claim)) x) (sym (not_form s (formula s g) node inner f w))
-    ∙ ap (λ (x : Formula). formula_eq x (formula s g)) (sym (other s (formula s claim) was e o).negated)
+sign_undone : (fs : List Fact) (f : Formula) (m c : Bool) → (m ≡ false → is_negation f ≡ false) → c ≡ is_fact fs f → (m && c) ≡ is_undone fs (if m then Not f else f)
+sign_undone fs f true c h e = e
+sign_undone fs f false c h e = sym (not_undone fs f (h refl))
 
-pub denied_never : (s : Stored) (claim g : FormId) (was node : FormNode) → form_shape s was ≡ formula s claim → Other was → form_shape s node ≡ formula s g → Other node
-    → false ≡ formula_eq (neg (formula s claim)) (formula s g)
-denied_never s claim g was node e o f w =
-    sym ((other s (formula s g) node f w).apart (formula s claim)) ∙ ap (λ (x : Formula). formula_eq x (formula s g)) (sym (other s (formula s claim) was e o).negated)
+pub undone_is : (s : Stored) (fs : List Fact) (says bare : Literal) (c : Bool) → literal_form s bare ≡ literal_form s says → IsBare s bare → c ≡ is_fact fs (formula s bare.form)
+    → (bare.negated && c) ≡ is_undone fs (literal_form s says)
+undone_is s fs says bare c same h e = sign_undone fs (formula s bare.form) bare.negated c h e ∙ ap (is_undone fs) same
 
-pub or_true : (b d x : Bool) → b ≡ true → (b || d) ≡ x → b ≡ x
-or_true true d x e f = f
-or_true false d x e f = absurd (cc)
+-- ---- one fact after the other
+pub fact_more : (fs : List Fact) (f : Fact) (form : Formula) (b : Bool) → is_plain f ≡ true → b ≡ formula_eq f.form form → (is_fact fs form || b) ≡ is_fact (fs ++ f ∷ []) form
+fact_more fs f form b p e =
+    ap (λ (x : Bool). is_fact fs form || x) (e ∙ sym (ap (λ (x : Bool). x && formula_eq f.form form) p)) ∙ sym (any_push (λ (g : Fact). is_plain g && formula_eq g.form form) fs f)
 
-pub or_no : (b d x : Bool) → b ≡ false → (b || d) ≡ x → d ≡ x
-or_no true d x e f = absurd (cc)
-or_no false d x e f = f
-
-pub undone_not : (s : Stored) (fs : List Fact) (f : Formula) (was : FormNode) (inner : FormId) (b : Bool) → form_shape s was ≡ f → was ≡ form.Not inner → b ≡ is_fact fs (formula s inner) → b ≡ is_undone fs f
-undone_not s fs f was inner b e w h = h ∙ ap (is_undone fs) (sym (not_form s f was inner e w))
-
-pub undone_never : (s : Stored) (fs : List Fact) (f : Formula) (was : FormNode) → form_shape s was ≡ f → Other was → false ≡ is_undone fs f
-undone_never s fs f was e o = sym ((other s f was e o).never fs)
-
--- a fact as it is held: the formula, or its negation
-module _ (s : Stored) (fs : List Fact) (h : Held) (was : FormNode) (e : form_shape s was ≡ formula s h.form) where
-  held_true : (d : Bool) → d ≡ true → (if d then neg (formula s h.form) else formula s h.form) ≡ neg (formula s h.form)
-  held_true true g = refl
-  held_true false g = absurd (cc)
-
-  held_false : (d : Bool) → d ≡ false → (if d then neg (formula s h.form) else formula s h.form) ≡ formula s h.form
-  held_false true g = absurd (cc)
-  held_false false g = refl
-
-  pub held_denied_not : (inner : FormId) (b : Bool) → was ≡ form.Not inner → h.denied ≡ true → b ≡ is_undone fs (formula s inner) → b ≡ is_undone fs (held_form s h)
-  held_denied_not inner b w d g = g ∙ ap (λ (x : Formula). is_undone fs (neg x)) (sym (not_form s (formula s h.form) was inner e w)) ∙ ap (is_undone fs) (sym (held_true h.denied d))
-
-  pub held_not : (inner : FormId) (b : Bool) → was ≡ form.Not inner → h.denied ≡ false → b ≡ is_fact fs (formula s inner) → b ≡ is_undone fs (held_form s h)
-  held_not inner b w d g = undone_not s fs (formula s h.form) was inner b e w g ∙ ap (is_undone fs) (sym (held_false h.denied d))
-
-  pub held_denied_other : (b : Bool) → Other was → h.denied ≡ true → b ≡ is_fact fs (formula s h.form) → b ≡ is_undone fs (held_form s h)
-  held_denied_other b o d g = g ∙ ap (is_undone fs) (sym (other s (formula s h.form) was e o).negated) ∙ ap (is_undone fs) (sym (held_true h.denied d))
-
-  pub held_other : (b : Bool) → Other was → h.denied ≡ false → b ≡ false → b ≡ is_undone fs (held_form s h)
-  held_other b o d g = g ∙ undone_never s fs (formula s h.form) was e o ∙ ap (is_undone fs) (sym (held_false h.denied d))
+pub fact_less : (fs : List Fact) (f : Fact) (form : Formula) → is_plain f ≡ false → is_fact fs form ≡ is_fact (fs ++ f ∷ []) form
+fact_less fs f form p =
+    or_last (is_fact fs form) ∙ ap (λ (x : Bool). is_fact fs form || x) (sym (ap (λ (x : Bool). x && formula_eq f.form form) p)) ∙ sym (any_push (λ (g : Fact). is_plain g && formula_eq g.form form) fs f)
+  where
+    or_last : (b : Bool) → b ≡ (b || false)
+    or_last true = refl
+    or_last false = refl
 
 -- ---- the whole step
 pub fault_none : (line : ℕ) (fs : List Fact) → list_any (closes_same fs) fs ≡ true → at_line line (same_fault fs) ≡ None
@@ -177,16 +158,10 @@ fault_none line fs h = ap (λ (b : Bool). at_line line (if b then None else Some
 pub fault_some : (line : ℕ) (fs : List Fact) → list_any (closes_same fs) fs ≡ false → at_line line (same_fault fs) ≡ Some (record { line = line; rule = K4 })
 fault_some line fs h = ap (λ (b : Bool). at_line line (if b then None else Some K4)) (sym (same_test fs) ∙ h)
 
-pub last_closes : (test : Fact → Bool) (fs : List Fact) (f : Fact) → test f ≡ true → list_any test (fs ++ f ∷ []) ≡ true
-last_closes test fs f h = any_push test fs f ∙ or_right (list_any test fs) (test f) h
-
-one_closes : (test : Fact → Bool) (s : Stored) (hyps : List Hyp) (last : Fact) (i : ℕ) (h : Hyp) → i < length hyps → test (fact_of s (get_or hyps i h)) ≡ true → list_any test (map (fact_of s) hyps ++ last ∷ []) ≡ true
-one_closes test s [] last i h lt t = absurd (omega arith)
-one_closes test s (x ∷ xs) last zero h lt t = or_left (test (fact_of s x)) (list_any test (map (fact_of s) xs ++ last ∷ [])) t
-one_closes test s (x ∷ xs) last (suc i) h lt t = or_right (test (fact_of s x)) (list_any test (map (fact_of s) xs ++ last ∷ [])) (one_closes test s xs last i h (omega arith) t)
-
-pub hyp_closes : (test : Fact → Bool) (s : Stored) (hyps : List Hyp) (last : Fact) (i : ℕ) (h : Hyp) → i < length hyps → h ≡ get_or hyps i h → test (fact_of s h) ≡ true → list_any test (map (fact_of s) hyps ++ last ∷ []) ≡ true
-hyp_closes test s hyps last i h lt e t = one_closes test s hyps last i h lt (subst (λ (x : Hyp). test (fact_of s x) ≡ true) e t)
+pub one_closes : (test : Fact → Bool) (s : Stored) (xs : List Said) (i : ℕ) (d : Said) → i < length xs → test (said_fact s (get_or xs i d)) ≡ true → list_any test (facts_in s xs) ≡ true
+one_closes test s [] i d lt t = absurd (omega arith)
+one_closes test s (x ∷ xs) zero d lt t = or_left (test (said_fact s x)) (list_any test (facts_in s xs)) t
+one_closes test s (x ∷ xs) (suc i) d lt t = or_right (test (said_fact s x)) (list_any test (facts_in s xs)) (one_closes test s xs i d (omega arith) t)
 
 or_none : (a b : Bool) → a ≡ false → b ≡ false → (a || b) ≡ false
 or_none true b e f = absurd (cc)
@@ -194,3 +169,21 @@ or_none false b e f = f
 
 pub none_closes : (test : Fact → Bool) (fs : List Fact) (f : Fact) → list_any test fs ≡ false → test f ≡ false → list_any test (fs ++ f ∷ []) ≡ false
 none_closes test fs f h t = any_push test fs f ∙ or_none (list_any test fs) (test f) h t
+
+-- ---- over the stack
+pub held_closes : (test : Fact → Bool) (s : Stored) (hs : List Held) (i : ℕ) (x : Held) → i < length hs → x ≡ get_or hs i x → test (said_fact s x.said) ≡ true → list_any test (facts_in s (saids hs)) ≡ true
+held_closes test s hs i x lt e t =
+    one_closes test s (saids hs) i x.said (omega (arith, length-map hs (λ (y : Held). y.said), lt))
+    (ap (λ (y : Said). test (said_fact s y)) (get_or-map (λ (y : Held). y.said) hs i x x.said lt) ∙ ap (λ (y : Held). test (said_fact s y.said)) (sym e) ∙ t)
+
+pub and_left_no : (a b : Bool) → a ≡ false → (a && b) ≡ false
+and_left_no a b e = ap (λ (x : Bool). x && b) e
+
+pub and_right_no : (a b : Bool) → b ≡ false → (a && b) ≡ false
+and_right_no a b e = ap (λ (x : Bool). a && x) e ∙ and_no a
+
+pub cond_or : (a b : Bool) → cond a true b ≡ (b || a)
+cond_or true true = refl
+cond_or true false = refl
+cond_or false true = refl
+cond_or false false = refl

@@ -1,34 +1,28 @@
 -- Where `same` or `sum` closes a branch, no valuation makes all its facts true.
-use Rattle.std.proofs.Common.{rules, ◌≡◌, ◌≢◌, ◌⊎◌, inl, inr, ℕ, ◌*◌, ◌<◌, ◌≤◌, ℤ, pos, negsuc, ◌+ℤ◌, ◌-ℤ◌, ◌*ℤ◌, Bool, true, false, cond, ◌&&◌, ◌||◌, if◌then◌else◌, List, [], ◌∷◌, ◌++◌, map, Option, Some, None, Result, Ok, Err, refl, sym, ap, subst, ◌∙◌, arith}
+use Rattle.std.proofs.Common.{◌≡◌, ◌≢◌, inl, inr, ◌≤◌, ℤ, pos, negsuc, ◌+ℤ◌, ◌-ℤ◌, ◌*ℤ◌, Bool, true, false, ◌&&◌, ◌||◌, if◌then◌else◌, List, [], ◌∷◌, ◌++◌, Option, Some, None, Ok, Err, refl, sym, ap, subst, ◌∙◌, arith}
 use Rattle.std.specs.Prelude.{not, int_le, int_lt, ◌≤ℤ◌, ◌<ℤ◌}
 use Rattle.std.specs.Ordering.{int_eq}
-use Rattle.std.specs.List.{AllByRecursion, list_all, list_any}
+use Rattle.std.specs.List.{AllByRecursion, list_all}
 use Rattle.std.proofs.Math.Nat.{mul-le-mul_left}
 use Rattle.std.proofs.lemmas.Int.{ints}
-use borrow.Author.Differences.{up, down, le_out}
-use Rattle.std.proofs.lemmas.Bool.{and_parts, and_from, or_cases, cases_Bool, cond-true, cond-false, both_ways}
+use borrow.Author.Differences.{up, down}
+use Rattle.std.proofs.lemmas.Bool.{and_parts, and_from, or_cases, cases_Bool, cond-true, cond-false}
 use Rattle.std.proofs.lemmas.Bool.Decides.{Decides-int_eq}
 use Rattle.sync_base.specs.declared.stops.Rule.{Rule}
-use Rattle.sync_base.specs.declared.stops.Rule.TheVariants.{K1, K2, K4, K5, K6, K7}
+use Rattle.sync_base.specs.declared.stops.Rule.TheVariants.{K5, K6, K7}
 use Rattle.sync_base.specs.Outcome.{first}
-use Rattle.sync_terms.specs.declared.nodes.Sym.{Sym}
-use Rattle.sync_terms.specs.declared.nodes.FormId.{FormId}
 use Rattle.sync_terms.specs.declared.scripts.HypName.{HypName}
 use Rattle.sync_terms.specs.declared.scripts.Part.{Part}
-use Rattle.sync_terms.specs.Trees.{Tree, Lit, Add, Sub, Scale, Formula, Le, Lt, Eq, Not, And, Or, Imp, neg}
-use Rattle.sync_terms.specs.Values.{Valuation, num, truth, Holds, HoldsForAll, Given, IsValid}
-use Rattle.sync_terms.specs.Stored.{Stored, formula}
-use Rattle.sync_linear.specs.Forms.{constant_of, tree_eq}
-use Rattle.sync_linear.proofs.Trees.{same_tree, tree_is}
+use Rattle.sync_terms.specs.Trees.{Tree, Lit, Add, Scale, Formula, Le, Lt, Eq, Not, And, Or, Imp, neg}
+use Rattle.sync_terms.specs.Values.{Valuation, num, truth, Holds}
+use Rattle.sync_linear.specs.Forms.{constant_of}
 use Rattle.sync_linear.proofs.Ring.{times_zero}
 use Rattle.sync_kernel.specs.declared.rows.Kind.{Kind}
 use Rattle.sync_kernel.specs.declared.rows.Kind.TheVariants.{AtMostZero, Zero, NotZero}
 use Rattle.sync_kernel.specs.declared.rows.Used.{Used}
-use Rattle.sync_kernel.specs.declared.sequents.Hyp.{Hyp}
-use Rattle.sync_kernel.specs.declared.sequents.Sequent.{Sequent}
-use Rattle.sync_kernel.specs.Facts.{Fact, same_name, newest, fact_of, denied, facts, given, givens}
-use Rattle.sync_kernel.specs.Rows.{Row, row_of, row_of_not, within, narrow, no_atom, is_false, formula_eq}
-use Rattle.sync_kernel.specs.Steps.{no_params, is_plain, is_opposed, is_false_row, same_fault, usable, is_turned, fits_in, Next, with_row, with_part, is_bound, is_equation, apart_first, one_apart, closes, go_on, added, sum_fault}
+use Rattle.sync_kernel.specs.Facts.{Fact, same_name, newest}
+use Rattle.sync_kernel.specs.Rows.{Row, row_of, row_of_not, narrow, no_atom, is_false}
+use Rattle.sync_kernel.specs.Steps.{is_plain, is_false_row, usable, is_turned, fits_in, Next, with_row, with_part, is_bound, is_equation, apart_first, one_apart, closes, go_on, added, sum_fault}
 use Rattle.sync_kernel.proofs.Atoms.{constant_value}
 
 -- what a line says of its value
@@ -254,10 +248,10 @@ module _ (v : Valuation) (fs : List Fact) (hold : AllHold v fs) where
       part_step (λ (n : Next). added fs n.sum (used ++ n.used ∷ []) ps) sum p (newest p.hyp fs) (newest_holds v p.hyp fs hold)
       (λ r s t k. added_refutes ps (Add sum (Scale p.times r.line)) (used ++ record { times = p.times; kind = r.kind } ∷ []) (known_more used (num v sum) r.kind p.times (num v r.line) known s t) k) h
 
-  sum_refutes : (parts : List Part) → sum_fault fs parts ≡ None → ⊥
+  pub sum_refutes : (parts : List Part) → sum_fault fs parts ≡ None → ⊥
   sum_refutes parts h = added_refutes parts (Lit (pos 0)) [] (record { bounded = λ _. zero_bound (pos 0) refl; equal = λ _. refl; apart = λ e. absurd (differ e) }) h
 
--- ---- the facts of a sequent
+-- ---- negation
 not_not : (b : Bool) → not (not b) ≡ b
 not_not true = refl
 not_not false = refl
@@ -271,25 +265,6 @@ truth_neg v (Not f) = sym (not_not (truth v f))
 truth_neg v (And f g) = refl
 truth_neg v (Or f g) = refl
 truth_neg v (Imp f g) = refl
-
-plain_holds : (v : Valuation) (ps : List ℕ) (f : Formula) → HoldsForAll ps v f → no_params ps ≡ true → Holds v f
-plain_holds v [] f h e = h
-plain_holds v (p ∷ ps) f h e = absurd (cc)
-
-facts_hold : (v : Valuation) (s : Stored) (hyps : List Hyp) (last : Fact) → AllByRecursion (λ (h : Given). HoldsForAll h.params v h.form) (map (λ (h : Hyp). given (fact_of s h)) hyps)
-    → (is_plain last ≡ true → Holds v last.form) → AllHold v (map (fact_of s) hyps ++ last ∷ [])
-facts_hold v s [] last h d = (d, tt)
-facts_hold v s (x ∷ xs) last h d = (plain_holds v (fact_of s x).params (fact_of s x).form h.0, facts_hold v s xs last h.1 d)
-
--- where the facts cannot all hold, the sequent is valid
-pub valid_from : (s : Stored) (q : Sequent) → ((v : Valuation) → AllHold v (facts s q) → ⊥) → IsValid (givens s q) (formula s q.claim)
-valid_from s q h = λ v hyps. elim (cases_Bool (truth v (formula s q.claim))) [
-  | inl e ↦ e
-  | inr e ↦ absurd (h v (facts_hold v s q.hyps (denied s q.claim) hyps (λ _. truth_neg v (formula s q.claim) ∙ ap not e)))
-]
-
-pub sum_valid : (s : Stored) (q : Sequent) (parts : List Part) → sum_fault (facts s q) parts ≡ None → IsValid (givens s q) (formula s q.claim)
-sum_valid s q parts h = valid_from s q (λ v hold. sum_refutes v (facts s q) hold parts h)
 
 -- ---- false lines
 kind_refutes : (k : Kind) (z : ℤ) → Says k z → is_false k z ≡ true → ⊥

@@ -1,11 +1,11 @@
 -- What a proof step may use: the hypotheses of a sequent and the negation of its claim, newest last.
-use Rattle.std.specs.Prelude.{ℕ, Bool, true, false, nat_eq, List, [], ◌∷◌, ◌++◌, map, Option, Some, None, if◌then◌else◌}
+use Rattle.std.specs.Prelude.{ℕ, ◌+◌, Bool, true, false, nat_eq, List, [], ◌∷◌, ◌++◌, map, Option, Some, None, if◌then◌else◌}
 use Rattle.sync_base.specs.Outcome.{first}
 use Rattle.sync_terms.specs.declared.nodes.Sym.{Sym}
 use Rattle.sync_terms.specs.declared.nodes.FormId.{FormId}
 use Rattle.sync_terms.specs.declared.scripts.HypName.{HypName}
 use Rattle.sync_terms.specs.declared.scripts.HypName.TheVariants.{Label, Denied, At, Low, High}
-use Rattle.sync_terms.specs.Trees.{Formula, neg}
+use Rattle.sync_terms.specs.Trees.{Formula, neg, formula_size}
 use Rattle.sync_terms.specs.Values.{Given}
 use Rattle.sync_terms.specs.Stored.{Stored, formula}
 use Rattle.sync_kernel.specs.declared.sequents.Hyp.{Hyp}
@@ -48,3 +48,12 @@ given f = record { params = f.params; form = f.form }
 -- the hypotheses of a sequent
 abbrev pub givens : Stored → Sequent → List Given
 givens s q = map (λ (h : Hyp). given (fact_of s h)) q.hyps
+
+-- a fact that a step gives a name
+abbrev pub named : ℕ → Formula → Fact
+named name form = record { name = Label name; params = []; form = form }
+
+-- the nodes of all facts
+unfoldable pub facts_size : List Fact → ℕ
+facts_size [] = 0
+facts_size (f ∷ fs) = formula_size f.form + facts_size fs

@@ -1,7 +1,13 @@
 pub mod Facts
 pub mod Rows
 pub mod Steps
-pub mod Shapes
-pub mod Holding
-pub mod Opposed
+pub mod Taking
 pub mod Scripts
+pub mod Shapes
+pub mod Literals
+pub mod Branches
+pub mod Knowing
+pub mod Holding
+pub mod Stacks
+pub mod Opposed
+pub mod Kept

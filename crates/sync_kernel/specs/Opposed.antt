@@ -1,9 +1,7 @@
 -- A fact whose negation is a fact, looked for from the negated side.
-use Rattle.std.specs.Prelude.{◌≡◌, ℕ, Bool, true, false, ◌&&◌, ◌||◌, nat_eq, List, [], ◌∷◌}
+use Rattle.std.specs.Prelude.{Bool, false, ◌&&◌, ◌||◌, List}
 use Rattle.std.specs.List.{list_any}
-use Rattle.sync_terms.specs.declared.nodes.Sym.{Sym}
 use Rattle.sync_terms.specs.Trees.{Formula, Le, Lt, Eq, Not, And, Or, Imp}
-use Rattle.sync_kernel.specs.declared.sequents.Hyp.{Hyp}
 use Rattle.sync_kernel.specs.Facts.{Fact}
 use Rattle.sync_kernel.specs.Rows.{row_of, formula_eq}
 use Rattle.sync_kernel.specs.Steps.{is_plain, is_false_row}
@@ -22,13 +20,9 @@ is_undone facts (And f g) = false
 is_undone facts (Or f g) = false
 is_undone facts (Imp f g) = false
 
+-- the formula alone, or with such a fact, is a contradiction
+abbrev pub is_closing : List Fact → Formula → Bool
+is_closing facts form = is_undone facts form || is_false_row (row_of form)
+
 abbrev pub closes_same : List Fact → Fact → Bool
-closes_same facts f = is_plain f && (is_undone facts f.form || is_false_row (row_of f.form))
-
-abbrev pub is_bare : List Sym → Bool
-is_bare [] = true
-is_bare (p ∷ ps) = false
-
--- a hypothesis without parameters has the formula with this id
-abbrev pub has_form : List Hyp → ℕ → Bool
-has_form hyps id = list_any (λ (h : Hyp). is_bare h.params && nat_eq h.form.0 id) hyps
+closes_same facts f = is_plain f && is_closing facts f.form

@@ -1,7 +1,7 @@
 -- Formulas as lines: a term that is at most 0, 0, or not 0.
-use Rattle.std.specs.Prelude.{ℕ, ◌^◌, ℤ, pos, negsuc, Bool, true, false, not, ◌&&◌, ◌||◌, nat_eq, nat_lt, int_lt, List, [], ◌∷◌, ◌++◌, Option, Some, None}
+use Rattle.std.specs.Prelude.{◌^◌, ℤ, pos, negsuc, Bool, true, false, not, ◌&&◌, nat_lt, int_lt, List, [], ◌∷◌, ◌++◌, Option, Some, None}
 use Rattle.std.specs.Ordering.{int_eq}
-use Rattle.std.specs.List.{list_all, list_any}
+use Rattle.std.specs.List.{list_all}
 use Rattle.sync_terms.specs.Trees.{Tree, Lit, Name, Add, Sub, Scale, Get, Has, Size, Sum, Nil, Put, Del, Bump, Formula, Le, Lt, Eq, Not, And, Or, Imp}
 use Rattle.sync_linear.specs.Forms.{tree_eq, constant_of, coefficient_of}
 use Rattle.sync_kernel.specs.declared.rows.Kind.{Kind}

@@ -1,5 +1,5 @@
 -- Lines of a store before they are computed.
-use Rattle.std.specs.Prelude.{Bool, true, false, if◌then◌else◌}
+use Rattle.std.specs.Prelude.{Bool, true, false}
 use Rattle.sync_terms.specs.Trees.{Tree, Sub}
 use Rattle.sync_terms.specs.Stored.{Stored, tree, IsTerm}
 use Rattle.sync_kernel.specs.declared.rows.Shape.{Shape}

@@ -1,7 +1,8 @@
 -- When `same` and `sum` close a branch, and the rule that is broken where they do not.
-use Rattle.std.specs.Prelude.{ℕ, ℤ, pos, Bool, true, false, not, ◌&&◌, ◌||◌, int_lt, List, [], ◌∷◌, ◌++◌, Option, Some, None, Result, Ok, Err, if◌then◌else◌}
+use Rattle.std.specs.Prelude.{ℕ, ℤ, pos, Bool, true, false, ◌&&◌, ◌||◌, int_lt, List, [], ◌∷◌, ◌++◌, Option, Some, None, option_map, Result, Ok, Err, if◌then◌else◌}
 use Rattle.std.specs.Ordering.{int_eq}
 use Rattle.std.specs.List.{list_all, list_any}
+use Rattle.sync_base.specs.declared.stops.Refusal.{Refusal}
 use Rattle.sync_base.specs.declared.stops.Rule.{Rule}
 use Rattle.sync_base.specs.declared.stops.Rule.TheVariants.{K1, K2, K4, K5, K6, K7}
 use Rattle.sync_terms.specs.declared.scripts.Part.{Part}
@@ -12,6 +13,10 @@ use Rattle.sync_kernel.specs.declared.rows.Kind.TheVariants.{AtMostZero, Zero, N
 use Rattle.sync_kernel.specs.declared.rows.Used.{Used}
 use Rattle.sync_kernel.specs.Facts.{Fact, newest}
 use Rattle.sync_kernel.specs.Rows.{Row, row_of, within, narrow, no_atom, is_false, formula_eq}
+
+-- a rule that is broken at a line
+abbrev pub at_line : ℕ → Option Rule → Option Refusal
+at_line line fault = option_map (λ (r : Rule). record { line = line; rule = r }) fault
 
 abbrev pub no_params : List ℕ → Bool
 no_params [] = true

@@ -1,11 +1,17 @@
 //! The proof kernel: it checks that the script of a sequent proves it.
 #![tactic(auto)]
 
-mod held;
+mod blocks;
+mod branches;
+mod lines;
+mod literals;
 mod provers;
 mod rows;
 mod sames;
 mod sequents;
+mod splits;
+mod steps;
+mod stops;
 mod sums;
 
 pub use provers::prove;

@@ -1,16 +1,17 @@
 //! Formulas as lines.
 ghost use Rattle.std.specs.Prelude.{◌≡◌, Err, Some, IfOk, OnOk, IfSome, option_map};
-ghost use Rattle.sync_terms.specs.Stored.{Stored, IsTerm, IsForm, HasParts, formula, form_shape};
-ghost use Rattle.sync_terms.specs.Trees.{neg};
+ghost use Rattle.sync_terms.specs.Stored.{Stored, IsTerm, HasParts, form_shape};
 ghost use Rattle.sync_linear.specs.declared.stops.LinearStop.TheVariants.{Width};
 ghost use Rattle.sync_linear.specs.Forms.{Narrow};
 ghost use Rattle.sync_linear.specs.Stores.{IsLineOf};
+ghost use Rattle.sync_kernel.specs.Literals.{literal_form, IsLiteral};
 ghost use Rattle.sync_kernel.specs.Rows.{row_of, row_of_not};
 ghost use Rattle.sync_kernel.specs.Shapes.{shaped, row_shaped};
 
+use crate::literals::Literal;
 use std::alloc::Global;
 use sync_linear::{Change, Linear, LinearStop};
-use sync_terms::{FormId, FormNode, TermId, Terms};
+use sync_terms::{FormNode, TermId, Terms};
 
 /// What a line says of its value.
 #[derive(Clone, Copy, PartialEq, Eq, Debug)]
@@ -82,13 +83,14 @@ fn shape_of_not(terms: &Terms, node: FormNode) -> Option<Shape>
     }
 }
 
-/// The line of a formula.
-pub(crate) fn shape_of(terms: &Terms, form: FormId) -> Option<Shape>
-    requires { IsForm terms.now form }
-    ensures row { option_map (row_shaped terms.now) result ≡ row_of (formula terms.now form) }
+/// The line of a formula with this node.
+#[tactic(auto, unfolding(sync_terms::specs::Stored::form_shape, sync_terms::specs::Stored::tree, sync_terms::specs::Stored::formula))]
+fn shape_of_node(terms: &Terms, node: FormNode) -> Option<Shape>
+    requires { HasParts terms.now node }
+    ensures row { option_map (row_shaped terms.now) result ≡ row_of (form_shape terms.now node) }
     ensures stored { IfSome result (shaped terms.now) }
 {
-    match terms.form(form) {
+    match node {
         FormNode::Le(a, b) => shape_with(Kind::AtMostZero, a, b, false),
         FormNode::Lt(a, b) => shape_with(Kind::AtMostZero, a, b, true),
         FormNode::Eq(a, b) => shape_with(Kind::Zero, a, b, false),
@@ -97,20 +99,16 @@ pub(crate) fn shape_of(terms: &Terms, form: FormId) -> Option<Shape>
     }
 }
 
-/// The line of the negation of a claim.
-pub(crate) fn shape_denied(terms: &Terms, claim: FormId) -> Option<Shape>
-    requires { IsForm terms.now claim }
-    ensures row { option_map (row_shaped terms.now) result ≡ row_of (neg (formula terms.now claim)) }
+/// The line of what a literal says.
+pub(crate) fn shape_of(terms: &Terms, says: Literal) -> Option<Shape>
+    requires { IsLiteral terms.now says }
+    ensures row { option_map (row_shaped terms.now) result ≡ row_of (literal_form terms.now says) }
     ensures stored { IfSome result (shaped terms.now) }
 {
-    let node = terms.form(claim);
-    match node {
-        FormNode::Not(inner) => shape_of(terms, inner),
-        FormNode::Le(_, _)
-        | FormNode::Lt(_, _)
-        | FormNode::Eq(_, _)
-        | FormNode::And(_, _)
-        | FormNode::Or(_, _)
-        | FormNode::Imp(_, _) => shape_of_not(terms, node),
+    let node = terms.form(says.form);
+    if says.negated {
+        shape_of_not(terms, node)
+    } else {
+        shape_of_node(terms, node)
     }
 }

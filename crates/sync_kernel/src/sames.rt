@@ -1,38 +1,41 @@
 //! The step `same`.
-ghost use Rattle.std.specs.Prelude.{◌≡◌, ◌&&◌, ◌||◌, ℕ, nat_eq, IfOk, Err, IsTrue};
+ghost use Rattle.std.specs.Prelude.{◌≡◌, ◌&&◌, IfOk};
 ghost use Rattle.std.specs.HashSet.{contains};
 ghost use Rattle.sync_base.specs.Outcome.{Passes};
-ghost use Rattle.sync_base.specs.declared.stops.Stop.TheVariants.{Memory};
-ghost use Rattle.sync_terms.specs.Stored.{Stored, IsForm, IsShared, formula};
-ghost use Rattle.sync_terms.specs.Trees.{Tree, neg};
+ghost use Rattle.sync_terms.specs.Stored.{Stored, IsShared};
+ghost use Rattle.sync_terms.specs.Trees.{Tree};
 ghost use Rattle.sync_linear.specs.Forms.{constant_of};
 ghost use Rattle.sync_linear.specs.Stores.{IsLineOf};
-ghost use Rattle.sync_kernel.specs.Facts.{facts};
-ghost use Rattle.sync_kernel.specs.Rows.{no_atom, is_false, formula_eq, row_of};
-ghost use Rattle.sync_kernel.specs.Steps.{is_false_row, same_fault};
-ghost use Rattle.sync_kernel.specs.Holding.{held_form, AreForms, at_line};
-ghost use Rattle.sync_kernel.specs.Opposed.{is_fact as says, is_undone as undone, has_form};
+ghost use Rattle.sync_kernel.specs.declared.literals.Literal.{Literal};
+ghost use Rattle.sync_kernel.specs.Branches.{facts_in, AreSaid};
+ghost use Rattle.sync_kernel.specs.Stacks.{saids};
+ghost use Rattle.sync_kernel.specs.Literals.{literal_form, IsLiteral, IsBare, same_literal};
+ghost use Rattle.sync_kernel.specs.Rows.{no_atom, is_false, row_of};
+ghost use Rattle.sync_kernel.specs.Steps.{at_line, is_false_row, same_fault};
+ghost use Rattle.sync_kernel.specs.Opposed.{is_fact, is_undone as undone, is_closing};
 
-use crate::held::Held;
-use crate::rows::Kind;
-use crate::sequents::Sequent;
+use crate::branches::{Branch, Held};
+use crate::literals::Literal;
+use crate::rows::{Kind, shape_of};
+use crate::stops::refusal;
 use std::alloc::{AllocError, Global};
 use std::collections::HashSet;
-use sync_base::{NoMemory, Refusal, Rule, Stop};
+use sync_base::{NoMemory, Rule, Stop};
 use sync_linear::{Linear, LinearStop};
-use sync_terms::{FormId, FormNode, Terms};
+use sync_terms::Terms;
 
-/// The formulas of the hypotheses without parameters, by their ids.
-fn forms_of(alloc: Global, q: &Sequent) -> Result<HashSet<u32>, AllocError>
-    ensures { IfOk result (λ forms. (id : ℕ) → contains nat_eq forms id ≡ has_form q.now.hyps id) }
+/// What the facts without parameters say.
+fn literals_of(alloc: Global, terms: &Terms, facts: &[Held]) -> Result<HashSet<Literal>, AllocError>
+    requires { AreSaid terms.now (saids facts.now) }
+    ensures { IfOk result (λ literals. (l : Literal) → IsShared terms.now → IsLiteral terms.now l → IsBare terms.now l → contains same_literal literals l ≡ is_fact (facts_in terms.now (saids facts.now)) (literal_form terms.now l)) }
 {
-    let mut forms = HashSet::new(alloc);
-    for hyp in q.hyps.as_slice() {
-        if hyp.params.is_empty() {
-            forms.insert(hyp.form.0)?;
+    let mut literals = HashSet::new(alloc);
+    for held in facts {
+        if held.said.params.is_empty() {
+            literals.insert(held.said.says.bare(terms))?;
         }
     }
-    Ok(forms)
+    Ok(literals)
 }
 
 /// Whether a line that says this is a false one without atoms.
@@ -46,12 +49,12 @@ fn is_false_line(kind: Kind, line: &Linear) -> bool
     }
 }
 
-/// Whether the line of a fact is false; one outside 128 bits is passed over.
-fn is_false_fact(alloc: Global, terms: &Terms, held: Held) -> Result<bool, NoMemory>
-    requires form { IsForm terms.now held.form }
-    ensures { IfOk result (λ b. b ≡ (held.plain && is_false_row (row_of (held_form terms.now held)))) }
+/// Whether the line of what is said is false; one outside 128 bits is passed over.
+fn is_false_fact(alloc: Global, terms: &Terms, says: Literal) -> Result<bool, NoMemory>
+    requires { IsLiteral terms.now says }
+    ensures { IfOk result (λ b. b ≡ is_false_row (row_of (literal_form terms.now says))) }
 {
-    let Some(shape) = held.shape(terms) else {
+    let Some(shape) = shape_of(terms, says) else {
         return Ok(false);
     };
     match shape.line(alloc, terms) {
@@ -61,135 +64,47 @@ fn is_false_fact(alloc: Global, terms: &Terms, held: Held) -> Result<bool, NoMem
     }
 }
 
-/// Whether a formula is the negation of the claim.
-fn is_denied(terms: &Terms, claim: FormId, form: FormId) -> bool
-    requires claim { IsForm terms.now claim }
-    requires form { IsForm terms.now form }
-    ensures exact { result ≡ formula_eq (neg (formula terms.now claim)) (formula terms.now form) }
-    ensures shared { IsShared terms.now }
+/// Whether what is said is the negation of a fact without parameters.
+fn is_undone(terms: &Terms, facts: &[Held], literals: &HashSet<Literal>, says: Literal) -> bool
+    requires literals { (l : Literal) → IsShared terms.now → IsLiteral terms.now l → IsBare terms.now l → contains same_literal literals.now l ≡ is_fact (facts_in terms.now (saids facts.now)) (literal_form terms.now l) }
+    requires says { IsLiteral terms.now says }
+    ensures { result ≡ undone (facts_in terms.now (saids facts.now)) (literal_form terms.now says) }
 {
-    match terms.form(claim) {
-        FormNode::Not(inner) => inner.0 == form.0,
-        FormNode::Le(_, _)
-        | FormNode::Lt(_, _)
-        | FormNode::Eq(_, _)
-        | FormNode::And(_, _)
-        | FormNode::Or(_, _)
-        | FormNode::Imp(_, _) => match terms.form(form) {
-            FormNode::Not(inner) => claim.0 == inner.0,
-            FormNode::Le(_, _)
-            | FormNode::Lt(_, _)
-            | FormNode::Eq(_, _)
-            | FormNode::And(_, _)
-            | FormNode::Or(_, _)
-            | FormNode::Imp(_, _) => false,
-        },
-    }
+    let says = says.bare(terms);
+    says.negated && literals.contains(&Literal::plain(says.form).bare(terms))
 }
 
-/// Whether a fact without parameters says this formula.
-fn is_fact(terms: &Terms, q: &Sequent, forms: &HashSet<u32>, form: FormId) -> bool
-    requires forms { (id : ℕ) → contains nat_eq forms.now id ≡ has_form q.now.hyps id }
-    requires hyps { AreForms terms.now q.now.hyps }
-    requires claim { IsForm terms.now q.now.claim }
-    requires form { IsForm terms.now form }
-    ensures { result ≡ says (facts terms.now q.now) (formula terms.now form) }
-{
-    let denied = is_denied(terms, q.claim, form);
-    forms.contains(&form.0) || denied
-}
-
-/// Whether the fact is the negation of a fact without parameters.
-fn is_undone(terms: &Terms, q: &Sequent, forms: &HashSet<u32>, held: Held) -> bool
-    requires forms { (id : ℕ) → contains nat_eq forms.now id ≡ has_form q.now.hyps id }
-    requires hyps { AreForms terms.now q.now.hyps }
-    requires claim { IsForm terms.now q.now.claim }
-    requires form { IsForm terms.now held.form }
-    ensures { result ≡ undone (facts terms.now q.now) (held_form terms.now held) }
-{
-    match terms.form(held.form) {
-        FormNode::Not(inner) => {
-            if held.denied {
-                is_undone_form(terms, q, forms, inner)
-            } else {
-                is_fact(terms, q, forms, inner)
-            }
-        }
-        FormNode::Le(_, _)
-        | FormNode::Lt(_, _)
-        | FormNode::Eq(_, _)
-        | FormNode::And(_, _)
-        | FormNode::Or(_, _)
-        | FormNode::Imp(_, _) => held.denied && is_fact(terms, q, forms, held.form),
-    }
-}
-
-/// Whether a stored formula is the negation of a fact without parameters.
-fn is_undone_form(terms: &Terms, q: &Sequent, forms: &HashSet<u32>, form: FormId) -> bool
-    requires forms { (id : ℕ) → contains nat_eq forms.now id ≡ has_form q.now.hyps id }
-    requires hyps { AreForms terms.now q.now.hyps }
-    requires claim { IsForm terms.now q.now.claim }
-    requires form { IsForm terms.now form }
-    ensures { result ≡ undone (facts terms.now q.now) (formula terms.now form) }
-{
-    match terms.form(form) {
-        FormNode::Not(inner) => is_fact(terms, q, forms, inner),
-        FormNode::Le(_, _)
-        | FormNode::Lt(_, _)
-        | FormNode::Eq(_, _)
-        | FormNode::And(_, _)
-        | FormNode::Or(_, _)
-        | FormNode::Imp(_, _) => false,
-    }
-}
-
-/// Whether the fact closes the branch: it is the negation of another, or a false line.
-fn closes(
+/// Whether what is said is a contradiction, alone or with a fact without parameters.
+fn is_closing(
     alloc: Global,
     terms: &Terms,
-    q: &Sequent,
-    forms: &HashSet<u32>,
-    held: Held,
+    facts: &[Held],
+    literals: &HashSet<Literal>,
+    says: Literal,
 ) -> Result<bool, NoMemory>
-    requires forms { (id : ℕ) → contains nat_eq forms.now id ≡ has_form q.now.hyps id }
-    requires hyps { AreForms terms.now q.now.hyps }
-    requires claim { IsForm terms.now q.now.claim }
-    requires form { IsForm terms.now held.form }
-    ensures { IfOk result (λ b. b ≡ (held.plain && (undone (facts terms.now q.now) (held_form terms.now held) || is_false_row (row_of (held_form terms.now held))))) }
+    requires literals { (l : Literal) → IsShared terms.now → IsLiteral terms.now l → IsBare terms.now l → contains same_literal literals.now l ≡ is_fact (facts_in terms.now (saids facts.now)) (literal_form terms.now l) }
+    requires says { IsLiteral terms.now says }
+    ensures { IfOk result (λ b. b ≡ is_closing (facts_in terms.now (saids facts.now)) (literal_form terms.now says)) }
 {
-    if held.plain && is_undone(terms, q, forms, held) {
+    if is_undone(terms, facts, literals, says) {
         return Ok(true);
     }
-    is_false_fact(alloc, terms, held)
+    is_false_fact(alloc, terms, says)
 }
 
 /// Whether two facts without parameters are a formula and its negation, or one is a false line; else K4.
-pub(crate) fn same(alloc: Global, terms: &Terms, q: &Sequent, line: u32) -> Result<(), Stop>
-    requires hyps { AreForms terms.now q.now.hyps }
-    requires claim { IsForm terms.now q.now.claim }
-    ensures { Passes result (at_line line (same_fault (facts terms.now q.now))) }
+pub(crate) fn same(alloc: Global, terms: &Terms, branch: &Branch, line: u32) -> Result<(), Stop>
+    requires { AreSaid terms.now branch.now }
+    ensures { Passes result (at_line line (same_fault (facts_in terms.now branch.now))) }
 {
-    let forms = forms_of(alloc, q)?;
-    let denied = Held {
-        form: q.claim,
-        denied: true,
-        plain: true,
-    };
-    if closes(alloc, terms, q, &forms, denied)? {
-        return Ok(());
-    }
-    for hyp in q.hyps.as_slice() {
-        let held = Held {
-            form: hyp.form,
-            denied: false,
-            plain: hyp.params.is_empty(),
-        };
-        if closes(alloc, terms, q, &forms, held)? {
+    let facts = branch.held();
+    let literals = literals_of(alloc, terms, facts)?;
+    for held in facts {
+        if held.said.params.is_empty()
+            && is_closing(alloc, terms, facts, &literals, held.said.says)?
+        {
             return Ok(());
         }
     }
-    Err(Stop::Refused(Refusal {
-        line,
-        rule: Rule::K4,
-    }))
+    Err(refusal(line, Rule::K4))
 }

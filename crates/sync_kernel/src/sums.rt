@@ -1,20 +1,29 @@
 //! The step `sum`.
-ghost use Rattle.std.specs.Prelude.{◌≡◌, Option, IfSome};
+ghost use Rattle.std.specs.Prelude.{◌≡◌, Option, None, IfSome, option_map, if◌then◌else◌};
+ghost use Rattle.std.specs.HashMap.{get};
+ghost use Rattle.std.specs.List.{list_all};
 ghost use Rattle.sync_base.specs.Outcome.{Passes};
-ghost use Rattle.sync_terms.specs.Stored.{Stored, IsForm};
+ghost use Rattle.sync_terms.specs.Stored.{Stored};
 ghost use Rattle.sync_terms.specs.Trees.{Tree};
 ghost use Rattle.sync_linear.specs.Stores.{IsLineOf};
-ghost use Rattle.sync_kernel.specs.Facts.{Fact, facts};
-ghost use Rattle.std.specs.List.{list_all};
-ghost use Rattle.sync_kernel.specs.Steps.{is_bound, is_turned, with_part as part_added, one_apart as has_one_apart, closes as is_closed, sum_fault};
-ghost use Rattle.sync_kernel.specs.Holding.{IsHeld, AreForms, StepGives, stop_of, at_line};
+ghost use Rattle.sync_kernel.specs.Facts.{Fact};
+ghost use Rattle.sync_kernel.specs.Branches.{facts_in, AreSaid};
+ghost use Rattle.sync_kernel.specs.Literals.{literal_form, IsLiteral, same_literal};
+ghost use Rattle.sync_kernel.specs.Kept.{AreLines};
+ghost use Rattle.sync_kernel.specs.Rows.{row_of};
+ghost use Rattle.sync_kernel.specs.Shapes.{shaped, row_shaped};
+ghost use Rattle.sync_kernel.specs.Steps.{at_line, is_bound, is_turned, with_part as part_added, one_apart as has_one_apart, closes as is_closed, sum_fault};
+ghost use Rattle.sync_kernel.specs.Holding.{IsKnown, StepGives};
 
-use crate::held::{Held, facts_of};
-use crate::rows::{Kind, Used};
-use crate::sequents::Sequent;
+use crate::branches::{Branch, Known};
+use crate::lines::keep_line;
+use crate::literals::Literal;
+use crate::rows::{Kind, Shape, Used, shape_of};
+use crate::stops::{refusal, too_wide};
 use std::alloc::Global;
-use sync_base::{Refusal, Rule, Stop};
-use sync_linear::{Change, Linear, LinearStop};
+use std::collections::HashMap;
+use sync_base::{Rule, Stop};
+use sync_linear::{Change, Linear};
 use sync_terms::{Part, Terms};
 
 /// A sum with one part more, and what was used for it.
@@ -22,18 +31,6 @@ use sync_terms::{Part, Terms};
 pub(crate) struct Summed {
     pub total: Linear,
     pub used: Used,
-}
-
-fn stopped(stop: LinearStop, line: u32) -> Stop
-    ensures { result ≡ stop_of line stop }
-{
-    match stop {
-        LinearStop::Width => Stop::Refused(Refusal {
-            line,
-            rule: Rule::K7,
-        }),
-        LinearStop::Memory => Stop::Memory,
-    }
 }
 
 /// Whether a line that is at most 0 would be taken a negative number of times.
@@ -46,40 +43,48 @@ fn turned(kind: Kind, part: &Part) -> bool
     }
 }
 
+/// The line of what is known; none where it has parameters.
+fn shape_known(terms: &Terms, known: Known) -> Option<Shape>
+    requires { IsLiteral terms.now known.says }
+    ensures row { option_map (row_shaped terms.now) result ≡ (if known.plain then row_of (literal_form terms.now known.says) else None) }
+    ensures stored { IfSome result (shaped terms.now) }
+{
+    if known.plain {
+        shape_of(terms, known.says)
+    } else {
+        None
+    }
+}
+
+/// The sum and one part more.
 fn with_part(
     alloc: Global,
     terms: &Terms,
-    held: Option<Held>,
+    lines: &mut HashMap<Literal, Linear>,
+    known: Option<Known>,
     part: &Part,
     total: Linear,
     line: u32,
 ) -> Result<Summed, Stop>
-    requires { IfSome held (λ h. IsForm terms.now h.form) }
-    ensures { (sum : Tree) (fact : Option Fact) → IsLineOf terms.now sum total → IsHeld terms.now held fact → StepGives terms.now line result (part_added fact sum part.now) }
+    requires known { IfSome known (λ k. IsLiteral terms.now k.says) }
+    requires lines { AreLines terms.now (get same_literal lines.old) }
+    ensures lines { AreLines terms.now (get same_literal lines.new) }
+    ensures part { (sum : Tree) (fact : Option Fact) → IsLineOf terms.now sum total → IsKnown terms.now known fact → StepGives terms.now line result (part_added fact sum part.now) }
 {
-    let Some(held) = held else {
-        return Err(Stop::Refused(Refusal {
-            line,
-            rule: Rule::K1,
-        }));
+    let Some(known) = known else {
+        return Err(refusal(line, Rule::K1));
     };
-    let Some(shape) = held.shape(terms) else {
-        return Err(Stop::Refused(Refusal {
-            line,
-            rule: Rule::K2,
-        }));
+    let Some(shape) = shape_known(terms, known) else {
+        return Err(refusal(line, Rule::K2));
     };
     if turned(shape.kind, part) {
-        return Err(Stop::Refused(Refusal {
-            line,
-            rule: Rule::K6,
-        }));
+        return Err(refusal(line, Rule::K6));
     }
-    let row = match shape.line(alloc, terms) {
-        Ok(row) => row,
-        Err(stop) => return Err(stopped(stop, line)),
-    };
-    match total.changed(Change::Times(part.times), &row) {
+    if let Err(stop) = keep_line(alloc, terms, lines, known.says, shape) {
+        return Err(too_wide(stop, line));
+    }
+    let row = lines.get(&known.says).unwrap();
+    match total.changed(Change::Times(part.times), row) {
         Ok(total) => Ok(Summed {
             total,
             used: Used {
@@ -87,7 +92,7 @@ fn with_part(
                 kind: shape.kind,
             },
         }),
-        Err(stop) => Err(stopped(stop, line)),
+        Err(stop) => Err(too_wide(stop, line)),
     }
 }
 
@@ -140,29 +145,25 @@ fn closes(used: &[Used], total: &Linear) -> bool
 pub(crate) fn sum(
     alloc: Global,
     terms: &Terms,
-    q: &Sequent,
+    branch: &Branch,
     line: u32,
     parts: &[Part],
 ) -> Result<(), Stop>
-    requires hyps { AreForms terms.now q.now.hyps }
-    requires claim { IsForm terms.now q.now.claim }
-    ensures { Passes result (at_line line (sum_fault (facts terms.now q.now) parts.now)) }
+    requires { AreSaid terms.now branch.now }
+    ensures { Passes result (at_line line (sum_fault (facts_in terms.now branch.now) parts.now)) }
 {
-    let facts = facts_of(alloc, q)?;
     let mut total = Linear::zero(alloc);
     let mut used = Vec::new(alloc);
+    let mut lines = HashMap::new(alloc);
     for part in parts {
-        let held = facts.get(&part.hyp).copied();
-        let next = with_part(alloc, terms, held, part, total, line)?;
+        let known = branch.known(part.hyp);
+        let next = with_part(alloc, terms, &mut lines, known, part, total, line)?;
         total = next.total;
         used.push(next.used)?;
     }
     if closes(&used, &total) {
         Ok(())
     } else {
-        Err(Stop::Refused(Refusal {
-            line,
-            rule: Rule::K5,
-        }))
+        Err(refusal(line, Rule::K5))
     }
 }

@@ -1,7 +1,8 @@
 -- What an expression is: its term or its formula, or the first rule that it breaks.
 --
 -- At one place the rule with the smaller number counts. An expression that begins with a lexeme that breaks N1 or N3
--- is refused for it, before its size (N5) and its sort (N6), which stand at the same lexeme; then come its parts.
+-- is refused for it, before its size (N5) and its sort (N6), which stand at the same lexeme; then come its parts. Where
+-- it begins with a bracket, its size and its sort come first, since they stand at the bracket.
 use Rattle.std.specs.Prelude.{ℕ, ◌+◌, ◌==◌, pos, Bool, true, false, not, List, [], ◌∷◌, length, slice_get, nat_lt, Option, Some, None, Result, Ok, Err, if◌then◌else◌}
 use Rattle.sync_base.specs.declared.stops.Refusal.{Refusal}
 use Rattle.sync_base.specs.declared.stops.Rule.TheVariants.{N1, N3, N5, N6}
@@ -214,6 +215,7 @@ nodes_in (ExprKind-F.Number n) = 1
 nodes_in (ExprKind-F.Name named) = 1
 nodes_in (ExprKind-F.Param line named) = 1
 nodes_in ExprKind-F.Nil = 1
+nodes_in (ExprKind-F.Bracketed e) = e.nodes
 nodes_in (ExprKind-F.Special word line) = 1
 nodes_in (ExprKind-F.Call f line args) = 1 + all_nodes args
 nodes_in (ExprKind-F.Not e) = 1 + e.nodes
@@ -226,6 +228,7 @@ sort_in (ExprKind-F.Number n) s = Some sort.Number
 sort_in (ExprKind-F.Name named) s = name_sort s named.name
 sort_in (ExprKind-F.Param line named) s = if knows_params s.claim then Some sort.Number else None
 sort_in ExprKind-F.Nil s = Some sort.Map
+sort_in (ExprKind-F.Bracketed e) s = e.sort s
 sort_in (ExprKind-F.Special word line) s = None
 sort_in (ExprKind-F.Call f line args) s = function_sort f
 sort_in (ExprKind-F.Not e) s = Some sort.Formula
@@ -245,6 +248,7 @@ opening_in (ExprKind-F.Call f line args) s = call_fault f line (length args)
 opening_in (ExprKind-F.Two op a b) s = a.opening s
 opening_in (ExprKind-F.Number n) s = None
 opening_in ExprKind-F.Nil s = None
+opening_in (ExprKind-F.Bracketed e) s = None
 opening_in (ExprKind-F.Not e) s = None
 opening_in (ExprKind-F.Minus e) s = None
 opening_in (ExprKind-F.Times n e) s = None
@@ -258,6 +262,7 @@ term_in (ExprKind-F.Param line named) at s = do
   x ← param_symbol s line named
   Ok (trees.Name x)
 term_in ExprKind-F.Nil at s = Ok trees.Nil
+term_in (ExprKind-F.Bracketed e) at s = e.term s
 term_in (ExprKind-F.Special word line) at s = refuse N1 line
 term_in (ExprKind-F.Call f line args) at s = call_term f args line s
 term_in (ExprKind-F.Minus e) at s = do
@@ -284,6 +289,7 @@ abbrev pub form_in : ExprKind-F Kind Reading → ℕ → Scope → Result Formul
 form_in (ExprKind-F.Not e) at s = do
   f ← form_as e s
   Ok (trees.Not f)
+form_in (ExprKind-F.Bracketed e) at s = e.form s
 form_in (ExprKind-F.Two op a b) at s = two_in (joins_forms op) op a b s
 form_in (ExprKind-F.Name named) at s = refuse N1 named.line
 form_in (ExprKind-F.Param line named) at s = refuse N1 line

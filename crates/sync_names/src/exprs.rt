@@ -96,6 +96,7 @@ fn sort_of(scope: &Scope, e: &Expr) -> Option<Sort>
         ExprKind::Param(_, _) if scope.knows_params() => Some(Sort::Number),
         ExprKind::Param(_, _) | ExprKind::Special(_, _) => None,
         ExprKind::Nil => Some(Sort::Map),
+        ExprKind::Bracketed(a) => sort_of(scope, a.get()),
         ExprKind::Call(function, _, _) => function_sort(*function),
         ExprKind::Not(_) => Some(Sort::Formula),
         ExprKind::Two(operator, _, _) => Some(operator_sort(*operator)),
@@ -130,6 +131,7 @@ fn opening(scope: &Scope, e: &Expr) -> Option<Refusal>
         }
         ExprKind::Special(_, line) => Some(broken(Rule::N1, *line)),
         ExprKind::Call(function, line, args) => call_fault(*function, *line, args.len()),
+        ExprKind::Bracketed(_) => None,
         ExprKind::Two(_, a, _) => opening(scope, a.get()),
         ExprKind::Number(_)
         | ExprKind::Nil
@@ -184,6 +186,7 @@ fn nodes(e: &Expr) -> u64
         | ExprKind::Nil
         | ExprKind::Special(_, _) => 1,
         ExprKind::Call(_, _, args) => capped(1 + nodes_of(args.as_slice())),
+        ExprKind::Bracketed(a) => nodes(a.get()),
         ExprKind::Not(a) => capped(1 + nodes(a.get())),
         ExprKind::Minus(a) => capped(2 + nodes(a.get())),
         ExprKind::Times(_, a) => capped(1 + nodes(a.get())),
@@ -424,6 +427,7 @@ fn term(terms: &mut Terms, scope: &Scope, e: &Expr, wanted: Sort) -> Result<Term
             added(terms, Node::Name(symbol))
         }
         ExprKind::Nil => added(terms, Node::Nil),
+        ExprKind::Bracketed(a) => term(terms, scope, a.get(), wanted),
         ExprKind::Special(_, line) => Err(refused(Rule::N1, *line)),
         ExprKind::Call(function, line, args) => {
             call(terms, scope, *function, args.as_slice(), *line)
@@ -525,6 +529,7 @@ fn form(terms: &mut Terms, scope: &Scope, e: &Expr) -> Result<FormId, Stop>
             let f = form(terms, scope, a.get())?;
             added_form(terms, FormNode::Not(f))
         }
+        ExprKind::Bracketed(a) => form(terms, scope, a.get()),
         ExprKind::Two(operator, a, b) => {
             if joins_forms(*operator) {
                 let f = form(terms, scope, a.get())?;

@@ -1,5 +1,5 @@
 -- Proofs, machines and texts: what they are once their parts are made.
-use Rattle.std.proofs.Common.{◌≡◌, ℕ, List, [], length, map, Result, Ok, Err, refl, sym, ap, subst, ◌∙◌}
+use Rattle.std.proofs.Common.{◌≡◌, ℕ, List, [], ◌∷◌, length, map, Result, Ok, Err, refl, sym, ap, subst, ◌∙◌}
 use Rattle.std.specs.List.{AllByRecursion}
 use Rattle.sync_base.specs.declared.stops.Refusal.{Refusal}
 use Rattle.sync_base.specs.declared.stops.Stop.{Stop}
@@ -18,7 +18,10 @@ use Rattle.sync_names.specs.declared.scopes.Scope.{Scope}
 use Rattle.sync_names.specs.Scopes.{meaning_of}
 use Rattle.sync_read.specs.Acts.{within}
 use Rattle.sync_read.specs.Resolving.{machine_in}
-use Rattle.sync_induct.specs.Checks.{ProofTree}
+use Rattle.sync_induct.specs.declared.proofs.Proof.{Proof}
+use Rattle.sync_induct.specs.Checks.{ProofTree, AreScriptsOf}
+use Rattle.sync_induct.specs.Checks.{proof_in as stored_proof}
+use Rattle.sync_terms.proofs.Extending.{Extends-refl}
 use Rattle.sync_read.specs.Scripts.{operation_meaning, claim_in, script_scope, block_of, proof_in, proofs_from}
 use Rattle.sync_read.specs.Texts.{TextTree, first_scope, resolved}
 use Rattle.sync_read.proofs.Growing.{operations_kept, operations_stay, invariants_kept, invariants_stay}
@@ -59,6 +62,29 @@ proof_stops Memory before s next p o n c operation claim few is h = tt
 proof_stops (Refused r) before s next p o n c operation claim few is h =
     proof_is before s p o n c operation claim few
     ∙ ap (λ r. r >>= (λ b. Ok (record { title = record { op = o; claim = c; line = p.operation.line }; plan = b }, script_scope o c s))) (ap (λ s. block_of s p.script.block) (sym is) ∙ h)
+
+-- ---- scripts
+
+one_answer : (wanted : Result (List ProofTree × Scope) Refusal) (p q : List ProofTree × Scope) → wanted ≡ Ok p → wanted ≡ Ok q → p ≡ q
+one_answer wanted p q e f = let g : Ok p ≡ Ok q = sym e ∙ f in cc
+
+first_same : (p q : ProofTree) (ps qs : List ProofTree) → p ∷ ps ≡ q ∷ qs → p ≡ q
+first_same p q ps qs e = cc
+
+rest_same : (p q : ProofTree) (ps qs : List ProofTree) → p ∷ ps ≡ q ∷ qs → ps ≡ qs
+rest_same p q ps qs e = cc
+
+same_scripts : (s : Stored) (ps : List Proof) → ((t : Stored) → Extends s t → map (stored_proof t) ps ≡ map (stored_proof s) ps) → AreScriptsOf s ps
+same_scripts s [] h = tt
+same_scripts s (p ∷ ps) h = (
+  λ t e. ap (λ (q : ProofTree). q.plan) (first_same (stored_proof t p) (stored_proof s p) (map (stored_proof t) ps) (map (stored_proof s) ps) (h t e)),
+  same_scripts s ps (λ t e. rest_same (stored_proof t p) (stored_proof s p) (map (stored_proof t) ps) (map (stored_proof s) ps) (h t e)),
+)
+
+-- what the proofs of a text mean over every larger store does not depend on it, so their scripts are of the store
+pub own_scripts : (s : Stored) (ps : List Proof) (next : Scope) (wanted : Result (List ProofTree × Scope) Refusal) → ((t : Stored) → Extends s t → wanted ≡ Ok (map (stored_proof t) ps, next)) → AreScriptsOf s ps
+own_scripts s ps next wanted h =
+    same_scripts s ps (λ t e. ap (λ (q : List ProofTree × Scope). q.0) (one_answer wanted (map (stored_proof t) ps, next) (map (stored_proof s) ps, next) (h t e) (h s (Extends-refl s))))
 
 -- ---- machines
 

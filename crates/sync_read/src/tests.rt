@@ -132,6 +132,37 @@ fn refused_statements(rt: HostRuntime) -> Result<(), Fail> {
     Ok(())
 }
 
+/// What a whole expression breaks stands at its opening bracket, so it comes before the names inside.
+#[test]
+fn refused_brackets(rt: HostRuntime) -> Result<(), Fail> {
+    let wanted: [(&[u8], u32, Rule); 13] = [
+        (b"require\n(q + 1);", 8, Rule::N6),
+        (b"require\n(\nq + 1);", 8, Rule::N6),
+        (b"require\n(\nq) + 1;", 8, Rule::N6),
+        (b"require\n((\nget(m)));", 8, Rule::N6),
+        (b"require\n(\nget(m) + 1);", 8, Rule::N6),
+        (b"update c =\n(\nq <= 1);", 8, Rule::N6),
+        (b"require c =\n(\nq = m);", 8, Rule::N6),
+        (b"add m += [k => 1 +\n(\nq && c = 0)];", 8, Rule::N6),
+        // the sort of the whole is right, or not known
+        (b"update c =\n(\nq + 1);", 9, Rule::N1),
+        (b"require (c +\nget(m)) = 0;", 8, Rule::N3),
+        (b"require\n(\nq);", 9, Rule::N1),
+        // the bracket comes later
+        (b"update c =\nq + (\n1 <= 2);", 8, Rule::N1),
+        (b"require\nq + (1 <= 2);", 8, Rule::N1),
+    ];
+    for (act, line, rule) in wanted {
+        let text = with_act(&rt, act)?;
+        assert_eq!(rt;
+            refusal(rt.alloc(), text.as_slice()),
+            Some((line, rule)),
+            "at {rule:?} {line}"
+        );
+    }
+    Ok(())
+}
+
 #[test]
 fn refused_texts(rt: HostRuntime) {
     let wanted: [(&[u8], u32, Rule); 12] = [
@@ -219,20 +250,39 @@ fn chain(rt: &HostRuntime, item: &[u8]) -> Result<Vec<u8>, Fail> {
     Ok(sum)
 }
 
-#[test]
-fn a_large_formula(rt: HostRuntime) -> Result<(), Fail> {
+/// An invariant of more than 1,000,000 nodes, which begins so; its first line is 2.
+fn large(rt: &HostRuntime, first: &[u8]) -> Result<Vec<u8>, Fail> {
     let mut item = Vec::new(rt.alloc());
     for _ in 0..64 {
         item.push(b'-')?;
     }
     item.push(b'x')?;
-    let half = chain(&rt, chain(&rt, item.as_slice())?.as_slice())?;
+    let half = chain(rt, chain(rt, item.as_slice())?.as_slice())?;
     let mut text = Vec::new(rt.alloc());
     text.extend_from_slice(b"version 1; machine M { invariant i():\n")?;
+    text.extend_from_slice(first)?;
     text.extend_from_slice(half.as_slice())?;
     text.extend_from_slice(b"\n<= ")?;
     text.extend_from_slice(half.as_slice())?;
     text.extend_from_slice(b"; }")?;
-    assert_eq!(rt; refusal(rt.alloc(), text.as_slice()), Some((2, Rule::N5)));
+    Ok(text)
+}
+
+#[test]
+fn a_large_formula(rt: HostRuntime) -> Result<(), Fail> {
+    // `x` is unknown; only where the formula begins with it does it come first
+    let wanted: [(&[u8], Rule); 3] = [
+        (b"", Rule::N5),
+        (b"(\nx) + ", Rule::N5),
+        (b"x + ", Rule::N1),
+    ];
+    for (first, rule) in wanted {
+        let text = large(&rt, first)?;
+        assert_eq!(rt;
+            refusal(rt.alloc(), text.as_slice()),
+            Some((2, rule)),
+            "at {rule:?}"
+        );
+    }
     Ok(())
 }

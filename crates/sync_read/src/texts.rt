@@ -3,6 +3,7 @@ ghost use Rattle.std.specs.Prelude.{◌≡◌, IfOk};
 ghost use Rattle.sync_base.specs.Outcome.{Gives};
 ghost use Rattle.sync_machine.specs.Views.{machine_tree, HasOwnIds};
 ghost use Rattle.sync_machine.specs.Naming.{AreTextNames};
+ghost use Rattle.sync_induct.specs.Checks.{AreScriptsOf};
 ghost use Rattle.sync_read.specs.declared.texts.Text.{Text};
 ghost use Rattle.sync_read.specs.Texts.{first_scope, resolved, text_tree};
 
@@ -49,6 +50,7 @@ pub fn resolve(alloc: Global, raw: RawText) -> Result<Text, Stop>
     ensures exact { Gives text_tree result (resolved raw) }
     ensures ids { IfOk result (λ (t : Text). HasOwnIds t.machine) }
     ensures names { IfOk result (λ (t : Text). AreTextNames (machine_tree t.machine)) }
+    ensures scripts { IfOk result (λ (t : Text). AreScriptsOf t.machine.terms t.proofs.list) }
 {
     let mut scope = first_scope(alloc, raw.names.list.len())?;
     let Machine {

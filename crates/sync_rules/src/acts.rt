@@ -13,7 +13,7 @@ use sync_machine::{Act, Field, Strategy};
 
 /// The field that a statement operates on, if it operates on one.
 #[tactic(auto, unfolding(sync_machine::specs::Statements::field_of))]
-pub(crate) fn field_of(act: &Act) -> Option<u32>
+pub fn field_of(act: &Act) -> Option<u32>
     ensures { (s : Stored) → result ≡ statements.field_of (act_tree s act.now) }
 {
     match *act {
@@ -77,7 +77,7 @@ pub(crate) fn strategy_at(fields: &[Field], field: u32) -> Strategy
 }
 
 /// The strategy of the field that a statement operates on.
-pub(crate) fn strategy_of(fields: &[Field], act: &Act) -> Strategy
+pub fn strategy_of(fields: &[Field], act: &Act) -> Strategy
     ensures { (s : Stored) → result ≡ states.strategy_of fields.now (act_tree s act.now) }
 {
     match field_of(act) {

@@ -12,6 +12,7 @@ mod matrix;
 mod order;
 mod shapes;
 
+pub use acts::{field_of, strategy_of};
 pub use checking::check_ops;
 pub use claims::{Claim, Obligation};
 pub use kinds::OpKind;

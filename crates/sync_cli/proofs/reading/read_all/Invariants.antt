@@ -1,6 +1,6 @@
 use Rattle.std.proofs.Common.{◌≡◌, ◌+◌, ◌-◌, ◌≤◌, vec_len}
 use Rattle.sync_base.specs.Outside.{GivesFront}
-use Rattle.sync_cli.specs.Checking.{most_bytes}
+use Rattle.sync_check.specs.Checking.{most_bytes}
 use Rattle.sync_cli.proofs.reading.read_all.Given as goal
 
 abbrev pub invariant-loop-text : goal.invariant-loop-text

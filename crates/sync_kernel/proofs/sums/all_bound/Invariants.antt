@@ -1,8 +1,7 @@
 use Rattle.std.proofs.Common.{◌≡◌, drop}
 use Rattle.std.specs.List.{list_all}
 use Rattle.sync_kernel.specs.declared.rows.Used.{Used}
-use Rattle.sync_kernel.specs.Steps.{is_bound, one_apart}
-use Rattle.sync_kernel.proofs.Parts.{apart_rest}
+use Rattle.sync_kernel.specs.Steps.{is_bound}
 use Rattle.sync_kernel.proofs.sums.all_bound.Given as goal
 
 abbrev pub invariant-loop-one : goal.invariant-loop-one

@@ -1,4 +1,3 @@
-use Rattle.std.proofs.Common.{◌≡◌, ◌∙◌, sym}
 use Rattle.std.proofs.lemmas.Bool.{both_ways}
 use Rattle.sync_kernel.proofs.Closing.{closes_shown, closes_zero, closes_not}
 use Rattle.sync_kernel.proofs.sums.closes.Goals as goal

@@ -1,7 +1,5 @@
 use Rattle.std.proofs.Common.{◌≡◌, drop}
-use Rattle.std.specs.List.{list_all}
-use Rattle.sync_kernel.specs.declared.rows.Used.{Used}
-use Rattle.sync_kernel.specs.Steps.{is_bound, one_apart}
+use Rattle.sync_kernel.specs.Steps.{one_apart}
 use Rattle.sync_kernel.proofs.Parts.{apart_rest}
 use Rattle.sync_kernel.proofs.sums.one_apart.Given as goal
 

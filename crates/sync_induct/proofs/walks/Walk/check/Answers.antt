@@ -1,17 +1,48 @@
-use Rattle.std.proofs.Common.{sym}
-use Rattle.sync_induct.proofs.Plain.{duty_at, owed-none, owed-some, no-fault, no-duty, passes-one, proved-one}
+use Rattle.sync_terms.proofs.Extending.{Extends-trans}
+use Rattle.sync_induct.specs.Checks.{proofs_in, duty_of}
+use Rattle.sync_induct.proofs.Judging.{large-claim}
+use Rattle.sync_induct.proofs.Keeping.{size-stays}
+use Rattle.sync_induct.proofs.Lasting.{forms-stay}
+use Rattle.sync_induct.proofs.Scripts.{scripts-stay, duty-over}
+use Rattle.sync_induct.proofs.Stating.{answer-is, stop-is, built-none, obligation_of, passes-owed, shown-owed, owed-nothing, shown-nothing, large-owed}
 use Rattle.sync_induct.proofs.walks.Walk.check.Goals as goal
 
-pub returns-in_default-clause-exact : goal.returns-in_default-clause-exact
-returns-in_default-clause-exact c = no-fault _ _ (owed-none c.args.terms.now c.args.fields.now c.args.op c.args.number c.args.self.now c.args.step c.requires.walkable (sym c.in_default.ensures))
+pub judge-requires-clause-hyps : goal.judge-requires-clause-hyps
+judge-requires-clause-hyps c = forms-stay c.args.terms.now c.safety.new.terms c.in-Ok-Some.ensures.keeps c.args.self.now.sequent.hyps c.requires.walk.hyps
 
-pub returns-in_default-clause-proved : goal.returns-in_default-clause-proved
-returns-in_default-clause-proved c = no-duty _ (owed-none c.args.terms.now c.args.fields.now c.args.op c.args.number c.args.self.now c.args.step c.requires.walkable (sym c.in_default.ensures))
+pub judge-requires-clause-size : goal.judge-requires-clause-size
+judge-requires-clause-size c = size-stays c.args.terms.now c.safety.new.terms c.in-Ok-Some.ensures.keeps c.args.self.now c.requires.walk
 
-pub returns-clause-exact : goal.returns-clause-exact
-returns-clause-exact c = passes-one c.judge.result _ (duty_at c.args.terms.now c.args.op c.args.number c.args.self.now c.args.step c.in-Some.form) _
-    (owed-some c.args.terms.now c.args.fields.now c.args.op c.args.number c.args.self.now c.args.step c.in-Some.form c.requires.walkable (sym c.in-Some.ensures)) c.judge.ensures.exact
+pub judge-requires-clause-scripts : goal.judge-requires-clause-scripts
+judge-requires-clause-scripts c = scripts-stay c.args.terms.now c.safety.new.terms c.in-Ok-Some.ensures.keeps c.args.book.proofs.now c.requires.scripts
 
-pub returns-clause-proved : goal.returns-clause-proved
-returns-clause-proved c = proved-one c.judge.result (duty_at c.args.terms.now c.args.op c.args.number c.args.self.now c.args.step c.in-Some.form) _
-    (owed-some c.args.terms.now c.args.fields.now c.args.op c.args.number c.args.self.now c.args.step c.in-Some.form c.requires.walkable (sym c.in-Some.ensures)) c.judge.ensures.valid
+pub returns-in-Ok-Some-clause-exact : goal.returns-in-Ok-Some-clause-exact
+returns-in-Ok-Some-clause-exact c =
+    passes-owed c.args.terms.now c.safety.new.terms c.in-Ok-Some.ensures.keeps c.args.self.now c.requires.walk c.args.statement c.in-Ok-Some.claim
+    (answer-is c.safety.new.terms _ _ _ c.in-Ok-Some.field-0-is c.in-Ok-Some.ensures.built.value) c.judge.result (proofs_in c.args.terms.now c.args.book.proofs.now)
+    (duty-over c.args.terms.now c.safety.new.terms c.in-Ok-Some.ensures.keeps c.args.book.proofs.now c.requires.scripts c.judge.result
+    (duty_of c.safety.new.terms c.args.self.now.sequent.hyps c.in-Ok-Some.claim (obligation_of c.args.statement)) c.judge.ensures.exact)
+
+pub returns-in-Ok-Some-clause-shown : goal.returns-in-Ok-Some-clause-shown
+returns-in-Ok-Some-clause-shown c =
+    shown-owed c.args.terms.now c.safety.new.terms c.in-Ok-Some.ensures.keeps c.args.self.now c.requires.walk c.args.statement c.in-Ok-Some.claim
+    (answer-is c.safety.new.terms _ _ _ c.in-Ok-Some.field-0-is c.in-Ok-Some.ensures.built.value) c.judge.result c.judge.ensures.valid
+
+pub returns-in-Ok-Some-clause-keeps : goal.returns-in-Ok-Some-clause-keeps
+returns-in-Ok-Some-clause-keeps c = Extends-trans c.in-Ok-Some.ensures.keeps c.judge.ensures.keeps
+
+pub returns-in-Ok-None-clause-exact : goal.returns-in-Ok-None-clause-exact
+returns-in-Ok-None-clause-exact c =
+    owed-nothing c.args.terms.now c.args.self.now c.args.statement (proofs_in c.args.terms.now c.args.book.proofs.now)
+    (built-none c.safety.new.terms _ (answer-is c.safety.new.terms _ _ _ c.in-Ok-None.field-0-is c.in-Ok-None.ensures.built.value))
+
+pub returns-in-Ok-None-clause-shown : goal.returns-in-Ok-None-clause-shown
+returns-in-Ok-None-clause-shown c =
+    shown-nothing c.args.terms.now c.args.self.now c.args.statement
+    (built-none c.safety.new.terms _ (answer-is c.safety.new.terms _ _ _ c.in-Ok-None.field-0-is c.in-Ok-None.ensures.built.value))
+
+pub returns-in-Err-TooLarge-clause-exact : goal.returns-in-Err-TooLarge-clause-exact
+returns-in-Err-TooLarge-clause-exact c =
+    large-owed c.args.terms.now c.args.self.now c.args.statement (proofs_in c.args.terms.now c.args.book.proofs.now) (Unit {0}) c.too_large.result
+    (stop-is _ _ c.in-Err-TooLarge.field-0-is c.in-Err-TooLarge.ensures.built.stop)
+    (λ d same large. c.too_large.ensures c.args.terms.now d same (large-claim d large))

@@ -1,19 +1,25 @@
-use Rattle.std.proofs.Common.{◌+◌, Bool, true, false, refl, rules}
+use Rattle.std.proofs.Common.{◌+◌, Bool, true, false, Err, refl, rules}
 use Rattle.std.specs.HashSet.{contains}
 use Rattle.sync_terms.proofs.Extending.{Extends-refl, Extends-trans}
-use Rattle.sync_machine.specs.Views.{operation_tree}
-use Rattle.sync_induct.specs.Checks.{proof_trees}
+use Rattle.sync_machine.specs.Views.{operation_tree, invariant_tree}
+use Rattle.sync_rules.specs.declared.claims.Claim.TheVariants as claims
+use Rattle.sync_induct.specs.Duties.{kept_duty}
+use Rattle.sync_induct.specs.Checks.{proofs_in}
 use Rattle.sync_induct.specs.Titles.{same_title}
 use Rattle.sync_induct.specs.Walks.{values_of, known_of}
 use Rattle.sync_induct.proofs.Keeping.{kept_from, wanted-is, kept-end, same-keeping, keeping-skips, keeping-passes, keeping-refused}
-use Rattle.sync_induct.proofs.Remaining.{remains-none, remains-proved, remains-whole}
+use Rattle.sync_induct.proofs.Remaining.{remains-none, remains-shown, remains-whole}
+use Rattle.sync_induct.proofs.Scripts.{scripts-stay, duty-over, duty-none_over}
 use Rattle.sync_induct.proofs.walks.Walk.keep.Goals.{then-contains+in_ok-keep_one, else-contains}
 use Rattle.sync_induct.proofs.walks.Walk.keep.Goals as goal
 
 pub loop-j-init : goal.loop-j-init
 loop-j-init c =
     let s = c.args.terms.now in
-    record { keeps = Extends-refl s; stands = c.requires.walk; hyps = refl; current = refl; left = remains-whole (proof_trees c.args.book.proofs.now) _ }
+    record { keeps = Extends-refl s; stands = c.requires.walk; hyps = refl; current = refl; left = remains-whole (proofs_in c.args.terms.now c.args.book.proofs.now) _ }
+
+pub keep_one-requires-clause-scripts : goal.keep_one-requires-clause-scripts
+keep_one-requires-clause-scripts c = scripts-stay c.args.terms.now c.loop-j.terms c.loop-j.invariant.keeps c.args.book.proofs.now c.requires.scripts
 
 pub returns-in_err-keep_one-clause-exact : goal.returns-in_err-keep_one-clause-exact
 returns-in_err-keep_one-clause-exact c =
@@ -27,8 +33,10 @@ returns-in_err-keep_one-clause-exact c =
     let is = c.index-invariants-j.is in
     let n = c.in_ok-number.ensures in
     let wanted = wanted-is s o c.args.op (known_of s w) (values_of s w) xs j x lt is (contains same_title c.args.book.wanted.now) c.in_ok-number.field-0 c.new.result c.contains.result true c.requires.wanted n c.new.ensures c.contains.ensures c.if-contains.true in
-    let h = keeping-refused s c.loop-j.terms w c.loop-j.self o c.args.op xs (proof_trees c.args.book.proofs.now) j c.in_ok-number.field-0 x lt is n c.requires.walk c.requires.invariants c.loop-j.invariant
-    (Unit {0}) (Unit {0}) c.in_err-keep_one.field-0.0 wanted c.in_err-keep_one.ensures.exact in
+    let h = keeping-refused s c.loop-j.terms w c.loop-j.self o c.args.op xs (proofs_in c.args.terms.now c.args.book.proofs.now) j c.in_ok-number.field-0 x lt is n c.requires.walk c.requires.invariants c.loop-j.invariant
+    (Unit {0}) (Unit {0}) c.in_err-keep_one.field-0.0 wanted
+    (duty-over s c.loop-j.terms c.loop-j.invariant.keeps c.args.book.proofs.now c.requires.scripts {A = Unit {0}} (Err c.in_err-keep_one.field-0.0)
+    (kept_duty (record { op = c.args.op; claim = claims.Keeps c.in_ok-number.field-0; line = o.line }) (known_of c.loop-j.terms c.loop-j.self) (values_of c.loop-j.terms c.loop-j.self) (invariant_tree c.loop-j.terms x)) c.in_err-keep_one.ensures.exact) in
     search rules
 
 pub returns-in_err-keep_one-clause-keeps : goal.returns-in_err-keep_one-clause-keeps
@@ -42,7 +50,7 @@ loop-j-preserved c =
     let v = c.loop-j.self in
     let o = operation_tree s c.args.operation.now in
     let xs = c.args.invariants.now in
-    let ps = proof_trees c.args.book.proofs.now in
+    let ps = proofs_in c.args.terms.now c.args.book.proofs.now in
     let j = c.loop-j.j in
     let x = c.index-invariants-j.result in
     let lt = c.loop-j-test.true in
@@ -53,7 +61,8 @@ loop-j-preserved c =
       | then-contains+in_ok-keep_one b ↦
           let e = b.in_ok-keep_one.ensures in
           same-keeping s b.keep_one.new.terms c.if-contains.terms w b.keep_one.new.self c.if-contains.self o c.args.op xs ps (j + 1) b.terms-is b.self-is
-          (keeping-passes s t w v o c.args.op xs ps j c.in_ok-number.field-0 x lt is n c.requires.walk c.requires.invariants c.loop-j.invariant b.keep_one.new.terms b.keep_one.new.self (wanted true b.if-contains.true) e.keeps e.hyps e.current e.size e.exact e.proved)
+          (keeping-passes s t w v o c.args.op xs ps j c.in_ok-number.field-0 x lt is n c.requires.walk c.requires.invariants c.loop-j.invariant b.keep_one.new.terms b.keep_one.new.self (wanted true b.if-contains.true) e.keeps e.hyps e.current e.size (duty-none_over s t c.loop-j.invariant.keeps c.args.book.proofs.now c.requires.scripts
+          (kept_duty (record { op = c.args.op; claim = claims.Keeps c.in_ok-number.field-0; line = o.line }) (known_of c.loop-j.terms c.loop-j.self) (values_of c.loop-j.terms c.loop-j.self) (invariant_tree c.loop-j.terms x)) e.exact) e.proved)
       | else-contains b ↦
           same-keeping s t c.if-contains.terms w v c.if-contains.self o c.args.op xs ps (j + 1) b.terms-is b.self-is
           (keeping-skips s t w v o c.args.op xs ps j c.in_ok-number.field-0 x lt is n c.requires.walk c.requires.invariants c.loop-j.invariant (wanted false b.if-contains.false))
@@ -64,7 +73,7 @@ returns c =
     let s = c.args.terms.now in
     let w = c.args.self.now in
     let o = operation_tree s c.args.operation.now in
-    let ps = proof_trees c.args.book.proofs.now in
+    let ps = proofs_in c.args.terms.now c.args.book.proofs.now in
     let all = kept_from s o c.args.op (known_of s w) (values_of s w) c.args.invariants.now 0 in
     let left = kept-end s o c.args.op (known_of s w) (values_of s w) c.args.invariants.now c.loop-j.j ps all c.loop-j-test.false c.loop-j.invariant.left in
-    record { exact = remains-none ps all left; proved = remains-proved ps all left; keeps = c.loop-j.invariant.keeps }
+    record { exact = remains-none ps all left; shown = remains-shown ps all left; keeps = c.loop-j.invariant.keeps }

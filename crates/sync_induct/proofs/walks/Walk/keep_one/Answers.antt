@@ -1,12 +1,13 @@
 use Rattle.std.proofs.Common.{refl}
 use Rattle.sync_terms.proofs.Extending.{Extends-trans}
 use Rattle.sync_machine.specs.Views.{invariant_tree}
-use Rattle.sync_induct.specs.Checks.{proof_trees}
+use Rattle.sync_induct.specs.Checks.{proofs_in, duty_of}
 use Rattle.sync_induct.specs.Duties.{kept_duty}
 use Rattle.sync_induct.specs.Walks.{values_of, known_of}
 use Rattle.sync_induct.proofs.Judging.{large-claim}
 use Rattle.sync_induct.proofs.Keeping.{size-stays, passes-kept, proved-kept}
 use Rattle.sync_induct.proofs.Lasting.{forms-stay}
+use Rattle.sync_induct.proofs.Scripts.{scripts-stay, duty-over}
 use Rattle.sync_induct.proofs.walks.Walk.keep_one.Goals as goal
 
 pub judge-requires-clause-hyps : goal.judge-requires-clause-hyps
@@ -15,10 +16,15 @@ judge-requires-clause-hyps c = forms-stay c.args.terms.now c.closed.new.terms c.
 pub judge-requires-clause-size : goal.judge-requires-clause-size
 judge-requires-clause-size c = size-stays c.args.terms.now c.closed.new.terms c.in-Ok.ensures.keeps c.args.self.now c.requires.walk
 
+pub judge-requires-clause-scripts : goal.judge-requires-clause-scripts
+judge-requires-clause-scripts c = scripts-stay c.args.terms.now c.closed.new.terms c.in-Ok.ensures.keeps c.args.book.proofs.now c.requires.scripts
+
 pub returns-in-Ok-clause-exact : goal.returns-in-Ok-clause-exact
 returns-in-Ok-clause-exact c =
     passes-kept c.args.terms.now c.closed.new.terms c.in-Ok.ensures.keeps c.args.self.now c.requires.walk c.in-Ok.claim c.args.obligation (invariant_tree c.args.terms.now c.args.invariant.now) c.in-Ok.ensures.value.1
-    c.judge.result (proof_trees c.args.book.proofs.now) c.judge.ensures.exact
+    c.judge.result (proofs_in c.args.terms.now c.args.book.proofs.now)
+    (duty-over c.args.terms.now c.closed.new.terms c.in-Ok.ensures.keeps c.args.book.proofs.now c.requires.scripts c.judge.result
+    (duty_of c.closed.new.terms c.args.self.now.sequent.hyps c.in-Ok.claim c.args.obligation) c.judge.ensures.exact)
 
 pub returns-in-Ok-clause-proved : goal.returns-in-Ok-clause-proved
 returns-in-Ok-clause-proved c =
@@ -31,4 +37,4 @@ returns-in-Ok-clause-keeps c = Extends-trans c.in-Ok.ensures.keeps c.judge.ensur
 pub returns-in-Err-TooLarge-clause-exact : goal.returns-in-Err-TooLarge-clause-exact
 returns-in-Err-TooLarge-clause-exact c =
     let d = kept_duty c.args.obligation (known_of c.args.terms.now c.args.self.now) (values_of c.args.terms.now c.args.self.now) (invariant_tree c.args.terms.now c.args.invariant.now) in
-    c.too_large.ensures d refl (large-claim d (c.closed.ensures.too_large (cc)))
+    c.too_large.ensures c.args.terms.now d refl (large-claim d (c.closed.ensures.too_large (cc)))

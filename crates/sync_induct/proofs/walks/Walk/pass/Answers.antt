@@ -1,12 +1,63 @@
-use Rattle.sync_induct.proofs.Passing.{passed-form, passed-value, passed-over}
+use Rattle.std.proofs.Common.{Err, refl, rules}
+use Rattle.sync_terms.proofs.Extending.{Extends-trans}
+use Rattle.sync_induct.specs.Checks.{proofs_in}
+use Rattle.sync_induct.proofs.Lasting.{walk-stays}
+use Rattle.sync_induct.proofs.Scripts.{scripts-stay, checks-over, none-over}
+use Rattle.sync_induct.proofs.Stating.{safety-refused, known-refused, statement-passes, statement-shown, statement-comes}
 use Rattle.sync_induct.proofs.walks.Walk.pass.Goals as goal
 
-pub returns-in_default : goal.returns-in_default
-returns-in_default c = passed-over c.args.terms.now c.args.fields.now c.args.number c.args.self.now c.args.step c.requires.walk c.requires.walkable
-    c.in_default.not-Require c.in_default.not-Assert c.in_default.not-Init c.in_default.not-Update
+pub check-requires-clause-walk : goal.check-requires-clause-walk
+check-requires-clause-walk c = walk-stays c.args.terms.now c.meet.new.terms c.in_ok-statement.ensures.keeps c.args.self.now c.args.self.now c.requires.walk refl refl refl
 
-pub returns-in-Init : goal.returns-in-Init
-returns-in-Init c = passed-value c.args.terms.now c.args.fields.now c.args.number c.args.self.now _ c.args.step c.in-Init.field c.in-Init.term c.requires.walkable c.in-Init.is c.assign.ensures
+pub check-requires-clause-scripts : goal.check-requires-clause-scripts
+check-requires-clause-scripts c = scripts-stay c.args.terms.now c.meet.new.terms c.in_ok-statement.ensures.keeps c.args.book.proofs.now c.requires.scripts
 
-pub returns-in-Require : goal.returns-in-Require
-returns-in-Require c = passed-form c.args.terms.now c.args.fields.now c.args.number c.args.self.now _ c.args.step c.in-Require.form c.learn.result c.requires.walkable c.in-Require.is c.learn.ensures
+pub returns-in_err-check-clause-exact : goal.returns-in_err-check-clause-exact
+returns-in_err-check-clause-exact c =
+    let h = safety-refused c.args.terms.now c.meet.new.terms c.in_ok-statement.ensures.keeps c.args.self.now c.requires.walk c.args.fields.now c.args.op c.args.number c.args.step c.in_ok-statement.statement c.in_ok-statement.ensures.is
+    (proofs_in c.args.terms.now c.args.book.proofs.now) (Unit {0}) (Unit {0}) c.in_err-check.field-0.0
+    (checks-over c.args.terms.now c.meet.new.terms c.in_ok-statement.ensures.keeps c.args.book.proofs.now c.requires.scripts {A = Unit {0}} (Err c.in_err-check.field-0.0) _ c.in_err-check.ensures.exact) in
+    search rules
+
+pub returns-in_err-check-clause-keeps : goal.returns-in_err-check-clause-keeps
+returns-in_err-check-clause-keeps c = Extends-trans c.in_ok-statement.ensures.keeps c.in_err-check.ensures.keeps
+
+pub learn-requires-clause-walk : goal.learn-requires-clause-walk
+learn-requires-clause-walk c =
+    let e = c.in_ok-check.ensures in
+    walk-stays c.args.terms.now c.check.new.terms (Extends-trans c.in_ok-statement.ensures.keeps e.keeps) c.args.self.now c.check.new.self c.requires.walk e.hyps e.current e.size
+
+pub returns-in_err-learn-clause-exact : goal.returns-in_err-learn-clause-exact
+returns-in_err-learn-clause-exact c =
+    let e = c.in_ok-check.ensures in
+    let h = known-refused c.args.terms.now c.meet.new.terms c.in_ok-statement.ensures.keeps c.args.self.now c.requires.walk c.args.fields.now c.args.op c.args.number c.args.step c.in_ok-statement.statement c.in_ok-statement.ensures.is
+    (proofs_in c.args.terms.now c.args.book.proofs.now) (none-over c.args.terms.now c.meet.new.terms c.in_ok-statement.ensures.keeps c.args.book.proofs.now c.requires.scripts _ e.exact) e.shown c.check.new.terms e.keeps (Unit {0}) (Unit {0}) c.in_err-learn.field-0.0 c.in_err-learn.ensures.exact in
+    search rules
+
+pub returns-in_err-learn-clause-keeps : goal.returns-in_err-learn-clause-keeps
+returns-in_err-learn-clause-keeps c = Extends-trans c.in_ok-statement.ensures.keeps (Extends-trans c.in_ok-check.ensures.keeps c.in_err-learn.ensures.keeps)
+
+pub returns-clause-exact : goal.returns-clause-exact
+returns-clause-exact c =
+    let e = c.in_ok-check.ensures in
+    let l = c.in_ok-learn.ensures in
+    statement-passes c.args.terms.now c.meet.new.terms c.in_ok-statement.ensures.keeps c.args.self.now c.requires.walk c.args.fields.now c.args.op c.args.number c.args.step c.in_ok-statement.statement c.in_ok-statement.ensures.is
+    (proofs_in c.args.terms.now c.args.book.proofs.now) (none-over c.args.terms.now c.meet.new.terms c.in_ok-statement.ensures.keeps c.args.book.proofs.now c.requires.scripts _ e.exact) e.shown c.check.new.terms e.keeps l.exact c.learn.new.terms l.keeps c.leave.result c.leave.ensures.exact
+
+pub returns-clause-shown : goal.returns-clause-shown
+returns-clause-shown c =
+    let e = c.in_ok-check.ensures in
+    let l = c.in_ok-learn.ensures in
+    statement-shown c.args.terms.now c.meet.new.terms c.in_ok-statement.ensures.keeps c.args.self.now c.requires.walk c.args.fields.now c.args.op c.args.number c.args.step c.in_ok-statement.statement c.in_ok-statement.ensures.is
+    (proofs_in c.args.terms.now c.args.book.proofs.now) (none-over c.args.terms.now c.meet.new.terms c.in_ok-statement.ensures.keeps c.args.book.proofs.now c.requires.scripts _ e.exact) e.shown c.check.new.terms e.keeps l.exact c.learn.new.terms l.keeps c.leave.result
+
+pub returns-clause-come : goal.returns-clause-come
+returns-clause-come c =
+    let e = c.in_ok-check.ensures in
+    let l = c.in_ok-learn.ensures in
+    statement-comes c.args.terms.now c.meet.new.terms c.in_ok-statement.ensures.keeps c.args.self.now c.requires.walk c.args.fields.now c.args.op c.args.number c.args.step c.in_ok-statement.statement c.in_ok-statement.ensures.is
+    (proofs_in c.args.terms.now c.args.book.proofs.now) (none-over c.args.terms.now c.meet.new.terms c.in_ok-statement.ensures.keeps c.args.book.proofs.now c.requires.scripts _ e.exact) e.shown c.check.new.terms e.keeps l.exact c.learn.new.terms l.keeps c.leave.result
+    c.check.new.self c.learn.new.self c.leave.new.self c.leave.new.terms e.hyps e.current l.come c.leave.ensures.come
+
+pub returns-clause-keeps : goal.returns-clause-keeps
+returns-clause-keeps c = Extends-trans c.in_ok-statement.ensures.keeps (Extends-trans c.in_ok-check.ensures.keeps (Extends-trans c.in_ok-learn.ensures.keeps c.leave.ensures.keeps))

@@ -1,8 +1,6 @@
-use Rattle.sync_linear.specs.Stores.{IsLineOf}
 use Rattle.sync_terms.specs.Trees.{Sub}
 use Rattle.sync_terms.specs.Stored.{tree}
 use Rattle.std.proofs.lemmas.Result.{err_from_is_err_and}
-use Rattle.sync_linear.specs.declared.stops.LinearStop.TheVariants.{Width}
 use Rattle.sync_kernel.proofs.LineRows.{sub_wide, strict_line, strict_narrow, strict_width, plain_line, plain_narrow, sub_line, sub_narrow}
 use Rattle.sync_kernel.proofs.rows.Shape.line.Goals as goal
 

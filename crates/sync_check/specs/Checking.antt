@@ -1,0 +1,50 @@
+-- What checking a text gives, and what an accepted text means.
+use Rattle.std.specs.Prelude.{◌≡◌, ℕ, ◌<◌, List, length, Option, Some, None, Result, Ok, Err}
+use Rattle.std.proofs.Common.{refl}
+use Rattle.std.proofs.lemmas.Bool.{lt-ltb}
+use Rattle.sync_base.specs.declared.stops.Refusal.{Refusal}
+use Rattle.sync_base.specs.declared.stops.Rule.TheVariants.{L1}
+use Rattle.sync_base.specs.Outcome.{first, ◌>>=◌}
+use Rattle.sync_lex.specs.Lexemes.{lexemes_of}
+use Rattle.sync_tokens.specs.Words.{worded}
+use Rattle.sync_parse.specs.Machines.{parsed}
+use Rattle.sync_machine.specs.Machines.{MachineTree}
+use Rattle.sync_machine.specs.Naming.{machine_fault}
+use Rattle.sync_machine.specs.States.{HoldsAlways}
+use Rattle.sync_rules.specs.Faults.{strategy_fault}
+use Rattle.sync_induct.specs.Checks.{proof_fault}
+use Rattle.sync_read.specs.Texts.{TextTree, resolved}
+
+-- the most bytes that a text may have
+abbrev pub most_bytes : ℕ
+most_bytes = 1048576
+
+-- the machine and the proofs that the bytes of a text spell, or the first rule of lexemes, grammar or names that they break
+abbrev pub spelled : List ℕ → Result TextTree Refusal
+spelled bytes = parsed bytes >>= resolved
+
+-- the first rule of names or of strategies that a machine breaks
+abbrev pub form_fault : MachineTree → Option Refusal
+form_fault m = first (machine_fault m) (strategy_fault m)
+
+-- the answer, where no rule is broken
+abbrev pub unless : {A : Type 0} → Option Refusal → A → Result A Refusal
+unless None answer = Ok answer
+unless (Some refusal) answer = Err refusal
+
+-- the number of a text's scripts, or the first rule that it breaks
+abbrev pub judged : TextTree → Result ℕ Refusal
+judged t = unless (first (form_fault t.machine) (proof_fault t.machine t.proofs)) (length t.proofs)
+
+unfoldable pub verdict_of : List ℕ → Result ℕ Refusal
+verdict_of bytes = spelled bytes >>= judged
+
+-- The bytes spell a machine with so many scripts, and it holds always: each state that it reaches by declared steps meets
+-- all its invariants, and no safety condition and no assertion fails at one.
+unfoldable pub IsAccepted : List ℕ → ℕ → Type 0
+IsAccepted bytes scripts = (t : TextTree) × (spelled bytes ≡ Ok t) × HoldsAlways t.machine × (scripts ≡ length t.proofs)
+
+-- a text that is longer than the limit is refused for that
+pub spelled-too_long : (bytes : List ℕ) → most_bytes < length bytes → spelled bytes ≡ Err (record { line = 1; rule = L1 })
+unfolding parsed worded lexemes_of
+spelled-too_long bytes h = rw (lt-ltb most_bytes (length bytes) h) refl

@@ -1,0 +1,79 @@
+//! Checks one text.
+ghost use Rattle.std.specs.Prelude.{◌≡◌, length, IfOk, OnOk};
+ghost use Rattle.std.specs.List.{AllByRecursion};
+ghost use Rattle.sync_base.specs.Outcome.{Gives, Passes};
+ghost use Rattle.sync_machine.specs.Machines.{OperationTree};
+ghost use Rattle.sync_machine.specs.Naming.{AreTextNames};
+ghost use Rattle.sync_machine.specs.Scope.{IsNamed, ChangesNothing};
+ghost use Rattle.sync_machine.specs.States.{HoldsAlways};
+ghost use Rattle.sync_machine.specs.Views.{HasOwnIds, machine_tree};
+ghost use Rattle.sync_rules.specs.Strategies.{AreAllowed};
+ghost use Rattle.sync_induct.specs.Checks.{AreScriptsOf};
+ghost use Rattle.sync_read.specs.Texts.{text_tree};
+ghost use Rattle.sync_read.specs.declared.texts.Text.{Text};
+ghost use Rattle.sync_check.specs.Checking.{spelled, form_fault, judged, verdict_of, IsAccepted};
+
+use std::alloc::Global;
+use sync_base::Stop;
+use sync_induct::inductive;
+use sync_machine::{Machine, well_formed};
+use sync_parse::parse;
+use sync_read::{Text, resolve};
+use sync_rules::check_ops;
+
+/// The machine, the proofs and the names that the bytes of a text spell, or the first rule of lexemes, of the grammar or of
+/// names that they break.
+pub(crate) fn read(alloc: Global, bytes: &[u8]) -> Result<Text, Stop>
+    ensures exact { Gives text_tree result (spelled bytes.now) }
+    ensures ids { IfOk result (λ (t : Text). HasOwnIds t.machine) }
+    ensures names { IfOk result (λ (t : Text). AreTextNames (machine_tree t.machine)) }
+{
+    let raw = parse(alloc, bytes)?;
+    resolve(alloc, raw)
+}
+
+/// Whether a machine keeps the rules of names and of strategies; else the first that it breaks.
+pub(crate) fn has_form(m: &Machine) -> Result<(), Stop>
+    requires ids { HasOwnIds m.now }
+    requires names { AreTextNames (machine_tree m.now) }
+    ensures exact { Passes result (form_fault (machine_tree m.now)) }
+    ensures named { OnOk result (IsNamed (machine_tree m.now)) }
+    ensures allowed { OnOk result (AllByRecursion (λ (o : OperationTree). AreAllowed m.now.fields o.steps) (machine_tree m.now).ops) }
+    ensures still { OnOk result (AllByRecursion ChangesNothing (machine_tree m.now).ops) }
+{
+    match well_formed(m) {
+        Ok(()) => match check_ops(m) {
+            Ok(()) => Ok(()),
+            Err(refusal) => Err(Stop::Refused(refusal)),
+        },
+        Err(refusal) => Err(Stop::Refused(refusal)),
+    }
+}
+
+/// The number of a text's scripts, where its machine and its proofs break no rule.
+fn judge(alloc: Global, text: Text) -> Result<u64, Stop>
+    requires ids { HasOwnIds text.machine }
+    requires names { AreTextNames (machine_tree text.machine) }
+    requires scripts { AreScriptsOf text.machine.terms text.proofs.list }
+    ensures exact { Gives (λ scripts. scripts) result (judged (text_tree text)) }
+    ensures holds { OnOk result (HoldsAlways (machine_tree text.machine)) }
+    ensures scripts { IfOk result (λ scripts. scripts ≡ length (text_tree text).proofs) }
+{
+    has_form(&text.machine)?;
+    let scripts = text.proofs.list.len() as u64;
+    inductive(alloc, text.machine, text.proofs)?;
+    Ok(scripts)
+}
+
+/// The number of scripts of a text that keeps all rules, or its first broken rule.
+///
+/// The rules are taken layer by layer, each over the whole text: lexemes (L), grammar (G), names and sorts (N), strategies
+/// (S), and at last the proofs (I and K).
+#[tactic(auto, unfolding(crate::specs::Checking::verdict_of, crate::specs::Checking::IsAccepted))]
+pub fn check(alloc: Global, text: &[u8]) -> Result<u64, Stop>
+    ensures exact { Gives (λ scripts. scripts) result (verdict_of text.now) }
+    ensures sound { IfOk result (λ scripts. IsAccepted text.now scripts) }
+{
+    let text = read(alloc, text)?;
+    judge(alloc, text)
+}

@@ -1,6 +1,0 @@
-use Rattle.sync_read.specs.Texts.{text_tree}
-use Rattle.sync_cli.proofs.Accepting.{accepted}
-use Rattle.sync_cli.proofs.checking.check.Goals as goal
-
-pub returns-clause-sound : goal.returns-clause-sound
-returns-clause-sound c = accepted c.args.text.now c.in_ok-raw.raw (text_tree c.in_ok-text.text) c.judge.result c.in_ok-raw.ensures c.in_ok-text.ensures.exact c.judge.ensures.holds c.judge.ensures.scripts

@@ -1,0 +1,6 @@
+pub mod MapLaws
+pub mod Truths
+pub mod Making
+pub mod Drafting
+pub mod Origins
+pub mod Longer

@@ -1,0 +1,5 @@
+pub mod Lemmas
+pub mod Building
+pub mod Drafts
+pub mod Changes
+pub mod Laws

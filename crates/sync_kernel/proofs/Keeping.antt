@@ -1,0 +1,53 @@
+-- The lines that a sum has computed, while it computes one more.
+use Rattle.std.proofs.Common.{◌≡◌, ℕ, Bool, true, false, cond, Option, Some, None, refl, sym, ap, subst, ◌∙◌}
+use Rattle.std.specs.Prelude.{nat_eq, option_map, if◌then◌else◌}
+use Rattle.std.specs.Bool.{beq}
+use Rattle.std.proofs.lemmas.Bool.{and_parts, eqb-true, cond-true, cond-false}
+use Rattle.sync_terms.specs.Stored.{Stored}
+use Rattle.sync_linear.specs.Lines.{Line}
+use Rattle.sync_linear.specs.Forms.{Narrow}
+use Rattle.sync_linear.specs.Stores.{IsLineOf}
+use Rattle.sync_kernel.specs.declared.literals.Literal.{Literal}
+use Rattle.sync_kernel.specs.declared.branches.Known.{Known}
+use Rattle.sync_kernel.specs.declared.rows.Shape.{Shape}
+use Rattle.sync_kernel.specs.Shapes.{row_shaped}
+use Rattle.sync_kernel.specs.Literals.{literal_form, same_literal}
+use Rattle.sync_kernel.specs.Rows.{Row, row_of}
+use Rattle.sync_kernel.specs.Kept.{IsRowLine, AreLines}
+
+same_sign : (a b : Bool) → beq a b ≡ true → a ≡ b
+same_sign true true e = refl
+same_sign false false e = refl
+same_sign true false e = absurd (cc)
+same_sign false true e = absurd (cc)
+
+literal_is : (a b : Literal) → same_literal a b ≡ true → a ≡ b
+literal_is a b e =
+    let p = and_parts (nat_eq a.form.0 b.form.0) (beq a.negated b.negated) e in
+    ap (λ (n : ℕ). record { form = record { 0 = n }; negated = a.negated }) (eqb-true a.form.0 b.form.0 p.0) ∙ ap (λ (x : Bool). record { form = b.form; negated = x }) (same_sign a.negated b.negated p.1)
+
+pub no_lines : (s : Stored) (lines : Literal → Option Line) → ((l : Literal) → lines l ≡ None) → AreLines s lines
+no_lines s lines e = λ l x h. absurd (cc (e l))
+
+pub lines_more : (s : Stored) (old new : Literal → Option Line) (says : Literal) (row : Line) → AreLines s old → ((l : Literal) → new l ≡ cond (same_literal says l) (Some row) (old l)) → IsRowLine s (row_of (literal_form s says)) row → AreLines s new
+lines_more s old new says row h is r = λ l x e. by l x (same_literal says l) refl e
+  where
+    by : (l : Literal) (x : Line) (b : Bool) → same_literal says l ≡ b → new l ≡ Some x → IsRowLine s (row_of (literal_form s l)) x
+    by l x true q e =
+        let same : row ≡ x = cc (sym (cond-true (same_literal says l) (Some row) (old l) q) ∙ sym (is l) ∙ e) in
+        subst (λ (y : Line). IsRowLine s (row_of (literal_form s l)) y) same (subst (λ (k : Literal). IsRowLine s (row_of (literal_form s k)) row) (literal_is says l q) r)
+    by l x false q e = h l x (sym (cond-false (same_literal says l) (Some row) (old l) q) ∙ sym (is l) ∙ e)
+
+pub row_line : (s : Stored) (o : Option Row) (r : Row) (x : Line) → o ≡ Some r → IsRowLine s o x → IsLineOf s r.line x × Narrow r.line
+row_line s o r x e h = let p : IsRowLine s (Some r) x = subst (λ (y : Option Row). IsRowLine s y x) e h in p
+
+pub is_row_line : (s : Stored) (o : Option Row) (r : Row) (x : Line) → o ≡ Some r → IsLineOf s r.line x → Narrow r.line → IsRowLine s o x
+is_row_line s o r x e i n = subst (λ (y : Option Row). IsRowLine s y x) (sym e) (i, n)
+
+-- the line that a part wants
+pub shape_row : (s : Stored) (k : Known) (shape : Option Shape) (sh : Shape) → option_map (row_shaped s) shape ≡ (if k.plain then row_of (literal_form s k.says) else None) → shape ≡ Some sh → row_of (literal_form s k.says) ≡ Some (row_shaped s sh)
+shape_row s k shape sh e is = by k.plain (sym (ap (option_map (row_shaped s)) is) ∙ e)
+  where
+    by : (b : Bool) → Some (row_shaped s sh) ≡ (if b then row_of (literal_form s k.says) else None) → row_of (literal_form s k.says) ≡ Some (row_shaped s sh)
+    by true q = sym q
+    by false q = absurd (cc)

@@ -1,0 +1,284 @@
+use Rattle.std.proofs.Common.{rules, ◌≡◌, ℕ, List, [], ◌∷◌, ◌++◌, take, None, Err, refl, sym, ap, subst, ◌∙◌}
+use Rattle.std.specs.List.{All}
+use Rattle.std.proofs.lemmas.Result.{err_from_is_err_and}
+use Rattle.sync_base.specs.Outcome.{Passes}
+use Rattle.sync_terms.specs.declared.scripts.StepKind.TheOpen.{StepKind-F}
+use Rattle.sync_terms.specs.declared.scripts.StepKind.TheVariants.{rolls-Inst, rolls-Split, rolls-Cut, rolls-Read, rolls-Size, rolls-Total, rolls-Cong}
+use Rattle.sync_terms.specs.declared.scripts.StepKind as kind
+use Rattle.sync_terms.specs.declared.scripts.ScriptStep as step
+use Rattle.sync_terms.specs.declared.scripts.Block as block
+use Rattle.sync_terms.specs.Stored.{IsTerm, tree}
+use Rattle.sync_terms.specs.Plans.{plan_of}
+use Rattle.sync_terms.proofs.Extending.{Extends-trans}
+use Rattle.sync_facts.specs.Lemmas.{read_fact, size_fact, total_fact, cong_fact}
+use Rattle.sync_kernel.specs.declared.steps.Left.{Left}
+use Rattle.sync_kernel.specs.declared.branches.Said.{Said}
+use Rattle.sync_kernel.specs.Branches.{facts_in, AreSaid, Begins}
+use Rattle.sync_kernel.specs.Scripts.{then_of, with_fact, fitting, after, block_fault}
+use Rattle.sync_kernel.proofs.Fitting.{AreSaid-more, IsLiteral-more}
+use Rattle.sync_kernel.proofs.Scripting.{script-more, step-more, inst_ids, cut_id, cut_script, split_scripts, read_ids, size_ids, total_ids, cong_ids}
+use Rattle.sync_kernel.proofs.Stepping.{passes_err, err_refuses}
+use Rattle.sync_kernel.proofs.Adding.{add_said}
+use Rattle.sync_kernel.proofs.Checking.{Checking, begins_before, checking_more, checking_stops, left_open, drop_item, item_of, step_err, refuses_as, case_of, case_is, case_later, left_stops, right_stops, split_closes, cut_stops, cut_goes, fact_stops}
+use Rattle.sync_kernel.proofs.blocks.+blocks.Goals as goal
+
+pub check_block-check_step-requires : goal.check_block-check_step-requires
+check_block-check_step-requires t c =
+    let s = c.args.terms.now in
+    let of = item_of s c.args.block.now c.as_slice-step-items.result.now c.loop-step.step-index c.step-item.result c.requires.script c.as_slice-step-items.ensures c.step-item.is c.loop-step-test.true in
+    (search (rules, kind.the_lemmas, step.the_lemmas, block.the_lemmas), (c.loop-step.invariant.said, step-more s c.loop-step.terms c.step-item.result c.loop-step.invariant.extends of))
+
+pub check_block-returns-in_err-left-clause-exact : goal.check_block-returns-in_err-left-clause-exact
+check_block-returns-in_err-left-clause-exact t c =
+    let s = c.args.terms.now in
+    let xs = c.args.branch.now in
+    let b = c.args.block.now in
+    let l = c.loop-step in
+    let of = item_of s b c.as_slice-step-items.result.now l.step-index c.step-item.result c.requires.script c.as_slice-step-items.ensures c.step-item.is c.loop-step-test.true in
+    let e = drop_item c.as_slice-step-items.result.now _ l.step-index c.step-item.result c.as_slice-step-items.ensures c.step-item.is c.loop-step-test.true in
+    let h = subst (λ (x : Left). Checking s xs b l.terms l.branch l.step-index x) (left_open l.left c.eq.result c.eq.ensures c.if-eq.false) l.invariant in
+    let q = err_from_is_err_and c.from_residual.result c.from_residual.ensures.1 in
+    passes_err c.from_residual.result c.in_err-left.field-0.0 (block_fault (facts_in s xs) (plan_of s b)) (cc)
+    (checking_stops s xs b l.terms l.branch l.step-index h c.step-item.result e of c.in_err-left.field-0.0 (c.in_err-left.ensures.exact _))
+
+pub check_block-loop-step-preserved : goal.check_block-loop-step-preserved
+check_block-loop-step-preserved t c =
+    let s = c.args.terms.now in
+    let xs = c.args.branch.now in
+    let b = c.args.block.now in
+    let l = c.loop-step in
+    let of = item_of s b c.as_slice-step-items.result.now l.step-index c.step-item.result c.requires.script c.as_slice-step-items.ensures c.step-item.is c.loop-step-test.true in
+    let e = drop_item c.as_slice-step-items.result.now _ l.step-index c.step-item.result c.as_slice-step-items.ensures c.step-item.is c.loop-step-test.true in
+    let h = subst (λ (x : Left). Checking s xs b l.terms l.branch l.step-index x) (left_open l.left c.eq.result c.eq.ensures c.if-eq.false) l.invariant in
+    checking_more s xs b l.terms l.branch l.step-index h c.step-item.result e of c.in_ok-left.left c.check_step.new.terms c.check_step.new.branch c.in_ok-left.ensures.keeps c.in_ok-left.ensures.said c.in_ok-left.ensures.begins
+    (c.in_ok-left.ensures.exact _)
+
+pub check_case-returns-clause-branch : goal.check_case-returns-clause-branch
+check_case-returns-clause-branch t c =
+    let xs = c.args.branch.now in
+    let ys = c.check_block.new.branch in
+    c.cut_back.ensures ∙ ap (λ (n : ℕ). take n ys) c.len-len.ensures
+    ∙ begins_before xs ys c.said.result (subst (λ (zs : List Said). Begins zs ys) c.in_ok-push.ensures.ok c.in_ok-check_block.ensures.begins)
+
+pub check_step-inst-requires-clause-list : goal.check_step-inst-requires-clause-list
+check_step-inst-requires-clause-list t c =
+    let i = c.in-Inst in
+    subst (All (IsTerm c.args.terms.now)) (sym c.as_slice-in-Inst.ensures) (inst_ids c.args.terms.now c.args.step.now c.requires.step i.hyp i.list i.name (i.is ∙ sym (rolls-Inst i.hyp i.list i.name)))
+
+pub check_step-check_case-requires : goal.check_step-check_case-requires
+check_step-check_case-requires t c =
+    let s = c.args.terms.now in
+    let i = c.in-Split in
+    let scripts = split_scripts s c.args.step.now c.requires.step i.hyp i.name i.first i.second (i.is ∙ sym (rolls-Split i.hyp i.name i.first i.second)) in (
+      search (rules, kind.the_lemmas, step.the_lemmas, block.the_lemmas),
+      (
+        AreSaid-more s c.split.new.terms c.args.branch.now c.split.ensures.keeps c.requires.branch,
+        (c.in_ok-cases-in-Split.ensures.stored.0, script-more s c.split.new.terms i.first c.split.ensures.keeps scripts.0),
+      ),
+    )
+
+pub check_step-returns-in_err-check_case-in-Split-clause-exact : goal.check_step-returns-in_err-check_case-in-Split-clause-exact
+check_step-returns-in_err-check_case-in-Split-clause-exact t c = λ rest.
+    (let s = c.args.terms.now in
+    let u = c.split.new.terms in
+    let xs = c.args.branch.now in
+    let i = c.in-Split in
+    let is = i.is ∙ sym (rolls-Split i.hyp i.name i.first i.second) in
+    let scripts = split_scripts s c.args.step.now c.requires.step i.hyp i.name i.first i.second is in
+    let p = c.in_ok-cases-in-Split.cases in
+    let e = c.in_err-check_case-in-Split.field-0.0 in
+    let q = err_from_is_err_and c.from_residual-in_err-check_case-in-Split.result c.from_residual-in_err-check_case-in-Split.ensures.1 in
+    step_err c.from_residual-in_err-check_case-in-Split.result e (block_fault (facts_in s xs) (then_of s c.args.step.now rest)) (block_fault (facts_in c.check_case.new.terms c.check_case.new.branch) rest) (after rest) (cc)
+    (left_stops s xs c.args.step.now i.hyp i.name i.first i.second is rest u p (c.in_ok-cases-in-Split.ensures.leaves i.name) e
+    (refuses_as e (case_of s xs i.name p.left u i.first) (case_of u xs i.name p.left u i.first) (sym (case_is s u xs i.name p.left i.first c.split.ensures.keeps c.requires.branch scripts.0))
+    (err_refuses (Unit {0}) e (case_of u xs i.name p.left u i.first) c.in_err-check_case-in-Split.ensures.exact))))
+
+pub check_step-returns-in_err-check_case-in-Split-clause-keeps : goal.check_step-returns-in_err-check_case-in-Split-clause-keeps
+check_step-returns-in_err-check_case-in-Split-clause-keeps t c = Extends-trans c.split.ensures.keeps c.check_case.ensures.keeps
+
+pub check_step-check_case-requires-in-Split : goal.check_step-check_case-requires-in-Split
+check_step-check_case-requires-in-Split t c =
+    let s = c.args.terms.now in
+    let i = c.in-Split in
+    let w = c.check_case.new.terms in
+    let more = Extends-trans c.split.ensures.keeps c.check_case.ensures.keeps in
+    let scripts = split_scripts s c.args.step.now c.requires.step i.hyp i.name i.first i.second (i.is ∙ sym (rolls-Split i.hyp i.name i.first i.second)) in (
+      search (rules, kind.the_lemmas, step.the_lemmas, block.the_lemmas),
+      (
+        subst (AreSaid w) (sym c.in_ok-check_case-in-Split.ensures.branch) (AreSaid-more s w c.args.branch.now more c.requires.branch),
+        (IsLiteral-more c.split.new.terms w c.in_ok-cases-in-Split.cases.right c.check_case.ensures.keeps c.in_ok-cases-in-Split.ensures.stored.1, script-more s w i.second more scripts.1),
+      ),
+    )
+
+pub check_step-returns-in_err-check_case-in-Split-2-clause-exact : goal.check_step-returns-in_err-check_case-in-Split-2-clause-exact
+check_step-returns-in_err-check_case-in-Split-2-clause-exact t c = λ rest.
+    (let s = c.args.terms.now in
+    let u = c.split.new.terms in
+    let w = c.check_case.new.terms in
+    let xs = c.args.branch.now in
+    let i = c.in-Split in
+    let is = i.is ∙ sym (rolls-Split i.hyp i.name i.first i.second) in
+    let scripts = split_scripts s c.args.step.now c.requires.step i.hyp i.name i.first i.second is in
+    let p = c.in_ok-cases-in-Split.cases in
+    let e = c.in_err-check_case-in-Split-2.field-0.0 in
+    let q = err_from_is_err_and c.from_residual-in_err-check_case-in-Split-2.result c.from_residual-in_err-check_case-in-Split-2.ensures.1 in
+    let exact = subst (λ (ys : List Said). Passes {A = Unit {0}} (Err e) (case_of w ys i.name p.right w i.second)) c.in_ok-check_case-in-Split.ensures.branch c.in_err-check_case-in-Split-2.ensures.exact in
+    step_err c.from_residual-in_err-check_case-in-Split-2.result e (block_fault (facts_in s xs) (then_of s c.args.step.now rest)) (block_fault (facts_in c.check_case-in-Split.new.terms c.check_case-in-Split.new.branch) rest) (after rest) (cc)
+    (right_stops s xs c.args.step.now i.hyp i.name i.first i.second is rest u p (c.in_ok-cases-in-Split.ensures.leaves i.name) e
+    (sym (case_is s u xs i.name p.left i.first c.split.ensures.keeps c.requires.branch scripts.0) ∙ c.in_ok-check_case-in-Split.ensures.exact)
+    (refuses_as e (case_of s xs i.name p.right u i.second) (case_of w xs i.name p.right w i.second)
+    (sym (case_later s u w xs i.name p.right i.second c.split.ensures.keeps c.check_case.ensures.keeps c.requires.branch scripts.1 c.in_ok-cases-in-Split.ensures.stored.1))
+    (err_refuses (Unit {0}) e (case_of w xs i.name p.right w i.second) exact))))
+
+pub check_step-returns-in_err-check_case-in-Split-2-clause-keeps : goal.check_step-returns-in_err-check_case-in-Split-2-clause-keeps
+check_step-returns-in_err-check_case-in-Split-2-clause-keeps t c = Extends-trans c.split.ensures.keeps (Extends-trans c.check_case.ensures.keeps c.check_case-in-Split.ensures.keeps)
+
+pub check_step-returns-in-Split-clause-exact : goal.check_step-returns-in-Split-clause-exact
+check_step-returns-in-Split-clause-exact t c = λ rest.
+    (let s = c.args.terms.now in
+    let u = c.split.new.terms in
+    let w = c.check_case.new.terms in
+    let xs = c.args.branch.now in
+    let i = c.in-Split in
+    let is = i.is ∙ sym (rolls-Split i.hyp i.name i.first i.second) in
+    let scripts = split_scripts s c.args.step.now c.requires.step i.hyp i.name i.first i.second is in
+    let p = c.in_ok-cases-in-Split.cases in
+    let exact = subst (λ (ys : List Said). case_of w ys i.name p.right w i.second ≡ None) c.in_ok-check_case-in-Split.ensures.branch c.in_ok-check_case-in-Split-2.ensures.exact in
+    split_closes s xs c.args.step.now i.hyp i.name i.first i.second is rest u p (c.in_ok-cases-in-Split.ensures.leaves i.name)
+    (sym (case_is s u xs i.name p.left i.first c.split.ensures.keeps c.requires.branch scripts.0) ∙ c.in_ok-check_case-in-Split.ensures.exact)
+    (sym (case_later s u w xs i.name p.right i.second c.split.ensures.keeps c.check_case.ensures.keeps c.requires.branch scripts.1 c.in_ok-cases-in-Split.ensures.stored.1) ∙ exact))
+
+pub check_step-returns-in-Split-clause-said : goal.check_step-returns-in-Split-clause-said
+check_step-returns-in-Split-clause-said t c =
+    let more = Extends-trans c.split.ensures.keeps (Extends-trans c.check_case.ensures.keeps c.check_case-in-Split.ensures.keeps) in
+    subst (AreSaid c.check_case-in-Split.new.terms) (sym (c.in_ok-check_case-in-Split-2.ensures.branch ∙ c.in_ok-check_case-in-Split.ensures.branch))
+    (AreSaid-more c.args.terms.now c.check_case-in-Split.new.terms c.args.branch.now more c.requires.branch)
+
+pub check_step-returns-in-Split-clause-keeps : goal.check_step-returns-in-Split-clause-keeps
+check_step-returns-in-Split-clause-keeps t c = Extends-trans c.split.ensures.keeps (Extends-trans c.check_case.ensures.keeps c.check_case-in-Split.ensures.keeps)
+
+pub check_step-cut-requires-clause-form : goal.check_step-cut-requires-clause-form
+check_step-cut-requires-clause-form t c =
+    let i = c.in-Cut in
+    cut_id c.args.terms.now c.args.step.now c.requires.step i.form i.name i.block (i.is ∙ sym (rolls-Cut i.form i.name i.block))
+
+pub check_step-returns-in_err-cases-in-Cut-clause-exact : goal.check_step-returns-in_err-cases-in-Cut-clause-exact
+check_step-returns-in_err-cases-in-Cut-clause-exact t c = λ rest.
+    (let s = c.args.terms.now in
+    let xs = c.args.branch.now in
+    let i = c.in-Cut in
+    let e = c.in_err-cases-in-Cut.field-0.0 in
+    let q = err_from_is_err_and c.from_residual-in_err-cases-in-Cut.result c.from_residual-in_err-cases-in-Cut.ensures.1 in
+    step_err c.from_residual-in_err-cases-in-Cut.result e (block_fault (facts_in s xs) (then_of s c.args.step.now rest)) (block_fault (facts_in s xs) rest) (after rest) (cc)
+    (cut_stops s xs c.args.step.now i.form i.name i.block (i.is ∙ sym (rolls-Cut i.form i.name i.block)) rest e (c.in_err-cases-in-Cut.ensures.leaves i.name)))
+
+pub check_step-check_case-requires-in-Cut : goal.check_step-check_case-requires-in-Cut
+check_step-check_case-requires-in-Cut t c =
+    let i = c.in-Cut in
+    (search (rules, kind.the_lemmas, step.the_lemmas, block.the_lemmas), (c.requires.branch, (c.in_ok-cases-in-Cut.ensures.stored.0, cut_script c.args.terms.now c.args.step.now c.requires.step i.form i.name i.block (i.is ∙ sym (rolls-Cut i.form i.name i.block)))))
+
+pub check_step-returns-in_ok-push-in-Cut-clause-exact : goal.check_step-returns-in_ok-push-in-Cut-clause-exact
+check_step-returns-in_ok-push-in-Cut-clause-exact t c = λ rest.
+    (let s = c.args.terms.now in
+    let xs = c.args.branch.now in
+    let i = c.in-Cut in
+    let p = c.in_ok-cases-in-Cut.cases in
+    let w = c.check_case-in-Cut.new.terms in
+    let new = c.in_ok-push-in-Cut.ensures.ok ∙ ap (λ (ys : List Said). ys ++ c.said.result ∷ []) c.in_ok-check_case-in-Cut.ensures.branch in
+    cut_goes s xs c.args.step.now i.form i.name i.block (i.is ∙ sym (rolls-Cut i.form i.name i.block)) rest p (c.in_ok-cases-in-Cut.ensures.leaves i.name) w c.push.new.self c.said.result c.check_case-in-Cut.ensures.keeps c.requires.branch
+    c.in_ok-cases-in-Cut.ensures.stored.1 c.in_ok-check_case-in-Cut.ensures.exact new c.said.ensures.fact)
+
+pub check_step-returns-in_ok-push-in-Cut-clause-said : goal.check_step-returns-in_ok-push-in-Cut-clause-said
+check_step-returns-in_ok-push-in-Cut-clause-said t c =
+    let w = c.check_case-in-Cut.new.terms in
+    add_said w c.check_case-in-Cut.new.branch c.push.new.self c.said.result
+    (subst (AreSaid w) (sym c.in_ok-check_case-in-Cut.ensures.branch) (AreSaid-more c.args.terms.now w c.args.branch.now c.check_case-in-Cut.ensures.keeps c.requires.branch)) c.said.ensures.said c.in_ok-push-in-Cut.ensures.ok
+
+pub check_step-read-requires-clause-map : goal.check_step-read-requires-clause-map
+check_step-read-requires-clause-map t c =
+    let i = c.in-Read in
+    (read_ids c.args.terms.now c.args.step.now c.requires.step i.map i.key i.name (i.is ∙ sym (rolls-Read i.map i.key i.name))).0
+
+pub check_step-read-requires-clause-key : goal.check_step-read-requires-clause-key
+check_step-read-requires-clause-key t c =
+    let i = c.in-Read in
+    (read_ids c.args.terms.now c.args.step.now c.requires.step i.map i.key i.name (i.is ∙ sym (rolls-Read i.map i.key i.name))).1
+
+pub check_step-returns-in_err-read-in-Read-clause-exact : goal.check_step-returns-in_err-read-in-Read-clause-exact
+check_step-returns-in_err-read-in-Read-clause-exact t c = λ rest.
+    (let s = c.args.terms.now in
+    let xs = c.args.branch.now in
+    let i = c.in-Read in
+    let e = c.in_err-read-in-Read.field-0.0 in
+    let q = err_from_is_err_and c.from_residual-in_err-read-in-Read.result c.from_residual-in_err-read-in-Read.ensures.1 in
+    step_err c.from_residual-in_err-read-in-Read.result e (block_fault (facts_in s xs) (then_of s c.args.step.now rest)) (block_fault (facts_in c.read.new.terms c.read.new.branch) rest) (after rest) (cc)
+    (fact_stops s xs c.args.step.now (StepKind-F.Read i.map i.key i.name) rest (fitting (with_fact (facts_in s xs) i.name (read_fact (tree s i.map) (tree s i.key)))) e (i.is ∙ sym (rolls-Read i.map i.key i.name)) refl
+    c.in_err-read-in-Read.ensures.leaves))
+
+pub check_step-size-requires-clause-map : goal.check_step-size-requires-clause-map
+check_step-size-requires-clause-map t c =
+    let i = c.in-Size in
+    (size_ids c.args.terms.now c.args.step.now c.requires.step i.map i.key i.name (i.is ∙ sym (rolls-Size i.map i.key i.name))).0
+
+pub check_step-size-requires-clause-key : goal.check_step-size-requires-clause-key
+check_step-size-requires-clause-key t c =
+    let i = c.in-Size in
+    (size_ids c.args.terms.now c.args.step.now c.requires.step i.map i.key i.name (i.is ∙ sym (rolls-Size i.map i.key i.name))).1
+
+pub check_step-returns-in_err-size-in-Size-clause-exact : goal.check_step-returns-in_err-size-in-Size-clause-exact
+check_step-returns-in_err-size-in-Size-clause-exact t c = λ rest.
+    (let s = c.args.terms.now in
+    let xs = c.args.branch.now in
+    let i = c.in-Size in
+    let e = c.in_err-size-in-Size.field-0.0 in
+    let q = err_from_is_err_and c.from_residual-in_err-size-in-Size.result c.from_residual-in_err-size-in-Size.ensures.1 in
+    step_err c.from_residual-in_err-size-in-Size.result e (block_fault (facts_in s xs) (then_of s c.args.step.now rest)) (block_fault (facts_in c.size.new.terms c.size.new.branch) rest) (after rest) (cc)
+    (fact_stops s xs c.args.step.now (StepKind-F.Size i.map i.key i.name) rest (fitting (with_fact (facts_in s xs) i.name (size_fact (tree s i.map) (tree s i.key)))) e (i.is ∙ sym (rolls-Size i.map i.key i.name)) refl
+    c.in_err-size-in-Size.ensures.leaves))
+
+pub check_step-total-requires-clause-map : goal.check_step-total-requires-clause-map
+check_step-total-requires-clause-map t c =
+    let i = c.in-Total in
+    (total_ids c.args.terms.now c.args.step.now c.requires.step i.map i.key i.name (i.is ∙ sym (rolls-Total i.map i.key i.name))).0
+
+pub check_step-total-requires-clause-key : goal.check_step-total-requires-clause-key
+check_step-total-requires-clause-key t c =
+    let i = c.in-Total in
+    (total_ids c.args.terms.now c.args.step.now c.requires.step i.map i.key i.name (i.is ∙ sym (rolls-Total i.map i.key i.name))).1
+
+pub check_step-returns-in_err-total-in-Total-clause-exact : goal.check_step-returns-in_err-total-in-Total-clause-exact
+check_step-returns-in_err-total-in-Total-clause-exact t c = λ rest.
+    (let s = c.args.terms.now in
+    let xs = c.args.branch.now in
+    let i = c.in-Total in
+    let e = c.in_err-total-in-Total.field-0.0 in
+    let q = err_from_is_err_and c.from_residual-in_err-total-in-Total.result c.from_residual-in_err-total-in-Total.ensures.1 in
+    step_err c.from_residual-in_err-total-in-Total.result e (block_fault (facts_in s xs) (then_of s c.args.step.now rest)) (block_fault (facts_in c.total.new.terms c.total.new.branch) rest) (after rest) (cc)
+    (fact_stops s xs c.args.step.now (StepKind-F.Total i.map i.key i.name) rest (fitting (with_fact (facts_in s xs) i.name (total_fact (tree s i.map) (tree s i.key)))) e (i.is ∙ sym (rolls-Total i.map i.key i.name)) refl
+    c.in_err-total-in-Total.ensures.leaves))
+
+pub check_step-cong-requires-clause-map : goal.check_step-cong-requires-clause-map
+check_step-cong-requires-clause-map t c =
+    let i = c.in-Cong in
+    (cong_ids c.args.terms.now c.args.step.now c.requires.step i.map i.left i.right i.name (i.is ∙ sym (rolls-Cong i.map i.left i.right i.name))).0
+
+pub check_step-cong-requires-clause-left : goal.check_step-cong-requires-clause-left
+check_step-cong-requires-clause-left t c =
+    let i = c.in-Cong in
+    (cong_ids c.args.terms.now c.args.step.now c.requires.step i.map i.left i.right i.name (i.is ∙ sym (rolls-Cong i.map i.left i.right i.name))).1
+
+pub check_step-cong-requires-clause-right : goal.check_step-cong-requires-clause-right
+check_step-cong-requires-clause-right t c =
+    let i = c.in-Cong in
+    (cong_ids c.args.terms.now c.args.step.now c.requires.step i.map i.left i.right i.name (i.is ∙ sym (rolls-Cong i.map i.left i.right i.name))).2
+
+pub check_step-returns-in_err-cong-in-Cong-clause-exact : goal.check_step-returns-in_err-cong-in-Cong-clause-exact
+check_step-returns-in_err-cong-in-Cong-clause-exact t c = λ rest.
+    (let s = c.args.terms.now in
+    let xs = c.args.branch.now in
+    let i = c.in-Cong in
+    let e = c.in_err-cong-in-Cong.field-0.0 in
+    let q = err_from_is_err_and c.from_residual-in_err-cong-in-Cong.result c.from_residual-in_err-cong-in-Cong.ensures.1 in
+    step_err c.from_residual-in_err-cong-in-Cong.result e (block_fault (facts_in s xs) (then_of s c.args.step.now rest)) (block_fault (facts_in c.cong.new.terms c.cong.new.branch) rest) (after rest) (cc)
+    (fact_stops s xs c.args.step.now (StepKind-F.Cong i.map i.left i.right i.name) rest (fitting (with_fact (facts_in s xs) i.name (cong_fact (tree s i.map) (tree s i.left) (tree s i.right)))) e (i.is ∙ sym (rolls-Cong i.map i.left i.right i.name)) refl
+    c.in_err-cong-in-Cong.ensures.leaves))

@@ -1,0 +1,5 @@
+use Rattle.sync_kernel.proofs.Checking.{Checking}
+use Rattle.sync_kernel.proofs.blocks.+blocks.Given as goal
+
+abbrev pub invariant-check_block-loop-step : goal.invariant-check_block-loop-step
+invariant-check_block-loop-step l = Checking l.fn.terms l.fn.branch l.block l.terms l.branch l.step-index l.left

@@ -1,0 +1,128 @@
+//! Blocks of steps, each in its branch.
+ghost use Rattle.std.specs.Prelude.{◌≡◌, OnOk};
+ghost use Rattle.sync_base.specs.Outcome.{Passes};
+ghost use Rattle.sync_terms.specs.Stored.{Extends};
+ghost use Rattle.sync_terms.specs.Plans.{Plan, plan_of, IsScriptOf};
+ghost use Rattle.sync_kernel.specs.Literals.{literal_form, IsLiteral};
+ghost use Rattle.sync_kernel.specs.Branches.{facts_in, AreSaid, Begins};
+ghost use Rattle.sync_kernel.specs.Scripts.{then_of, IsStepOf, with_fact, after, block_fault};
+ghost use Rattle.sync_kernel.specs.Holding.{StepPasses};
+
+use crate::branches::Branch;
+use crate::literals::Literal;
+use crate::sames::same;
+use crate::steps::{Left, cong, cut, inst, parts, read, said, size, split, total};
+use crate::stops::refusal;
+use crate::sums::sum;
+use std::alloc::Global;
+use sync_base::{Rule, Stop};
+use sync_terms::{Block, ScriptStep, StepKind, Terms};
+
+/// Checks that a block closes its branch. The branch may have gained facts.
+#[cycle(blocks)]
+pub(crate) fn check_block(
+    alloc: Global,
+    terms: &mut Terms,
+    branch: &mut Branch,
+    block: &Block,
+) -> Result<(), Stop>
+    requires branch { AreSaid terms.old branch.old }
+    requires script { IsScriptOf terms.old block.now }
+    ensures exact { Passes result (block_fault (facts_in terms.old branch.old) (plan_of terms.old block.now)) }
+    ensures begins { OnOk result (Begins branch.old branch.new) }
+    ensures keeps { Extends terms.old terms.new }
+{
+    let mut left = Left::Open;
+    for step in block.steps.as_slice() {
+        if left == Left::Closed {
+            return Err(refusal(step.line, Rule::K9));
+        }
+        left = check_step(alloc, terms, branch, step)?;
+    }
+    if left == Left::Open {
+        return Err(refusal(block.end_line, Rule::K9));
+    }
+    Ok(())
+}
+
+/// Checks that a block closes the branch with one fact more. Behind it the branch is as before.
+#[cycle(blocks)]
+fn check_case(
+    alloc: Global,
+    terms: &mut Terms,
+    branch: &mut Branch,
+    name: u32,
+    says: Literal,
+    block: &Block,
+) -> Result<(), Stop>
+    requires branch { AreSaid terms.old branch.old }
+    requires says { IsLiteral terms.old says }
+    requires script { IsScriptOf terms.old block.now }
+    ensures exact { Passes result (block_fault (with_fact (facts_in terms.old branch.old) name (literal_form terms.old says)) (plan_of terms.old block.now)) }
+    ensures branch { OnOk result (branch.new ≡ branch.old) }
+    ensures keeps { Extends terms.old terms.new }
+{
+    let len = branch.len();
+    branch.push(said(alloc, terms, name, says))?;
+    check_block(alloc, terms, branch, block)?;
+    branch.cut_back(len);
+    Ok(())
+}
+
+/// Checks one step, with its blocks.
+#[cycle(blocks)]
+fn check_step(
+    alloc: Global,
+    terms: &mut Terms,
+    branch: &mut Branch,
+    step: &ScriptStep,
+) -> Result<Left, Stop>
+    requires branch { AreSaid terms.old branch.old }
+    requires step { IsStepOf terms.old step.now }
+    ensures exact { (rest : Plan) → StepPasses result (block_fault (facts_in terms.old branch.old) (then_of terms.old step.now rest)) (block_fault (facts_in terms.new branch.new) rest) (after rest) }
+    ensures said { OnOk result (AreSaid terms.new branch.new) }
+    ensures begins { OnOk result (Begins branch.old branch.new) }
+    ensures keeps { Extends terms.old terms.new }
+{
+    let line = step.line;
+    match &step.what {
+        StepKind::Same => {
+            same(alloc, terms, branch, line)?;
+            return Ok(Left::Closed);
+        }
+        StepKind::Sum(list) => {
+            sum(alloc, terms, branch, line, list.as_slice())?;
+            return Ok(Left::Closed);
+        }
+        StepKind::Inst(hyp, list, name) => {
+            inst(alloc, terms, branch, *hyp, list.as_slice(), *name, line)?;
+        }
+        StepKind::Parts(hyp, left, right) => {
+            parts(alloc, terms, branch, *hyp, *left, *right, line)?;
+        }
+        StepKind::Split(hyp, name, first, second) => {
+            let cases = split(terms, branch, *hyp, line)?;
+            check_case(alloc, terms, branch, *name, cases.left, first)?;
+            check_case(alloc, terms, branch, *name, cases.right, second)?;
+            return Ok(Left::Closed);
+        }
+        StepKind::Cut(form, name, block) => {
+            let cases = cut(terms, branch, *form, line)?;
+            check_case(alloc, terms, branch, *name, cases.left, block)?;
+            branch.push(said(alloc, terms, *name, cases.right))?;
+        }
+        StepKind::Read(map, key, name) => {
+            read(alloc, terms, branch, *map, *key, *name, line)?;
+        }
+        StepKind::Size(map, key, name) => {
+            size(alloc, terms, branch, *map, *key, *name, line)?;
+        }
+        StepKind::Total(map, key, name) => {
+            total(alloc, terms, branch, *map, *key, *name, line)?;
+        }
+        StepKind::Cong(map, left, right, name) => {
+            cong(alloc, terms, branch, *map, *left, *right, *name, line)?;
+        }
+    }
+    Ok(Left::Open)
+}

@@ -1,0 +1,201 @@
+//! The facts of a branch, by their names.
+ghost use Rattle.std.specs.Prelude.{◌≡◌, ◌≤◌, ◌+◌, ◌-◌, ◌++◌, ◌∷◌, [], map, not, nat_lt, length, take, OnOk, OnErr, option_map};
+ghost use Rattle.sync_terms.specs.Kept.{limit};
+ghost use Rattle.sync_terms.specs.Stored.{Stored};
+
+use crate::literals::Literal;
+use sqlite_items::Items;
+use std::alloc::{AllocError, Global};
+use std::collections::HashMap;
+use std::marker::Model;
+use sync_terms::{HypName, Sym, Terms};
+
+/// The most nodes of the facts of a branch.
+const LIMIT: u64 = 1_000_000;
+
+/// A fact: its name, its parameters, what it says, and the nodes of that.
+#[derive(Debug, Drop)]
+pub(crate) struct Said {
+    pub name: HypName,
+    pub params: Items<Sym>,
+    pub says: Literal,
+    pub size: u64,
+}
+
+/// What a fact says, and whether it has no parameters.
+#[derive(Clone, Copy, Debug)]
+pub(crate) struct Known {
+    pub says: Literal,
+    pub plain: bool,
+}
+
+impl Said {
+    ghost use Rattle.sync_kernel.specs.Literals.{IsLiteral};
+    ghost use Rattle.sync_kernel.specs.Branches.{IsSaid};
+    ghost use Rattle.sync_kernel.specs.Knowing.{known_of};
+
+    /// A fact with these parameters.
+    pub(crate) fn new(terms: &Terms, name: HypName, params: Items<Sym>, says: Literal) -> Said
+        requires { IsLiteral terms.now says }
+        ensures name { result.name ≡ name }
+        ensures params { result.params ≡ params }
+        ensures says { result.says ≡ says }
+        ensures said { IsSaid terms.now result }
+    {
+        Said {
+            name,
+            params,
+            says,
+            size: says.size(terms),
+        }
+    }
+
+    pub(crate) fn known(&self) -> Known
+        ensures { result ≡ known_of self.now }
+    {
+        Known {
+            says: self.says,
+            plain: self.params.is_empty(),
+        }
+    }
+}
+
+/// A fact on the stack, with the place of the fact that its name stood for before, and the nodes of all facts up to it.
+#[derive(Debug, Drop)]
+pub(crate) struct Held {
+    pub said: Said,
+    pub hides: Option<usize>,
+    pub total: u64,
+}
+
+/// The facts of a branch, newest last. A name stands for its newest fact.
+#[derive(Drop)]
+pub(crate) struct Branch {
+    facts: Vec<Held>,
+    places: HashMap<HypName, usize>,
+}
+
+impl Model for Branch {
+    ghost use Rattle.std.specs.Prelude.{List, ◌≡◌};
+    ghost use Rattle.std.specs.HashMap.{get};
+    ghost use Rattle.sync_terms.specs.declared.scripts.HypName.{HypName};
+    ghost use Rattle.sync_kernel.specs.declared.branches.Said.{Said};
+
+    ghost Value = { List Said };
+
+    ghost use Rattle.sync_kernel.specs.Holding.{equal_names};
+    ghost use Rattle.sync_kernel.specs.Branches.{place_from};
+    ghost use Rattle.sync_kernel.specs.Stacks.{saids, IsStack};
+
+    ghost view = { λ b. saids b.facts.items };
+
+    ghost invariant = { λ b. ((name : HypName) → get equal_names b.places name ≡ place_from 0 name (saids b.facts.items)) × IsStack b.facts.items };
+}
+
+impl Branch {
+    ghost use Rattle.sync_kernel.specs.Branches.{newest_said, said_size, capped};
+    ghost use Rattle.sync_kernel.specs.Stacks.{saids};
+    ghost use Rattle.sync_kernel.specs.Knowing.{known_of};
+
+    /// A branch without facts.
+    pub(crate) fn new(alloc: Global) -> Branch
+        ensures { result ≡ [] }
+    {
+        Branch {
+            facts: Vec::new(alloc),
+            places: HashMap::new(alloc),
+        }
+    }
+
+    /// The number of facts.
+    pub(crate) fn len(&self) -> usize
+        ensures { result ≡ length self.now }
+    {
+        self.facts.len()
+    }
+
+    /// The facts, oldest first.
+    pub(crate) fn held(&self) -> &[Held]
+        ensures { saids result.now ≡ self.now }
+    {
+        self.facts.as_slice()
+    }
+
+    /// The number of nodes of all facts, as far as the type goes.
+    pub(crate) fn size(&self) -> u64
+        ensures { result ≡ capped (said_size self.now) }
+    {
+        match self.facts.last() {
+            Some(held) => held.total,
+            None => 0,
+        }
+    }
+
+    /// Whether facts with so many nodes more are within the limit.
+    pub(crate) fn fits(&self, more: u64) -> bool
+        ensures { result ≡ not (nat_lt limit (said_size self.now + more)) }
+    {
+        self.size().saturating_add(more) <= LIMIT
+    }
+
+    /// The newest fact of a name.
+    pub(crate) fn find(&self, name: HypName) -> Option<&Said>
+        ensures { option_map (λ r. r.now) result ≡ newest_said name self.now }
+    {
+        match self.places.get(&name) {
+            Some(&place) => Some(&self.facts[place].said),
+            None => None,
+        }
+    }
+
+    /// What the newest fact of a name says.
+    pub(crate) fn known(&self, name: HypName) -> Option<Known>
+        ensures { result ≡ option_map known_of (newest_said name self.now) }
+    {
+        match self.find(name) {
+            Some(said) => Some(said.known()),
+            None => None,
+        }
+    }
+
+    /// Adds a fact.
+    pub(crate) fn push(&mut self, said: Said) -> Result<(), AllocError>
+        ensures ok { OnOk result (self.new ≡ self.old ++ said ∷ []) }
+        ensures err { OnErr result (self.new ≡ self.old) }
+    {
+        let total = self.size().saturating_add(said.size);
+        let place = self.facts.len();
+        self.facts.reserve(1)?;
+        let hides = self.places.insert(said.name, place)?;
+        let pushed: Result<(), _> = self.facts.push(Held { said, hides, total });
+        pushed.unwrap();
+        Ok(())
+    }
+
+    /// Takes the newest fact away.
+    fn pop(&mut self)
+        ensures { self.new ≡ take (length self.old - 1) self.old }
+    {
+        let Some(held) = self.facts.pop() else {
+            return;
+        };
+        match held.hides {
+            Some(place) => {
+                let put: Result<_, _> = self.places.insert(held.said.name, place);
+                put.unwrap();
+            }
+            None => {
+                self.places.remove(&held.said.name);
+            }
+        }
+    }
+
+    /// Leaves the first facts, so many, and takes those behind them away.
+    pub(crate) fn cut_back(&mut self, len: usize)
+        ensures { self.new ≡ take len self.old }
+    {
+        while self.len() > len {
+            self.pop();
+        }
+    }
+}

@@ -1,0 +1,317 @@
+//! The steps of a script: what each takes from the facts of its branch, and the facts that it adds.
+ghost use Rattle.std.specs.Prelude.{◌≡◌, ℕ, All, Ok, OnOk, IfOk, map, length, zip};
+ghost use Rattle.sync_terms.specs.Stored.{Stored, Extends, IsTerm, IsForm, tree, formula};
+ghost use Rattle.sync_terms.specs.Trees.{Formula};
+ghost use Rattle.sync_facts.specs.Building.{BuildsForm};
+ghost use Rattle.sync_facts.specs.Lemmas.{cong_fact as cong_form, read_fact as read_form, size_fact as size_form, total_fact as total_form};
+ghost use Rattle.sync_kernel.specs.Facts.{newest, named};
+ghost use Rattle.sync_kernel.specs.Literals.{literal_form, IsLiteral, pair_forms, IsPair};
+ghost use Rattle.sync_kernel.specs.Branches.{facts_in, said_fact, IsSaid, AreSaid, Begins};
+ghost use Rattle.sync_kernel.specs.Taking.{plain_fact, instance};
+ghost use Rattle.sync_kernel.specs.Scripts.{cases_with, fitting, both_fitting, with_fact, with_instance, with_parts, with_cases, with_cut};
+ghost use Rattle.sync_kernel.specs.Holding.{Leaves, Makes};
+
+use crate::branches::{Branch, Said};
+use crate::literals::Literal;
+use crate::splits::{Pair, cases_of, parts_of};
+use crate::stops::{refusal, too_large};
+use sqlite_items::Items;
+use std::alloc::{AllocError, Global};
+use sync_base::{Rule, Stop};
+use sync_facts::{cong_fact, read_fact, size_fact, total_fact};
+use sync_terms::{FormId, HypName, Sym, TermId, TermStop, Terms};
+
+/// Whether a step leaves its branch open, or has closed it.
+#[derive(Clone, Copy, PartialEq, Eq, Debug)]
+pub(crate) enum Left {
+    Open,
+    Closed,
+}
+
+/// A fact with a name of the script.
+pub(crate) fn said(alloc: Global, terms: &Terms, name: u32, says: Literal) -> Said
+    requires { IsLiteral terms.now says }
+    ensures fact { said_fact terms.now result ≡ named name (literal_form terms.now says) }
+    ensures said { IsSaid terms.now result }
+{
+    Said::new(terms, HypName::Label(name), Items::new(alloc), says)
+}
+
+/// Adds a fact to the branch; K8 where its facts are then too large.
+fn add(
+    alloc: Global,
+    terms: &Terms,
+    branch: &mut Branch,
+    name: u32,
+    says: Literal,
+    line: u32,
+) -> Result<(), Stop>
+    requires branch { AreSaid terms.now branch.old }
+    requires says { IsLiteral terms.now says }
+    ensures leaves { Leaves line result (λ _ known. facts_in terms.now branch.new ≡ known) (fitting (with_fact (facts_in terms.now branch.old) name (literal_form terms.now says))) }
+    ensures said { OnOk result (AreSaid terms.now branch.new) }
+    ensures begins { OnOk result (Begins branch.old branch.new) }
+{
+    let said = said(alloc, terms, name, says);
+    if !branch.fits(said.size) {
+        return Err(refusal(line, Rule::K8));
+    }
+    branch.push(said)?;
+    Ok(())
+}
+
+/// Adds a formula that was built; K8 where it, or the facts of the branch with it, are too large.
+fn add_built(
+    alloc: Global,
+    terms: &Terms,
+    branch: &mut Branch,
+    form: Result<FormId, TermStop>,
+    name: u32,
+    line: u32,
+) -> Result<(), Stop>
+    requires branch { AreSaid terms.now branch.old }
+    requires form { IfOk form (IsForm terms.now) }
+    ensures leaves { (f : Formula) → BuildsForm terms.now f form → Leaves line result (λ _ known. facts_in terms.now branch.new ≡ known) (fitting (with_fact (facts_in terms.now branch.old) name f)) }
+    ensures said { OnOk result (AreSaid terms.now branch.new) }
+    ensures begins { OnOk result (Begins branch.old branch.new) }
+{
+    match form {
+        Ok(form) => add(alloc, terms, branch, name, Literal::plain(form), line),
+        Err(stop) => Err(too_large(stop, line)),
+    }
+}
+
+/// Each parameter with the term at its place.
+fn paired(alloc: Global, params: &[Sym], list: &[TermId]) -> Result<Vec<(Sym, TermId)>, AllocError>
+    requires { length params.now ≡ length list.now }
+    ensures { IfOk result (λ v. v.items ≡ zip params.now list.now) }
+{
+    let terms = list.iter().copied();
+    params.iter().copied().zip(terms).collect(alloc)
+}
+
+/// The newest fact of a name, with terms for its parameters: K1 where there is none, K3 where it has another number of
+/// parameters, K8 where it is too large.
+fn instance(
+    alloc: Global,
+    terms: &mut Terms,
+    branch: &Branch,
+    hyp: HypName,
+    list: &[TermId],
+    line: u32,
+) -> Result<Literal, Stop>
+    requires branch { AreSaid terms.old branch.now }
+    requires list { All (IsTerm terms.old) list.now }
+    ensures makes { Makes terms.new line result (instance (newest hyp (facts_in terms.old branch.now)) (map (tree terms.old) list.now)) }
+    ensures keeps { Extends terms.old terms.new }
+{
+    let Some(said) = branch.find(hyp) else {
+        return Err(refusal(line, Rule::K1));
+    };
+    let params = said.params.as_slice();
+    if params.len() != list.len() {
+        return Err(refusal(line, Rule::K3));
+    }
+    let pairs = paired(alloc, params, list)?;
+    match terms.subst(said.says.form, pairs.as_slice()) {
+        Ok(form) => Ok(Literal {
+            form,
+            negated: said.says.negated,
+        }),
+        Err(stop) => Err(too_large(stop, line)),
+    }
+}
+
+/// `inst`: adds a fact with terms for its parameters.
+pub(crate) fn inst(
+    alloc: Global,
+    terms: &mut Terms,
+    branch: &mut Branch,
+    hyp: HypName,
+    list: &[TermId],
+    name: u32,
+    line: u32,
+) -> Result<(), Stop>
+    requires branch { AreSaid terms.old branch.old }
+    requires list { All (IsTerm terms.old) list.now }
+    ensures leaves { Leaves line result (λ _ known. facts_in terms.new branch.new ≡ known) (with_instance (facts_in terms.old branch.old) hyp (map (tree terms.old) list.now) name) }
+    ensures said { OnOk result (AreSaid terms.new branch.new) }
+    ensures begins { OnOk result (Begins branch.old branch.new) }
+    ensures keeps { Extends terms.old terms.new }
+{
+    let says = instance(alloc, terms, branch, hyp, list, line)?;
+    add(alloc, terms, branch, name, says, line)
+}
+
+/// What a fact without parameters says: K1 where there is none, K2 where it has parameters.
+fn plain(terms: &Terms, branch: &Branch, hyp: HypName, line: u32) -> Result<Literal, Stop>
+    requires { AreSaid terms.now branch.now }
+    ensures { Leaves line result (λ l f. (literal_form terms.now l ≡ f.form) × IsLiteral terms.now l) (plain_fact (newest hyp (facts_in terms.now branch.now))) }
+{
+    match branch.known(hyp) {
+        None => Err(refusal(line, Rule::K1)),
+        Some(known) if known.plain => Ok(known.says),
+        Some(_) => Err(refusal(line, Rule::K2)),
+    }
+}
+
+/// `parts`: adds the two formulas that hold where a fact does.
+pub(crate) fn parts(
+    alloc: Global,
+    terms: &Terms,
+    branch: &mut Branch,
+    hyp: HypName,
+    left: u32,
+    right: u32,
+    line: u32,
+) -> Result<(), Stop>
+    requires { AreSaid terms.now branch.old }
+    ensures leaves { Leaves line result (λ _ known. facts_in terms.now branch.new ≡ known) (with_parts (facts_in terms.now branch.old) hyp left right) }
+    ensures said { OnOk result (AreSaid terms.now branch.new) }
+    ensures begins { OnOk result (Begins branch.old branch.new) }
+{
+    let says = plain(terms, branch, hyp, line)?;
+    let Some(pair) = parts_of(terms, says) else {
+        return Err(refusal(line, Rule::K2));
+    };
+    add(alloc, terms, branch, left, pair.left, line)?;
+    add(alloc, terms, branch, right, pair.right, line)
+}
+
+/// The two formulas, where each, with the facts of the branch, is within the limit; else K8.
+fn both(terms: &Terms, branch: &Branch, pair: Pair, line: u32) -> Result<Pair, Stop>
+    requires branch { AreSaid terms.now branch.now }
+    requires pair { IsPair terms.now pair }
+    ensures leaves { (name : ℕ) → Leaves line result (λ p cases. cases ≡ cases_with (facts_in terms.now branch.now) name (pair_forms terms.now p)) (both_fitting (facts_in terms.now branch.now) name (pair_forms terms.now pair)) }
+    ensures stored { IfOk result (IsPair terms.now) }
+{
+    if branch.fits(pair.left.size(terms)) && branch.fits(pair.right.size(terms)) {
+        Ok(pair)
+    } else {
+        Err(refusal(line, Rule::K8))
+    }
+}
+
+/// `split`: the two formulas of which one holds where a fact does.
+pub(crate) fn split(
+    terms: &mut Terms,
+    branch: &Branch,
+    hyp: HypName,
+    line: u32,
+) -> Result<Pair, Stop>
+    requires { AreSaid terms.old branch.now }
+    ensures leaves { (name : ℕ) → Leaves line result (λ p cases. cases ≡ cases_with (facts_in terms.old branch.now) name (pair_forms terms.new p)) (with_cases (facts_in terms.old branch.now) hyp name) }
+    ensures stored { IfOk result (IsPair terms.new) }
+    ensures keeps { Extends terms.old terms.new }
+{
+    let says = plain(terms, branch, hyp, line)?;
+    match cases_of(terms, says) {
+        Ok(Some(pair)) => both(terms, branch, pair, line),
+        Ok(None) => Err(refusal(line, Rule::K2)),
+        Err(stop) => Err(too_large(stop, line)),
+    }
+}
+
+/// `cut`: the negation of a formula, for the block, and the formula, for what goes on.
+pub(crate) fn cut(terms: &Terms, branch: &Branch, form: FormId, line: u32) -> Result<Pair, Stop>
+    requires branch { AreSaid terms.now branch.now }
+    requires form { IsForm terms.now form }
+    ensures leaves { (name : ℕ) → Leaves line result (λ p cases. cases ≡ cases_with (facts_in terms.now branch.now) name (pair_forms terms.now p)) (with_cut (facts_in terms.now branch.now) (formula terms.now form) name) }
+    ensures stored { IfOk result (IsPair terms.now) }
+{
+    let pair = Pair {
+        left: Literal::denial(terms, form),
+        right: Literal::plain(form),
+    };
+    both(terms, branch, pair, line)
+}
+
+/// `read`: adds what a map has at a key.
+pub(crate) fn read(
+    alloc: Global,
+    terms: &mut Terms,
+    branch: &mut Branch,
+    map: TermId,
+    key: TermId,
+    name: u32,
+    line: u32,
+) -> Result<(), Stop>
+    requires branch { AreSaid terms.old branch.old }
+    requires map { IsTerm terms.old map }
+    requires key { IsTerm terms.old key }
+    ensures leaves { Leaves line result (λ _ known. facts_in terms.new branch.new ≡ known) (fitting (with_fact (facts_in terms.old branch.old) name (read_form (tree terms.old map) (tree terms.old key)))) }
+    ensures said { OnOk result (AreSaid terms.new branch.new) }
+    ensures begins { OnOk result (Begins branch.old branch.new) }
+    ensures keeps { Extends terms.old terms.new }
+{
+    let form = read_fact(terms, map, key);
+    add_built(alloc, terms, branch, form, name, line)
+}
+
+/// `size`: adds how many keys a map has.
+pub(crate) fn size(
+    alloc: Global,
+    terms: &mut Terms,
+    branch: &mut Branch,
+    map: TermId,
+    key: TermId,
+    name: u32,
+    line: u32,
+) -> Result<(), Stop>
+    requires branch { AreSaid terms.old branch.old }
+    requires map { IsTerm terms.old map }
+    requires key { IsTerm terms.old key }
+    ensures leaves { Leaves line result (λ _ known. facts_in terms.new branch.new ≡ known) (fitting (with_fact (facts_in terms.old branch.old) name (size_form (tree terms.old map) (tree terms.old key)))) }
+    ensures said { OnOk result (AreSaid terms.new branch.new) }
+    ensures begins { OnOk result (Begins branch.old branch.new) }
+    ensures keeps { Extends terms.old terms.new }
+{
+    let form = size_fact(terms, map, key);
+    add_built(alloc, terms, branch, form, name, line)
+}
+
+/// `total`: adds the sum of a map's values.
+pub(crate) fn total(
+    alloc: Global,
+    terms: &mut Terms,
+    branch: &mut Branch,
+    map: TermId,
+    key: TermId,
+    name: u32,
+    line: u32,
+) -> Result<(), Stop>
+    requires branch { AreSaid terms.old branch.old }
+    requires map { IsTerm terms.old map }
+    requires key { IsTerm terms.old key }
+    ensures leaves { Leaves line result (λ _ known. facts_in terms.new branch.new ≡ known) (fitting (with_fact (facts_in terms.old branch.old) name (total_form (tree terms.old map) (tree terms.old key)))) }
+    ensures said { OnOk result (AreSaid terms.new branch.new) }
+    ensures begins { OnOk result (Begins branch.old branch.new) }
+    ensures keeps { Extends terms.old terms.new }
+{
+    let form = total_fact(terms, map, key);
+    add_built(alloc, terms, branch, form, name, line)
+}
+
+/// `cong`: adds that a map has the same at equal keys.
+pub(crate) fn cong(
+    alloc: Global,
+    terms: &mut Terms,
+    branch: &mut Branch,
+    map: TermId,
+    left: TermId,
+    right: TermId,
+    name: u32,
+    line: u32,
+) -> Result<(), Stop>
+    requires branch { AreSaid terms.old branch.old }
+    requires map { IsTerm terms.old map }
+    requires left { IsTerm terms.old left }
+    requires right { IsTerm terms.old right }
+    ensures leaves { Leaves line result (λ _ known. facts_in terms.new branch.new ≡ known) (fitting (with_fact (facts_in terms.old branch.old) name (cong_form (tree terms.old map) (tree terms.old left) (tree terms.old right)))) }
+    ensures said { OnOk result (AreSaid terms.new branch.new) }
+    ensures begins { OnOk result (Begins branch.old branch.new) }
+    ensures keeps { Extends terms.old terms.new }
+{
+    let form = cong_fact(terms, map, left, right);
+    add_built(alloc, terms, branch, form, name, line)
+}
