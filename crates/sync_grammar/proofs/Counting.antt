@@ -105,8 +105,10 @@ no_row table s x none found true is =
     let wrong : ◌≡◌ {A = Option _} None (Some x) = sym none ∙ ap table (sym e) ∙ found in absurd cc
 
 silent_one_of : {A : Type 0} (table : Sign → Option A) → table sign.By ≡ None → Silent true (OneOf table)
-silent_one_of table none = record { at = λ ts rest x d.
-    one_word ts rest d.word d.stands (ap (λ z. says_sign z sign.By) d.is ∙ no_row table d.sign x.0 none d.found (is_same d.sign sign.By) refl) }
+silent_one_of table none = record {
+  at = λ ts rest x d.
+      one_word ts rest d.word d.stands (ap (λ z. says_sign z sign.By) d.is ∙ no_row table d.sign x.0 none d.found (is_same d.sign sign.By) refl);
+}
 
 -- ---- putting together
 
@@ -163,7 +165,7 @@ silent_operand s =
     (silent_or (silent_then (silent_the refl) λ l. silent_yields)
     (silent_or (silent_then (silent_one_of special_of refl) λ x. silent_yields)
     (silent_or (silent_then (silent_one_of function_of refl) λ f. silent_then (silent_round (silent_whole s)) λ args. silent_yields)
-    (silent_then (silent_the refl) λ o. silent_then s λ x. silent_then (silent_the refl) λ e. silent_yields))))))
+    (silent_then (silent_the refl) λ o. silent_then (silent_whole s) λ x. silent_then (silent_the refl) λ e. silent_yields))))))
 
 silent_bang : Silent true (The sign.Bang)
 silent_bang = silent_the refl

@@ -124,10 +124,10 @@ call_fork i = record {
 }
 
 bracket_fork : {q : Set} {m n : Spelled ExprKind} → Inner m n → Fork q (only (code sign.OpenRound))
-    (The sign.OpenRound >>= λ o. m >>= λ x. The sign.CloseRound >>= λ e. Yields x)
-    (The sign.OpenRound >>= λ o. n >>= λ x. The sign.CloseRound >>= λ e. Yields x)
+    (The sign.OpenRound >>= λ o. Whole m >>= λ x. The sign.CloseRound >>= λ e. Yields (kind.Bracketed x))
+    (The sign.OpenRound >>= λ o. Whole n >>= λ x. The sign.CloseRound >>= λ e. Yields (kind.Bracketed x))
 bracket_fork i = record {
-  clear = clear_next clear_the λ o. clear_then (others operators) i.clear (λ x. clear_next clear_the λ e. clear_yields)
+  clear = clear_next clear_the λ o. clear_then (others operators) (clear_whole i.clear) (λ x. clear_next clear_the λ e. clear_yields)
       (λ x. follows_starts (starts_then starts_the) (only_in _ refl)) (λ x. follows_starts (starts_then starts_the) (only_in _ refl));
   left = starts_then starts_the;
   right = starts_then starts_the;

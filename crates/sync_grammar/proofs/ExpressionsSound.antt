@@ -56,7 +56,7 @@ sign_case inner sound left w ws s is = either (begins_operand s) (either (left =
     (tested (is_same s sign.Dollar) (λ e. second (second (first (began _ _ (the_sign w ws sign.Dollar (is ∙ ap what.Sign (sign_is s sign.Dollar e)))
     (then_sound (name_sound left ws) λ v. yields)))))
     (tested (is_same s sign.OpenRound) (λ e. second (second (second (second (second (second (began _ _ (the_sign w ws sign.OpenRound (is ∙ ap what.Sign (sign_is s sign.OpenRound e)))
-    (then_sound (sound ws) λ v. then_sound (sign_sound (left - 1) sign.CloseRound v.1) λ c. yields))))))))
+    (then_sound (whole_sound sound ws) λ v. then_sound (sign_sound (left - 1) sign.CloseRound v.1) λ c. yields))))))))
     (word_case inner sound left w ws s is (special_of s) refl (function_of s) refl))))) stops
 
 operand_case : {m : Spelled ExprKind} (inner : Reader ExprKind) → ((ts : List Word) → Sound m ts (inner ts)) → (left : ℕ) (w : Word) (ws : List Word) (x : What) → w.what ≡ x

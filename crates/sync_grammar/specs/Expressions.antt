@@ -39,9 +39,9 @@ NoNumber inside =
       Yields (kind.Call f.0 f.1 args))
     or (do
       The sign.OpenRound
-      x ← inside
+      x ← Whole inside
       The sign.CloseRound
-      Yields x)
+      Yields (kind.Bracketed x))
 
 -- unary = NUMBER | ..
 unfoldable pub Operand : Spelled ExprKind → Spelled ExprKind
