@@ -283,7 +283,7 @@ silent_block_of : {m : Spelled RawBlock} → Silent true m → Silent true (Bloc
 unfolding BlockOf
 silent_block_of b = silent_then (silent_the refl) λ o. silent_then (silent_many (silent_step b)) λ xs. silent_then (silent_the refl) λ e. silent_yields
 
-silent_nested_block : (depth : ℕ) → Silent true (scripts.Nested depth)
+pub silent_nested_block : (depth : ℕ) → Silent true (scripts.Nested depth)
 unfolding scripts.Nested
 silent_nested_block zero = record { at = λ ts rest x d. absurd d }
 silent_nested_block (suc depth) = silent_block_of (silent_nested_block depth)
@@ -348,7 +348,7 @@ unfolding Machine
 silent_machine = silent_then (silent_the refl) λ m. silent_then silent_name λ n. silent_then (silent_the refl) λ o. silent_then (silent_many silent_field) λ fs.
     silent_then (silent_many silent_operation) λ ops. silent_then (silent_many silent_invariant) λ is. silent_then (silent_the refl) λ e. silent_yields
 
-silent_claim : Silent true Claim
+pub silent_claim : Silent true Claim
 unfolding Claim
 silent_claim = silent_or (silent_then (silent_the refl) λ a. silent_then silent_number λ n. silent_yields) (silent_then (silent_the refl) λ k. silent_then silent_name λ n. silent_yields)
 

@@ -8,3 +8,6 @@ pub mod ScriptsClear
 pub mod MachinesClear
 pub mod Counting
 pub mod Laws
+pub mod Completes
+pub mod ExpressionsComplete
+pub mod ScriptsComplete

@@ -27,7 +27,7 @@ use Rattle.sync_grammar.proofs.ScriptsClear.{clear_script}
 
 -- ---- statements
 
-pattern_fork : Fork (others operators) (both (only (code sign.Question)) begins) Pattern Pattern
+pub pattern_fork : Fork (others operators) (both (only (code sign.Question)) begins) Pattern Pattern
 unfolding Pattern
 pattern_fork = fork_or (lone (clear_next clear_the λ q. clear_next clear_name λ n. clear_yields) (starts_then starts_the))
     (lone (clear_then (others operators) clear_expr (λ e. clear_yields) (λ e. follows_yields same_in) (λ e. follows_yields same_in)) (starts_then starts_expr)) (only_in _ refl)
@@ -59,29 +59,29 @@ closed_expr = clear_closed (others operators) clear_expr refl
 closed_place : {q : Set} → Clear q (Closed Place) (Closed Place)
 closed_place = clear_closed any clear_place refl
 
-formula_fork : {q : Set} (opening : Sign) (made : Expr → RawActKind) → Fork q (only (code opening)) (FormulaAct opening made) (FormulaAct opening made)
+pub formula_fork : {q : Set} (opening : Sign) (made : Expr → RawActKind) → Fork q (only (code opening)) (FormulaAct opening made) (FormulaAct opening made)
 unfolding FormulaAct
 formula_fork opening made = lone (clear_next clear_the λ w. clear_next closed_expr λ e. clear_yields) (starts_then starts_the)
 
-value_fork : {q : Set} (opening : Sign) (made : Named → Expr → RawActKind) → Fork q (only (code opening)) (ValueAct opening made) (ValueAct opening made)
+pub value_fork : {q : Set} (opening : Sign) (made : Named → Expr → RawActKind) → Fork q (only (code opening)) (ValueAct opening made) (ValueAct opening made)
 unfolding ValueAct
 value_fork opening made = lone (clear_next clear_the λ w. clear_next clear_name λ n. clear_next clear_the λ q. clear_next closed_expr λ e. clear_yields) (starts_then starts_the)
 
-field_place_fork : {q : Set} (opening symbol : Sign) → Fork q (only (code opening)) (FieldPlace opening symbol) (FieldPlace opening symbol)
+pub field_place_fork : {q : Set} (opening symbol : Sign) → Fork q (only (code opening)) (FieldPlace opening symbol) (FieldPlace opening symbol)
 unfolding FieldPlace
 field_place_fork opening symbol = lone (clear_next clear_the λ w. clear_next clear_name λ n. clear_next clear_the λ q. clear_next closed_place λ p. clear_yields) (starts_then starts_the)
 
-place_fork : {q : Set} (opening symbol : Sign) (made : Named → RawPlace → RawActKind) → Fork q (only (code opening)) (PlaceAct opening symbol made) (PlaceAct opening symbol made)
+pub place_fork : {q : Set} (opening symbol : Sign) (made : Named → RawPlace → RawActKind) → Fork q (only (code opening)) (PlaceAct opening symbol made) (PlaceAct opening symbol made)
 unfolding PlaceAct
 place_fork opening symbol made = lone (clear_next (field_place_fork opening symbol).clear λ x. clear_yields) (starts_then (field_place_fork {q = any} opening symbol).left)
 
-have_fork : {q : Set} → Fork q (only (code sign.Have)) HaveAct HaveAct
+pub have_fork : {q : Set} → Fork q (only (code sign.Have)) HaveAct HaveAct
 unfolding HaveAct
 have_fork = lone (clear_next clear_the λ w. clear_next clear_name λ n.
     (fork_or (lone (clear_next clear_the λ s. clear_yields) (starts_then (starts_the {s = sign.Semicolon})))
     (lone (clear_next clear_the λ q. clear_next closed_place λ p. clear_yields) (starts_then (starts_the {s = sign.AtLeast}))) (only_in _ refl)).clear) (starts_then starts_the)
 
-abbrev act_signs : Set
+abbrev pub act_signs : Set
 act_signs = both (only (code sign.Init)) (both (only (code sign.Require)) (both (only (code sign.Assert)) (both (only (code sign.Update)) (both (only (code sign.Have)) (both (only (code sign.Guard))
     (both (only (code sign.Add)) (both (only (code sign.Deposit)) (both (only (code sign.Remove)) (only (code sign.Withdraw))))))))))
 
@@ -103,25 +103,25 @@ starts_act = starts_here λ start. starts_then (act_fork {q = any}).left
 
 -- ---- machines
 
-field_fork : {q : Set} → Fork q (only (code sign.Field)) Field Field
+pub field_fork : {q : Set} → Fork q (only (code sign.Field)) Field Field
 unfolding Field
 field_fork = lone (clear_next clear_the λ f. clear_next clear_name λ n. clear_next clear_the λ c. clear_next clear_strategy λ s. clear_next clear_the λ e. clear_yields) (starts_then starts_the)
 
 abbrev pub modes : Set
 modes = both (only (code sign.Init)) (both (only (code sign.Transition)) (only (code sign.Property)))
 
-mode_fork : {q : Set} → Fork q modes Mode Mode
+pub mode_fork : {q : Set} → Fork q modes Mode Mode
 unfolding Mode
 mode_fork = fork_or (lone (clear_next clear_the λ l. clear_yields) (starts_then starts_the))
     (fork_or (lone (clear_next clear_the λ l. clear_yields) (starts_then starts_the)) (lone (clear_next clear_the λ l. clear_yields) (starts_then starts_the)) (only_in _ refl)) (only_in _ refl)
 
-operation_fork : {q : Set} → Fork q modes Operation Operation
+pub operation_fork : {q : Set} → Fork q modes Operation Operation
 unfolding Operation
 operation_fork = lone (clear_next clear_here λ start. clear_next mode_fork.clear λ m. clear_next clear_name λ n. clear_next clear_names λ ps. clear_next clear_the λ o.
     clear_then (only (code sign.CloseBrace)) (clear_many {p = any} clear_act starts_act starts_act any_in any_in (only_in _ refl)) (λ xs. clear_next clear_the λ e. clear_yields)
     (λ xs. follows_starts (starts_then starts_the) same_in) (λ xs. follows_starts (starts_then starts_the) same_in)) (starts_here λ start. starts_then (mode_fork {q = any}).left)
 
-invariant_fork : {q : Set} → Fork q (only (code sign.Invariant)) Invariant Invariant
+pub invariant_fork : {q : Set} → Fork q (only (code sign.Invariant)) Invariant Invariant
 unfolding Invariant
 invariant_fork = lone (clear_next clear_the λ i. clear_next clear_name λ n. clear_next clear_names λ ps. clear_next clear_the λ c. clear_next closed_expr λ e. clear_yields) (starts_then starts_the)
 
@@ -132,10 +132,10 @@ behind_operations = code sign.Invariant ∷ code sign.CloseBrace ∷ []
 abbrev pub behind_fields : List ℕ
 behind_fields = code sign.Init ∷ code sign.Transition ∷ code sign.Property ∷ behind_operations
 
-invariants_follow : (g : List RawInvariant → Spelled RawMachine) → ((xs : List RawInvariant) → Starts (g xs) (only (code sign.CloseBrace))) → Follows any (among behind_operations) (Then (Many Invariant) g)
+pub invariants_follow : (g : List RawInvariant → Spelled RawMachine) → ((xs : List RawInvariant) → Starts (g xs) (only (code sign.CloseBrace))) → Follows any (among behind_operations) (Then (Many Invariant) g)
 invariants_follow g s = follows_then (only (code sign.CloseBrace)) (follows_many (invariant_fork {q = any}).left (only_in _ refl) (only_in _ refl)) (λ xs. follows_starts (s xs) same_in)
 
-operations_follow : (g : List RawOperation → Spelled RawMachine) → ((xs : List RawOperation) → Follows any (among behind_operations) (g xs)) → Follows any (among behind_fields) (Then (Many Operation) g)
+pub operations_follow : (g : List RawOperation → Spelled RawMachine) → ((xs : List RawOperation) → Follows any (among behind_operations) (g xs)) → Follows any (among behind_fields) (Then (Many Operation) g)
 operations_follow g f = follows_then (among behind_operations)
     (follows_many (operation_fork {q = any}).left (both_in (only_in _ refl) (both_in (only_in _ refl) (only_in _ refl))) (among_in behind_operations refl)) f
 
@@ -166,7 +166,7 @@ unfolding Claim
 clear_claim = (fork_or (lone (clear_next clear_the λ a. clear_next clear_number λ n. clear_yields) (starts_then (starts_the {s = sign.At})))
     (lone (clear_next clear_the λ k. clear_next clear_name λ n. clear_yields) (starts_then (starts_the {s = sign.Keeps}))) (only_in _ refl)).clear
 
-proof_fork : {q : Set} → Fork q (only 1) Proof Proof
+pub proof_fork : {q : Set} → Fork q (only 1) Proof Proof
 unfolding Proof
 proof_fork = lone (clear_next clear_name λ n. clear_next clear_claim λ c. clear_next clear_script λ s. clear_yields) (starts_then starts_name)
 

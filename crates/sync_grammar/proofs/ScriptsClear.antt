@@ -57,7 +57,7 @@ hyp_fork =
 pub clear_hyp : {q : Set} → Clear q Hyp Hyp
 clear_hyp = hyp_fork.clear
 
-scaled_fork : {q : Set} (minus : Bool) → Fork q (only 2) (Scaled minus) (Scaled minus)
+pub scaled_fork : {q : Set} (minus : Bool) → Fork q (only 2) (Scaled minus) (Scaled minus)
 unfolding Scaled
 scaled_fork minus = lone (clear_next clear_number λ n. clear_next clear_hyp λ h. clear_yields) (starts_then starts_number)
 
@@ -81,32 +81,32 @@ starts_as = starts_then starts_the
 
 -- ---- steps
 
-same_fork : {q : Set} → Fork q (only (code sign.Same)) Same Same
+pub same_fork : {q : Set} → Fork q (only (code sign.Same)) Same Same
 unfolding Same
 same_fork = lone (clear_next clear_the λ s. clear_next clear_the λ e. clear_yields) (starts_then starts_the)
 
-sum_fork : {q : Set} → Fork q (only (code sign.Sum)) Sum Sum
+pub sum_fork : {q : Set} → Fork q (only (code sign.Sum)) Sum Sum
 unfolding Sum
 sum_fork = lone (clear_next clear_the λ s.
     clear_then (only (code sign.Semicolon)) (clear_series any clear_part refl any_in (only_in _ refl)) (λ parts. clear_next clear_the λ e. clear_yields)
     (λ parts. follows_starts (starts_then starts_the) same_in) (λ parts. follows_starts (starts_then starts_the) same_in)) (starts_then starts_the)
 
-inst_fork : {q : Set} → Fork q (only (code sign.Inst)) Inst Inst
+pub inst_fork : {q : Set} → Fork q (only (code sign.Inst)) Inst Inst
 unfolding Inst
 inst_fork = lone (clear_next clear_the λ s. clear_next clear_hyp λ h. clear_next clear_args λ args. clear_next clear_as λ a. clear_next clear_the λ e. clear_yields) (starts_then starts_the)
 
-parts_fork : {q : Set} → Fork q (only (code sign.Parts)) Parts Parts
+pub parts_fork : {q : Set} → Fork q (only (code sign.Parts)) Parts Parts
 unfolding Parts
 parts_fork = lone (clear_next clear_the λ s. clear_next clear_hyp λ h. clear_next clear_as λ a. clear_next clear_the λ c. clear_next clear_name λ b. clear_next clear_the λ e. clear_yields)
     (starts_then starts_the)
 
-lookup_fork : {q : Set} (opening : Sign) (made : Expr → Expr → Named → RawStepKind) → Fork q (only (code opening)) (Lookup opening made) (Lookup opening made)
+pub lookup_fork : {q : Set} (opening : Sign) (made : Expr → Expr → Named → RawStepKind) → Fork q (only (code opening)) (Lookup opening made) (Lookup opening made)
 unfolding Lookup
 lookup_fork opening made = lone (clear_next clear_the λ s.
     expr_then (λ m. clear_next clear_the λ c. expr_then (λ k. clear_next clear_as λ a. clear_next clear_the λ e. clear_yields) (λ k. starts_then starts_as) (only_in _ refl))
     (λ m. starts_then starts_the) (only_in _ refl)) (starts_then starts_the)
 
-cong_fork : {q : Set} → Fork q (only (code sign.Cong)) Cong Cong
+pub cong_fork : {q : Set} → Fork q (only (code sign.Cong)) Cong Cong
 unfolding Cong
 cong_fork = lone (clear_next clear_the λ s.
     expr_then (λ m. clear_next clear_the λ c.
@@ -115,7 +115,7 @@ cong_fork = lone (clear_next clear_the λ s.
     (λ j. starts_then starts_the) (only_in _ refl))
     (λ m. starts_then starts_the) (only_in _ refl)) (starts_then starts_the)
 
-split_fork : {q : Set} {m n : Spelled RawBlock} → Clear any m n → Fork q (only (code sign.Split)) (Split m) (Split n)
+pub split_fork : {q : Set} {m n : Spelled RawBlock} → Clear any m n → Fork q (only (code sign.Split)) (Split m) (Split n)
 unfolding Split
 split_fork c = record {
   clear = clear_next clear_the λ s. clear_next clear_hyp λ h. clear_next clear_as λ a. clear_next c λ x. clear_next c λ y. clear_yields;
@@ -123,7 +123,7 @@ split_fork c = record {
   right = starts_then starts_the;
 }
 
-cut_fork : {q : Set} {m n : Spelled RawBlock} → Clear any m n → Fork q (only (code sign.Cut)) (Cut m) (Cut n)
+pub cut_fork : {q : Set} {m n : Spelled RawBlock} → Clear any m n → Fork q (only (code sign.Cut)) (Cut m) (Cut n)
 unfolding Cut
 cut_fork c = record {
   clear = clear_next clear_the λ s.
@@ -133,7 +133,7 @@ cut_fork c = record {
   right = starts_then starts_the;
 }
 
-abbrev step_signs : Set
+abbrev pub step_signs : Set
 step_signs = both (only (code sign.Split)) (both (only (code sign.Cut)) (both (only (code sign.Same)) (both (only (code sign.Sum)) (both (only (code sign.Inst)) (both (only (code sign.Parts))
     (both (only (code sign.Read)) (both (only (code sign.Size)) (both (only (code sign.Total)) (only (code sign.Cong))))))))))
 
@@ -148,7 +148,7 @@ pub clear_step : {q : Set} {m n : Spelled RawBlock} → Clear any m n → Clear 
 unfolding Step
 clear_step c = clear_next clear_here λ start. clear_next (step_fork c).clear λ x. clear_yields
 
-starts_step : {m n : Spelled RawBlock} → Clear any m n → Starts (Step m) step_signs
+pub starts_step : {m n : Spelled RawBlock} → Clear any m n → Starts (Step m) step_signs
 unfolding Step
 starts_step c = starts_here λ start. starts_then (step_fork {q = any} c).left
 
@@ -164,7 +164,7 @@ clear_block_of c = clear_next clear_the λ o.
     clear_then (only (code sign.CloseBrace)) (clear_many {p = any} (clear_step c) (starts_step c) (starts_step' c) any_in any_in (only_in _ refl)) (λ xs. clear_next clear_the λ e. clear_yields)
     (λ xs. follows_starts (starts_then starts_the) same_in) (λ xs. follows_starts (starts_then starts_the) same_in)
 
-clear_nested : {q : Set} (depth other : ℕ) → Clear q (Nested depth) (Nested other)
+pub clear_nested : {q : Set} (depth other : ℕ) → Clear q (Nested depth) (Nested other)
 unfolding Nested
 clear_nested zero other = record { at = λ ts us rest vs x y d e same a b. absurd d }
 clear_nested (suc depth) zero = record { at = λ ts us rest vs x y d e same a b. absurd e }
