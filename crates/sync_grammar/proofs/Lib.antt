@@ -11,3 +11,4 @@ pub mod Laws
 pub mod Completes
 pub mod ExpressionsComplete
 pub mod ScriptsComplete
+pub mod MachinesComplete

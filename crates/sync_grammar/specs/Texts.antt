@@ -1,5 +1,8 @@
 -- What a text spells.
-use Rattle.std.specs.Prelude.{◌≡◌, ℕ, ◌+◌, List, [], ◌∷◌, Ok, if◌then◌else◌}
+use Rattle.std.specs.Prelude.{◌≡◌, ℕ, ◌+◌, ◌⊎◌, List, [], ◌∷◌, Ok, if◌then◌else◌}
+use Rattle.sync_base.specs.declared.stops.Stop.{Stop}
+use Rattle.sync_base.specs.declared.stops.Stop.TheVariants.{Refused, Memory}
+use Rattle.sync_base.specs.declared.stops.Rule.TheVariants as rule
 use Rattle.sync_tokens.specs.declared.signs.Sign.{Sign}
 use Rattle.sync_tokens.specs.declared.signs.Sign.TheVariants as sign
 use Rattle.sync_tokens.specs.declared.words.Word.{Word}
@@ -39,3 +42,8 @@ times_said s (w ∷ ws) = (if is_sign w s then 1 else 0) + times_said s ws
 -- so often `by` stands in the text
 abbrev pub HasScripts : List ℕ → ℕ → Type 0
 HasScripts text n = (ws : Words) × (worded text ≡ Ok ws) × (times_said sign.By ws.list ≡ n)
+
+-- why a text may be refused that a tree is spelled by: for want of memory, too deep, or another version than 1
+abbrev pub MayRefuse : Stop → Type 0
+MayRefuse Memory = Unit {0}
+MayRefuse (Refused r) = (r.rule ≡ rule.G3) ⊎ (r.rule ≡ rule.G4)
