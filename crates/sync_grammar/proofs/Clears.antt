@@ -1,6 +1,6 @@
 -- No words spell two values: the law for each way to put productions together. Where a production may go on or not, what
 -- follows it decides; so a production is clear if no lexeme follows that could continue it.
-use Rattle.std.proofs.Common.{◌≡◌, ℕ, zero, suc, eqb, leb, Bool, true, false, not, ◌&&◌, ◌||◌, List, [], ◌∷◌, Option, Some, None, refl, sym, ap, ◌∙◌, subst}
+use Rattle.std.proofs.Common.{◌≡◌, ℕ, suc, eqb, Bool, true, false, not, ◌&&◌, ◌||◌, List, [], ◌∷◌, Option, Some, refl, sym, ap, ◌∙◌, subst}
 use Rattle.std.proofs.lemmas.Bool.{eqb-true, eq-eqb}
 use Rattle.sync_machine.specs.declared.fields.Strategy.{Strategy}
 use Rattle.sync_tokens.specs.declared.signs.Sign.{Sign}
@@ -9,8 +9,7 @@ use Rattle.sync_tokens.specs.contracts.signs.Sign.{the_type}
 use Rattle.sync_tokens.specs.declared.words.What.{What}
 use Rattle.sync_tokens.specs.declared.words.What.TheVariants as what
 use Rattle.sync_tokens.specs.declared.words.Word.{Word}
-use Rattle.sync_exprs.specs.declared.naming.Named.{Named}
-use Rattle.sync_grammar.specs.Relations.{Spelled, The, AName, ANumber, AStrategy, OneOf, Yields, Here, Then, ◌>>=◌, ◌>>◌, Either, the_one, the_other, ◌or◌, Closed, Many, nothing, more, Series, Listed, InRound, Names}
+use Rattle.sync_grammar.specs.Relations.{Spelled, The, AName, ANumber, AStrategy, OneOf, Yields, Here, Then, Either, the_one, the_other, Closed, Many, nothing, more, Series, Listed, InRound, Names}
 use denote.Enum.Declared.{tag_of}
 
 -- ---- the first lexeme as a number: 0 for none, 1 for a name, 2 for a number, and one number for each sign

@@ -1,6 +1,6 @@
 -- What is spelled is read, where it is not too deep: the law for each way to put productions together.
-use Rattle.std.proofs.Common.{◌≡◌, ℕ, zero, suc, ◌+◌, ◌-◌, ◌<◌, ◌≤◌, ◌==◌, eqb, Bool, true, false, not, ◌||◌, if◌then◌else◌, List, [], ◌∷◌, ◌++◌, length, Result, Ok, Err, Option, Some, None, refl, sym, ap, ◌∙◌, subst, arith, append_assoc, append-nil}
-use Rattle.std.proofs.lemmas.Bool.{eqb-true, eq-eqb}
+use Rattle.std.proofs.Common.{◌≡◌, ℕ, zero, suc, ◌-◌, ◌<◌, ◌≤◌, ◌==◌, eqb, Bool, true, false, not, ◌||◌, if◌then◌else◌, List, [], ◌∷◌, ◌++◌, length, Result, Ok, Err, Some, refl, sym, ap, ◌∙◌, subst, arith, append_assoc, append-nil}
+use Rattle.std.proofs.lemmas.Bool.{eqb-true}
 use Rattle.sync_base.specs.Outcome as outcome
 use Rattle.sync_machine.specs.declared.fields.Strategy.{Strategy}
 use Rattle.sync_tokens.specs.declared.signs.Sign.{Sign}
@@ -9,14 +9,13 @@ use Rattle.sync_tokens.specs.contracts.signs.Sign.{the_type}
 use Rattle.sync_tokens.specs.declared.words.What.{What}
 use Rattle.sync_tokens.specs.declared.words.What.TheVariants as what
 use Rattle.sync_tokens.specs.declared.words.Word.{Word}
-use Rattle.sync_tokens.specs.Signs.{is_same}
 use Rattle.sync_tokens.specs.Words.{says_sign, is_sign}
 use Rattle.sync_exprs.specs.declared.faults.Fault.{Fault}
 use Rattle.sync_exprs.specs.declared.faults.Fault.TheVariants as fault
 use Rattle.sync_exprs.specs.declared.naming.Named.{Named}
 use Rattle.sync_exprs.specs.Lexemes.{Read, Reader, within, begins_with, goes_on, sign_at, name_at, name_said, number_at, number_said, strategy_at, strategy_said, row, behind_commas, series, listed, in_round, names_at}
-use Rattle.sync_grammar.specs.Relations.{Spelled, The, AName, ANumber, AStrategy, Yields, Here, Then, ◌>>=◌, ◌>>◌, Either, the_one, the_other, Many, nothing, more, Series, Listed, InRound, Names}
-use Rattle.sync_grammar.proofs.Clears.{code, front, front_of, Set, any, only, both, others, In, only_in, same_in, not_both, Starts, Follows, starts_then, starts_the, starts_name, follows_starts, follows_then, follows_many, follows_yields, same_front}
+use Rattle.sync_grammar.specs.Relations.{Spelled, The, AName, ANumber, AStrategy, Yields, Here, Then, ◌>>◌, Either, the_one, the_other, Many, nothing, more, Series, Listed, InRound, Names}
+use Rattle.sync_grammar.proofs.Clears.{code, front, front_of, Set, any, only, both, others, In, only_in, same_in, Starts, Follows, starts_then, starts_the, starts_name, follows_starts, follows_then, follows_many, follows_yields}
 use Rattle.sync_grammar.proofs.Counting.{one_shorter}
 use denote.Enum.Bare.{true_same}
 use denote.Enum.Declared.{tag_of}
@@ -72,8 +71,10 @@ pub complete_next : {A B : Type 0} {q : Set} {m : Spelled A} {ts : List Word} {r
 complete_next one next = complete_then any one next (λ x. record { at = λ ts rest y d e. refl })
 
 pub complete_here : {B : Type 0} {q : Set} {ts : List Word} {g : List Word → Spelled B} {r : Read B} → Complete q (g ts) ts r → Complete q (Then Here g) ts r
-complete_here {ts = ts} {g = g} c = record { at = λ y rest d e.
-    c.at y rest (subst (λ us. g ts us rest y) (sym d.one.none) (subst (λ us. g us d.middle rest y) d.one.is d.next)) e }
+complete_here {ts = ts} {g = g} c = record {
+  at = λ y rest d e.
+      c.at y rest (subst (λ us. g ts us rest y) (sym d.one.none) (subst (λ us. g us d.middle rest y) d.one.is d.next)) e;
+}
 
 pub complete_weaker : {A : Type 0} {q p : Set} {m : Spelled A} {ts : List Word} {r : Read A} → Complete p m ts r → In q p → Complete q m ts r
 complete_weaker c i = record { at = λ x rest d e. c.at x rest d (i.at (front rest) e) }
@@ -97,6 +98,7 @@ met_within {go = go} {x = x} (suc below) line h = go_case (suc below == 0) (eqb_
         no_zero : (c : Bool) → (suc n == 0) ≡ c → (suc n == 0) ≡ false
         no_zero true e = let k : suc n ≡ 0 = eqb-true (suc n) 0 e in absurd (omega (arith, k))
         no_zero false e = e
+
     go_case : (c : Bool) → c ≡ false → Met go x → Met (if c then Err (fault.Deep line) else go) x
     go_case true e k = record { is = tt }
     go_case false e k = k
@@ -122,7 +124,7 @@ sign_case left s [] line rest d = let e : ◌≡◌ {A = List Word} [] (d.word �
 sign_case left s (w ∷ ws) line rest d =
     let e : ◌≡◌ {A = List Word} (w ∷ ws) (d.word ∷ rest) = d.stands in
     met_if _ (is_sign w s) (is_it w s (says w d.word ws rest (what.Sign s) e d.is)) (met_within left w.line λ room.
-      gives (ap (λ (z : Word). z.line) (head_is w d.word ws rest e) ∙ sym d.line_is) (tail_is w d.word ws rest e))
+    gives (ap (λ (z : Word). z.line) (head_is w d.word ws rest e) ∙ sym d.line_is) (tail_is w d.word ws rest e))
 
 pub complete_the : (left : ℕ) (s : Sign) (ts : List Word) → Complete any (The s) ts (sign_at left s ts)
 complete_the left s ts = record { at = λ line rest d e. sign_case left s ts line rest d }
@@ -249,8 +251,8 @@ row_case {A = A} {q = q} {p = p} {m = m} begins item known (suc count) held ts x
     let h = known.shrinks.at ts us x d in
     let fits : length us ≤ count = omega (arith, h, small) in
     met_if _ (begins ts) (known.begin ts us x d)
-      (row_step begins item count held x us ys rest (λ held us small ds. row_case begins item known count held us ys rest small e ds) (item ts)
-        ((known.complete ts).at x us d (known.follows.at us rest ys ds e)) fits ds)
+    (row_step begins item count held x us ys rest (λ held us small ds. row_case begins item known count held us ys rest small e ds) (item ts)
+    ((known.complete ts).at x us d (known.follows.at us rest ys ds e)) fits ds)
 
 pub complete_row : {A : Type 0} {q p : Set} {m : Spelled A} {begins : List Word → Bool} {item : Reader A} → Row q p m begins item → (ts : List Word) → Complete q (Many m) ts (row begins item (length ts) [] ts)
 complete_row {begins = begins} {item = item} known ts = record { at = λ xs rest d e. row_case begins item known (length ts) [] ts xs rest (omega arith) e d }
@@ -281,10 +283,12 @@ goes_not (w ∷ ws) e = ap not (front_case sign.CloseBrace w.what ∙ e)
 pub braced : {A : Type 0} {r : Set} {m : Spelled A} {item : Reader A} → ((ts : List Word) → Complete any m ts (item ts)) → Shrinks m → Starts m r → In r (others (both (only 0) (only (code sign.CloseBrace))))
     → Row (only (code sign.CloseBrace)) any m goes_on item
 braced c s t i = record {
-    complete = c; shrinks = s;
-    begin = λ ts rest x d. goes_is ts (i.at (front ts) (t.at ts rest x d));
-    stop = goes_not;
-    follows = record { at = λ ts rest xs d e. refl } }
+  complete = c;
+  shrinks = s;
+  begin = λ ts rest x d. goes_is ts (i.at (front ts) (t.at ts rest x d));
+  stop = goes_not;
+  follows = record { at = λ ts rest xs d e. refl };
+}
 
 -- ---- lists with commas
 
@@ -295,7 +299,7 @@ commas_step : {A : Type 0} {m : Spelled A} (item : Reader A) (count : ℕ) (held
 commas_step item count held x us xs rest again (Ok v) met small ds =
     let got : Met (behind_commas item count (held ++ x ∷ []) us) ((held ++ x ∷ []) ++ xs, rest) = again (held ++ x ∷ []) us small ds in
     let moved : Met (behind_commas item count (held ++ v.0 ∷ []) v.1) ((held ++ x ∷ []) ++ xs, rest) =
-        subst (λ z. Met (behind_commas item count (held ++ z.0 ∷ []) z.1) ((held ++ x ∷ []) ++ xs, rest)) (sym met.is) got in
+    subst (λ z. Met (behind_commas item count (held ++ z.0 ∷ []) z.1) ((held ++ x ∷ []) ++ xs, rest)) (sym met.is) got in
     subst (λ (ys : List _). Met (behind_commas item count (held ++ v.0 ∷ []) v.1) (ys, rest)) (append_assoc held (x ∷ []) xs) moved
 commas_step item count held x us xs rest again (Err f) met small ds = record { is = met.is }
 
@@ -327,14 +331,16 @@ commas_case item known (suc count) held (w ∷ ws) xs rest small e (more {us = u
     let fits : length us ≤ count = omega (arith, less, same, small) in
     let met = subst (λ zs. Met (item zs) (x, us)) (sym tail) ((known.complete d.middle).at x us d.next ((commas_follow known).at us rest ys ds e)) in
     met_if _ (is_sign w sign.Comma) (is_it w sign.Comma (says w d.one.word ws d.middle (what.Sign sign.Comma) h d.one.is))
-      (commas_step item count held x us ys rest (λ held us small ds. commas_case item known count held us ys rest small e ds) (item ws) met fits ds)
+    (commas_step item count held x us ys rest (λ held us small ds. commas_case item known count held us ys rest small e ds) (item ws) met fits ds)
 
 series_end : {A : Type 0} {q p : Set} {m : Spelled A} {item : Reader A} → Listing q p m item → (x : A) (ts : List Word)
     → Complete q (Then (Many (The sign.Comma >> m)) (λ xs. Yields (x ∷ xs))) ts (behind_commas item (length ts) (x ∷ []) ts)
-series_end {q = q} {item = item} known x ts = record { at = λ ys rest d e.
-    let end = subst (λ us. q (front us) ≡ true) (sym d.next.none) e in
-    let met = commas_case item known (length ts) (x ∷ []) ts d.value d.middle (omega arith) end d.one in
-    subst (Met (behind_commas item (length ts) (x ∷ []) ts)) (pair_is (sym d.next.is) d.next.none) met }
+series_end {q = q} {item = item} known x ts = record {
+  at = λ ys rest d e.
+      let end = subst (λ us. q (front us) ≡ true) (sym d.next.none) e in
+      let met = commas_case item known (length ts) (x ∷ []) ts d.value d.middle (omega arith) end d.one in
+      subst (Met (behind_commas item (length ts) (x ∷ []) ts)) (pair_is (sym d.next.is) d.next.none) met;
+}
 
 pub complete_series : {A : Type 0} {q p : Set} {m : Spelled A} {item : Reader A} → Listing q p m item → (ts : List Word) → Complete q (Series m) ts (series item ts)
 unfolding series Series
@@ -358,8 +364,8 @@ unfolding in_round InRound
 round_case q zero item known s i ts xs rest d e = no_room _ _ sign.OpenRound ts d.middle d.value d.one
 round_case q (suc below) item known s i ts xs rest d e =
     (complete_next {q = q} (complete_the (suc below) sign.OpenRound ts) λ o.
-      complete_then (only (code sign.CloseRound)) (complete_listed sign.CloseRound (known (omega arith)) s i o.1)
-        (λ v. complete_next (complete_the (suc below - 1) sign.CloseRound v.1) λ c. complete_yields) (λ x. follows_starts (starts_then starts_the) same_in)).at xs rest d e
+    complete_then (only (code sign.CloseRound)) (complete_listed sign.CloseRound (known (omega arith)) s i o.1)
+    (λ v. complete_next (complete_the (suc below - 1) sign.CloseRound v.1) λ c. complete_yields) (λ x. follows_starts (starts_then starts_the) same_in)).at xs rest d e
 
 -- a list in round brackets, where the items are read one level deeper
 pub complete_round : {A : Type 0} {q p r : Set} {m : Spelled A} (left : ℕ) (item : Reader A) → (0 < left → Listing (only (code sign.CloseRound)) p m item) → Starts m r → In r (others (only (code sign.CloseRound)))

@@ -1,9 +1,8 @@
 -- No words spell two expressions, where no operator follows.
-use Rattle.std.proofs.Common.{◌≡◌, ℕ, zero, suc, Bool, true, false, not, ◌||◌, if◌then◌else◌, List, [], ◌∷◌, Option, Some, None, refl, sym, ap, ◌∙◌, subst}
+use Rattle.std.proofs.Common.{◌≡◌, ℕ, zero, suc, Bool, true, false, if◌then◌else◌, List, [], ◌∷◌, Option, Some, refl, sym, ap, ◌∙◌, subst}
 use Rattle.sync_tokens.specs.declared.signs.Sign.{Sign}
 use Rattle.sync_tokens.specs.declared.signs.Sign.TheVariants as sign
 use Rattle.sync_tokens.specs.contracts.signs.Sign.{the_type}
-use Rattle.sync_tokens.specs.declared.words.What.{What}
 use Rattle.sync_tokens.specs.declared.words.What.TheVariants as what
 use Rattle.sync_tokens.specs.declared.words.Word.{Word}
 use Rattle.sync_tokens.specs.Signs.{is_same}
@@ -17,10 +16,9 @@ use Rattle.sync_exprs.specs.declared.expressions.Function.TheVariants as functio
 use Rattle.sync_exprs.specs.declared.expressions.Operator.{Operator}
 use Rattle.sync_exprs.specs.declared.expressions.Operator.TheVariants as operator
 use Rattle.sync_exprs.specs.Expressions.{special_of, function_of}
-use Rattle.sync_grammar.specs.Relations.{Spelled, The, AName, ANumber, OneOf, Yields, Here, Then, ◌>>=◌, ◌>>◌, Either, the_one, the_other, ◌or◌, InRound}
+use Rattle.sync_grammar.specs.Relations.{Spelled, The, ANumber, OneOf, Yields, ◌>>=◌, the_one, the_other, InRound}
 use Rattle.sync_grammar.specs.Expressions.{placed_at, Whole, NoNumber, Operand, Unary, Product, Chain, Chained, Joins, SumSign, Sum, RelationSign, Relation, And, Or, Implied, Nested, AnExpr, Args}
-use Rattle.sync_grammar.proofs.Clears
-use Rattle.sync_grammar.proofs.Clears.{code, front, Set, any, only, among, both, others, In, only_in, among_in, both_in, others_in, others_first, same_in, any_in, not_both, Starts, Follows, Clear, Fork, lone, fork_or, starts_weaker, starts_then, starts_here, starts_or, starts_the, starts_name, starts_number, same_front, follows_starts, follows_yields, follows_or, follows_then, clear_the, clear_name, clear_number, clear_one_of, clear_yields, clear_here, clear_weaker, clear_then, clear_next, clear_optional, clear_round, starts_round}
+use Rattle.sync_grammar.proofs.Clears.{code, front, Set, any, only, among, both, others, In, only_in, among_in, both_in, others_in, others_first, same_in, not_both, Starts, Clear, Fork, lone, fork_or, starts_weaker, starts_then, starts_here, starts_or, starts_the, starts_name, starts_number, same_front, follows_starts, follows_yields, follows_or, clear_the, clear_name, clear_number, clear_one_of, clear_yields, clear_here, clear_then, clear_next, clear_optional, clear_round}
 use denote.Enum.Bare.{same_true}
 
 -- ---- sets of first lexemes

@@ -1,5 +1,5 @@
 -- What is spelled as an expression is read, where it is not too deep.
-use Rattle.std.proofs.Common.{◌≡◌, ℕ, zero, suc, ◌-◌, ◌<◌, ◌==◌, ◌||◌, Bool, true, false, not, if◌then◌else◌, List, [], ◌∷◌, length, Result, Ok, Err, Option, Some, None, is_some, refl, sym, ap, ◌∙◌, subst, arith}
+use Rattle.std.proofs.Common.{◌≡◌, ℕ, zero, suc, ◌-◌, ◌<◌, ◌==◌, ◌||◌, Bool, true, false, if◌then◌else◌, List, [], ◌∷◌, Ok, Err, Option, Some, None, is_some, refl, sym, ap, ◌∙◌, subst, arith}
 use Rattle.sync_base.specs.Outcome as outcome
 use Rattle.sync_tokens.specs.declared.signs.Sign.{Sign}
 use Rattle.sync_tokens.specs.declared.signs.Sign.TheVariants as sign
@@ -10,7 +10,6 @@ use Rattle.sync_tokens.specs.declared.words.What.TheVariants as what
 use Rattle.sync_tokens.specs.declared.words.Word.{Word}
 use Rattle.sync_tokens.specs.Signs.{is_same}
 use Rattle.sync_tokens.specs.Words.{says_sign, is_sign}
-use Rattle.sync_exprs.specs.declared.faults.Fault.{Fault}
 use Rattle.sync_exprs.specs.declared.faults.Fault.TheVariants as fault
 use Rattle.sync_exprs.specs.declared.expressions.Expr.{Expr}
 use Rattle.sync_exprs.specs.declared.expressions.ExprKind.{ExprKind}
@@ -21,15 +20,15 @@ use Rattle.sync_exprs.specs.declared.expressions.Function.{Function}
 use Rattle.sync_exprs.specs.declared.expressions.Function.TheVariants as function
 use Rattle.sync_exprs.specs.declared.expressions.Operator.{Operator}
 use Rattle.sync_exprs.specs.declared.expressions.Operator.TheVariants as operator
-use Rattle.sync_exprs.specs.Lexemes.{Read, Reader, within, first_line, sign_at, name_at, number_at, listed, in_round}
-use Rattle.sync_exprs.specs.Expressions.{signed, placed, whole, special_of, function_of, relation_of, sum_of, and_of, or_of, factor_of, number_in, begins_operand, word_operand, bracketed, param, sign_operand, operand_said, operand, prefixed, unary_with, unary, times, product, chain, chained, sums, related, relation, ands, ors, implied, implies, inside, expr_at, exprs_at}
-use Rattle.sync_grammar.specs.Relations.{Spelled, The, AName, ANumber, OneOf, Yields, Here, Then, ◌>>=◌, ◌>>◌, Either, the_one, the_other, InRound}
+use Rattle.sync_exprs.specs.Lexemes.{Read, Reader, first_line, listed, in_round}
+use Rattle.sync_exprs.specs.Expressions.{placed, whole, special_of, function_of, relation_of, sum_of, and_of, or_of, factor_of, number_in, begins_operand, sign_operand, operand_said, operand, prefixed, unary_with, unary, times, product, chain, chained, sums, related, relation, ands, ors, implied, implies, inside, expr_at, exprs_at}
+use Rattle.sync_grammar.specs.Relations.{Spelled, The, AName, ANumber, Yields, ◌>>=◌, Either, the_one, the_other, InRound}
 use Rattle.sync_grammar.specs.Expressions.{placed_at, Whole, NoNumber, Operand, Unary, Product, Chain, Chained, Joins, SumSign, Sum, RelationSign, Relation, And, Or, Implied, Nested, AnExpr, Args}
-use Rattle.sync_grammar.proofs.Clears.{code, front, front_of, Set, any, only, among, both, others, In, only_in, among_in, both_in, others_in, others_first, same_in, not_both, Starts, Follows, starts_then, starts_the, follows_starts, follows_yields, follows_or}
+use Rattle.sync_grammar.proofs.Clears.{code, front, front_of, Set, any, only, both, others, In, only_in, among_in, both_in, others_in, others_first, not_both, Starts, starts_then, starts_the, follows_starts, follows_yields, follows_or}
 use Rattle.sync_grammar.proofs.ExpressionsSound.{Table, whole_is, or_table, and_table, sum_table, relation_table}
-use Rattle.sync_grammar.proofs.ExpressionsClear.{Inner, row, operands, begins, times_sign, sum_signs, relation_signs, and_signs, or_signs, operators, relations, relations_in, starts_operand, starts_whole, starts_bang, starts_minus, starts_implies, number_alone, nested_inner, starts_nested, sum_fork, relation_fork, joins_fork, no_operator, implies_follows, follows_chain_case, starts_expr}
-use Rattle.sync_grammar.proofs.Counting.{Silent, silent_nested, silent_expr}
-use Rattle.sync_grammar.proofs.Completes.{Excused, Met, gives, Complete, Shrinks, Listing, complete_yields, complete_then, complete_next, complete_here, complete_weaker, met_if, met_else, met_within, tail_is, head_is, says, is_it, complete_the, complete_name, complete_number, front_case, is_not, pair_is, complete_round}
+use Rattle.sync_grammar.proofs.ExpressionsClear.{Inner, operands, begins, times_sign, sum_signs, relation_signs, and_signs, or_signs, operators, relations, relations_in, starts_operand, starts_whole, number_alone, nested_inner, starts_nested, sum_fork, relation_fork, joins_fork, no_operator, implies_follows, follows_chain_case}
+use Rattle.sync_grammar.proofs.Counting.{silent_nested, silent_expr}
+use Rattle.sync_grammar.proofs.Completes.{Met, gives, Complete, Shrinks, complete_yields, complete_then, complete_next, complete_here, met_if, met_else, met_within, tail_is, head_is, says, is_it, complete_the, complete_name, complete_number, front_case, is_not, pair_is, complete_round}
 
 some_is : {A : Type 0} {x y : A} → ◌≡◌ {A = Option A} (Some x) (Some y) → x ≡ y
 some_is e = cc
@@ -62,9 +61,14 @@ call_read : {m : Spelled ExprKind} {left : ℕ} {inner : Reader ExprKind} → In
     → Met {A = ExprKind × List Word} (outcome.◌>>=◌ (in_round left (listed (whole inner) sign.CloseRound) ws) (λ x. Ok (kind.Call f line x.0, x.1))) (kind.Call f line args, rest)
 call_read {left = left} {inner = inner} i f line ws args rest d =
     go (in_round left (listed (whole inner) sign.CloseRound) ws)
-      ((complete_round {q = any} left (whole inner) (λ room. record {
-          complete = complete_whole (i.complete room); shrinks = shrinks_whole i.shrinks; comma = refl; end = only_in _ refl; apart = only_in _ refl })
-        (starts_whole i.known.left) (among_in {q = others (only (code sign.CloseRound))} (code sign.Bang ∷ code sign.Minus ∷ operands) refl) ws).at args rest d refl)
+    ((complete_round {q = any} left (whole inner) (λ room. record {
+      complete = complete_whole (i.complete room);
+      shrinks = shrinks_whole i.shrinks;
+      comma = refl;
+      end = only_in _ refl;
+      apart = only_in _ refl;
+    })
+    (starts_whole i.known.left) (among_in {q = others (only (code sign.CloseRound))} (code sign.Bang ∷ code sign.Minus ∷ operands) refl) ws).at args rest d refl)
   where
     go : (r : Read (List Expr)) → Met r (args, rest) → Met {A = ExprKind × List Word} (outcome.◌>>=◌ r (λ x. Ok (kind.Call f line x.0, x.1))) (kind.Call f line args, rest)
     go (Ok v) met = gives (ap (λ z. kind.Call f line z.0) met.is) (ap (λ z. z.1) met.is)
@@ -83,6 +87,7 @@ special_cases P a b c d e s x found =
     pick_case : (t : Sign) (y : Special) (other : Option Special) (c : Bool) → is_same s t ≡ c → (if c then Some y else other) ≡ Some x → P t → (other ≡ Some x → P s) → P s
     pick_case t y other true is found here more = subst P (sym (same_true the_type tt s t is)) here
     pick_case t y other false is found here more = more found
+
     pick : (t : Sign) (y : Special) (other : Option Special) → (if is_same s t then Some y else other) ≡ Some x → P t → (other ≡ Some x → P s) → P s
     pick t y other = pick_case t y other (is_same s t) refl
 
@@ -101,6 +106,7 @@ function_cases P a b c d e f g h s x found =
     pick_case : (t : Sign) (y : Function) (other : Option Function) (c : Bool) → is_same s t ≡ c → (if c then Some y else other) ≡ Some x → P t → (other ≡ Some x → P s) → P s
     pick_case t y other true is found here more = subst P (sym (same_true the_type tt s t is)) here
     pick_case t y other false is found here more = more found
+
     pick : (t : Sign) (y : Function) (other : Option Function) → (if is_same s t then Some y else other) ≡ Some x → P t → (other ≡ Some x → P s) → P s
     pick t y other = pick_case t y other (is_same s t) refl
 
@@ -108,27 +114,27 @@ special_read : (inner : Reader ExprKind) (left line : ℕ) (ws : List Word) (s :
 unfolding sign_operand begins_operand special_of function_of
 special_read inner left line ws s x found =
     special_cases (λ t. (y : Special) → special_of t ≡ Some y → Met (sign_operand inner left t line ws) (kind.Special y line, ws))
-      (λ y e. met_within left line λ room. gives (ap (λ z. kind.Special z line) (some_is e)) refl)
-      (λ y e. met_within left line λ room. gives (ap (λ z. kind.Special z line) (some_is e)) refl)
-      (λ y e. met_within left line λ room. gives (ap (λ z. kind.Special z line) (some_is e)) refl)
-      (λ y e. met_within left line λ room. gives (ap (λ z. kind.Special z line) (some_is e)) refl)
-      (λ y e. met_within left line λ room. gives (ap (λ z. kind.Special z line) (some_is e)) refl)
-      s x found x found
+    (λ y e. met_within left line λ room. gives (ap (λ z. kind.Special z line) (some_is e)) refl)
+    (λ y e. met_within left line λ room. gives (ap (λ z. kind.Special z line) (some_is e)) refl)
+    (λ y e. met_within left line λ room. gives (ap (λ z. kind.Special z line) (some_is e)) refl)
+    (λ y e. met_within left line λ room. gives (ap (λ z. kind.Special z line) (some_is e)) refl)
+    (λ y e. met_within left line λ room. gives (ap (λ z. kind.Special z line) (some_is e)) refl)
+    s x found x found
 
 function_read : {m : Spelled ExprKind} {left : ℕ} (inner : Reader ExprKind) → Inside m left inner → (line : ℕ) (ws : List Word) (args : List Expr) (rest : List Word) → InRound (Whole m) ws rest args
     → (s : Sign) (x : Function) → function_of s ≡ Some x → Met (sign_operand inner left s line ws) (kind.Call x line args, rest)
 unfolding sign_operand begins_operand special_of function_of
 function_read {left = left} inner i line ws args rest d s x found =
     function_cases (λ t. (y : Function) → function_of t ≡ Some y → Met (sign_operand inner left t line ws) (kind.Call y line args, rest))
-      (λ y e. met_within left line λ room. subst (λ z. Met {A = ExprKind × List Word} (outcome.◌>>=◌ (in_round left (listed (whole inner) sign.CloseRound) ws) (λ x. Ok (kind.Call function.Get line x.0, x.1))) (kind.Call z line args, rest)) (some_is e) (call_read i function.Get line ws args rest d))
-      (λ y e. met_within left line λ room. subst (λ z. Met {A = ExprKind × List Word} (outcome.◌>>=◌ (in_round left (listed (whole inner) sign.CloseRound) ws) (λ x. Ok (kind.Call function.Has line x.0, x.1))) (kind.Call z line args, rest)) (some_is e) (call_read i function.Has line ws args rest d))
-      (λ y e. met_within left line λ room. subst (λ z. Met {A = ExprKind × List Word} (outcome.◌>>=◌ (in_round left (listed (whole inner) sign.CloseRound) ws) (λ x. Ok (kind.Call function.Size line x.0, x.1))) (kind.Call z line args, rest)) (some_is e) (call_read i function.Size line ws args rest d))
-      (λ y e. met_within left line λ room. subst (λ z. Met {A = ExprKind × List Word} (outcome.◌>>=◌ (in_round left (listed (whole inner) sign.CloseRound) ws) (λ x. Ok (kind.Call function.Sum line x.0, x.1))) (kind.Call z line args, rest)) (some_is e) (call_read i function.Sum line ws args rest d))
-      (λ y e. met_within left line λ room. subst (λ z. Met {A = ExprKind × List Word} (outcome.◌>>=◌ (in_round left (listed (whole inner) sign.CloseRound) ws) (λ x. Ok (kind.Call function.Put line x.0, x.1))) (kind.Call z line args, rest)) (some_is e) (call_read i function.Put line ws args rest d))
-      (λ y e. met_within left line λ room. subst (λ z. Met {A = ExprKind × List Word} (outcome.◌>>=◌ (in_round left (listed (whole inner) sign.CloseRound) ws) (λ x. Ok (kind.Call function.Del line x.0, x.1))) (kind.Call z line args, rest)) (some_is e) (call_read i function.Del line ws args rest d))
-      (λ y e. met_within left line λ room. subst (λ z. Met {A = ExprKind × List Word} (outcome.◌>>=◌ (in_round left (listed (whole inner) sign.CloseRound) ws) (λ x. Ok (kind.Call function.Bump line x.0, x.1))) (kind.Call z line args, rest)) (some_is e) (call_read i function.Bump line ws args rest d))
-      (λ y e. met_within left line λ room. subst (λ z. Met {A = ExprKind × List Word} (outcome.◌>>=◌ (in_round left (listed (whole inner) sign.CloseRound) ws) (λ x. Ok (kind.Call function.Held line x.0, x.1))) (kind.Call z line args, rest)) (some_is e) (call_read i function.Held line ws args rest d))
-      s x found x found
+    (λ y e. met_within left line λ room. subst (λ z. Met {A = ExprKind × List Word} (outcome.◌>>=◌ (in_round left (listed (whole inner) sign.CloseRound) ws) (λ x. Ok (kind.Call function.Get line x.0, x.1))) (kind.Call z line args, rest)) (some_is e) (call_read i function.Get line ws args rest d))
+    (λ y e. met_within left line λ room. subst (λ z. Met {A = ExprKind × List Word} (outcome.◌>>=◌ (in_round left (listed (whole inner) sign.CloseRound) ws) (λ x. Ok (kind.Call function.Has line x.0, x.1))) (kind.Call z line args, rest)) (some_is e) (call_read i function.Has line ws args rest d))
+    (λ y e. met_within left line λ room. subst (λ z. Met {A = ExprKind × List Word} (outcome.◌>>=◌ (in_round left (listed (whole inner) sign.CloseRound) ws) (λ x. Ok (kind.Call function.Size line x.0, x.1))) (kind.Call z line args, rest)) (some_is e) (call_read i function.Size line ws args rest d))
+    (λ y e. met_within left line λ room. subst (λ z. Met {A = ExprKind × List Word} (outcome.◌>>=◌ (in_round left (listed (whole inner) sign.CloseRound) ws) (λ x. Ok (kind.Call function.Sum line x.0, x.1))) (kind.Call z line args, rest)) (some_is e) (call_read i function.Sum line ws args rest d))
+    (λ y e. met_within left line λ room. subst (λ z. Met {A = ExprKind × List Word} (outcome.◌>>=◌ (in_round left (listed (whole inner) sign.CloseRound) ws) (λ x. Ok (kind.Call function.Put line x.0, x.1))) (kind.Call z line args, rest)) (some_is e) (call_read i function.Put line ws args rest d))
+    (λ y e. met_within left line λ room. subst (λ z. Met {A = ExprKind × List Word} (outcome.◌>>=◌ (in_round left (listed (whole inner) sign.CloseRound) ws) (λ x. Ok (kind.Call function.Del line x.0, x.1))) (kind.Call z line args, rest)) (some_is e) (call_read i function.Del line ws args rest d))
+    (λ y e. met_within left line λ room. subst (λ z. Met {A = ExprKind × List Word} (outcome.◌>>=◌ (in_round left (listed (whole inner) sign.CloseRound) ws) (λ x. Ok (kind.Call function.Bump line x.0, x.1))) (kind.Call z line args, rest)) (some_is e) (call_read i function.Bump line ws args rest d))
+    (λ y e. met_within left line λ room. subst (λ z. Met {A = ExprKind × List Word} (outcome.◌>>=◌ (in_round left (listed (whole inner) sign.CloseRound) ws) (λ x. Ok (kind.Call function.Held line x.0, x.1))) (kind.Call z line args, rest)) (some_is e) (call_read i function.Held line ws args rest d))
+    s x found x found
 
 param_read : (inner : Reader ExprKind) (left line : ℕ) (ws : List Word) (x : ExprKind) (rest : List Word) → (AName >>= λ y. Yields (kind.Param line y)) ws rest x → Met (sign_operand inner left sign.Dollar line ws) (x, rest)
 unfolding sign_operand begins_operand special_of function_of
@@ -146,7 +152,7 @@ bracket_read : {m : Spelled ExprKind} {left : ℕ} (inner : Reader ExprKind) →
 unfolding sign_operand begins_operand special_of function_of
 bracket_read {left = left} inner i line ws x rest d = met_within left line λ room.
     (complete_then {q = any} (others operators) (complete_whole (i.complete room) ws) (λ v. complete_next (complete_the (left - 1) sign.CloseRound v.1) λ c. complete_yields)
-      (λ y. follows_starts (starts_then starts_close) (only_in _ refl))).at x rest d refl
+    (λ y. follows_starts (starts_then starts_close) (only_in _ refl))).at x rest d refl
 
 -- the derivation's first word is the word that is read
 moved : (inner : Reader ExprKind) (left : ℕ) (w v : Word) (ws vs : List Word) (s : Sign) (x : ExprKind) (rest : List Word) → ◌≡◌ {A = List Word} (w ∷ ws) (v ∷ vs) → v.what ≡ what.Sign s
@@ -161,12 +167,12 @@ operand_case left inner i w ws x rest (the_one d) =
     let line = ap (λ (z : Word). z.line) (head_is w d.one.word ws d.middle e) in
     let value : kind.Name (record { name = d.one.number; line = w.line }) ≡ x = (λ k. kind.Name (record { name = d.one.number; line = line k })) ∙ ap kind.Name (sym d.one.name_is) ∙ sym d.next.is in
     subst (λ z. Met (operand_said inner left w.line ws z) (x, rest)) (sym (says w d.one.word ws d.middle (what.Name d.one.number d.one.strategy) e d.one.is))
-      (met_within left w.line λ room. gives value (tail_is w d.one.word ws d.middle e ∙ d.next.none))
+    (met_within left w.line λ room. gives value (tail_is w d.one.word ws d.middle e ∙ d.next.none))
 operand_case left inner i w ws x rest (the_other (the_one d)) =
     let e : ◌≡◌ {A = List Word} (w ∷ ws) (d.one.word ∷ d.middle) = d.one.stands in
     let line : d.value ≡ w.line = d.one.line_is ∙ ap (λ (z : Word). z.line) (sym (head_is w d.one.word ws d.middle e)) in
     let next = subst (λ us. (AName >>= λ y. Yields (kind.Param w.line y)) us rest x) (sym (tail_is w d.one.word ws d.middle e))
-        (subst (λ l. (AName >>= λ y. Yields (kind.Param l y)) d.middle rest x) line d.next) in
+    (subst (λ l. (AName >>= λ y. Yields (kind.Param l y)) d.middle rest x) line d.next) in
     moved inner left w d.one.word ws d.middle sign.Dollar x rest e d.one.is (param_read inner left w.line ws x rest next)
 operand_case left inner i w ws x rest (the_other (the_other (the_one d))) =
     let e : ◌≡◌ {A = List Word} (w ∷ ws) (d.one.word ∷ d.middle) = d.one.stands in
@@ -177,7 +183,7 @@ operand_case left inner i w ws x rest (the_other (the_other (the_other (the_one 
     let line : w.line ≡ d.value.1 = ap (λ (z : Word). z.line) (head_is w d.one.word ws d.middle e) ∙ sym d.one.line_is in
     let value : kind.Special d.value.0 w.line ≡ x = ap (kind.Special d.value.0) line ∙ sym d.next.is in
     let met = subst (λ z. Met (sign_operand inner left d.one.sign w.line ws) z) (pair_is value (tail_is w d.one.word ws d.middle e ∙ d.next.none))
-        (special_read inner left w.line ws d.one.sign d.value.0 d.one.found) in
+    (special_read inner left w.line ws d.one.sign d.value.0 d.one.found) in
     moved inner left w d.one.word ws d.middle d.one.sign x rest e d.one.is met
 operand_case {m = m} left inner i w ws x rest (the_other (the_other (the_other (the_other (the_one d))))) =
     let e : ◌≡◌ {A = List Word} (w ∷ ws) (d.one.word ∷ d.middle) = d.one.stands in
@@ -185,7 +191,7 @@ operand_case {m = m} left inner i w ws x rest (the_other (the_other (the_other (
     let value : kind.Call d.value.0 w.line d.next.value ≡ x = ap (λ l. kind.Call d.value.0 l d.next.value) line ∙ sym d.next.next.is in
     let args = subst (λ us. InRound (Whole m) us d.next.middle d.next.value) (sym (tail_is w d.one.word ws d.middle e)) d.next.one in
     let met = subst (λ z. Met (sign_operand inner left d.one.sign w.line ws) z) (pair_is value d.next.next.none)
-        (function_read inner i w.line ws d.next.value d.next.middle args d.one.sign d.value.0 d.one.found) in
+    (function_read inner i w.line ws d.next.value d.next.middle args d.one.sign d.value.0 d.one.found) in
     moved inner left w d.one.word ws d.middle d.one.sign x rest e d.one.is met
 operand_case {m = m} left inner i w ws x rest (the_other (the_other (the_other (the_other (the_other d))))) =
     let e : ◌≡◌ {A = List Word} (w ∷ ws) (d.one.word ∷ d.middle) = d.one.stands in
@@ -198,7 +204,7 @@ complete_operand_case left inner i [] x rest d = let h = (among_in {q = others (
 complete_operand_case left inner i (w ∷ ws) x rest (the_one d) =
     let e : ◌≡◌ {A = List Word} (w ∷ ws) (d.one.word ∷ d.middle) = d.one.stands in
     subst (λ z. Met (operand_said inner left w.line ws z) (x, rest)) (sym (says w d.one.word ws d.middle (what.Number d.value) e d.one.is))
-      (met_within left w.line λ room. gives (sym d.next.is) (tail_is w d.one.word ws d.middle e ∙ d.next.none))
+    (met_within left w.line λ room. gives (sym d.next.is) (tail_is w d.one.word ws d.middle e ∙ d.next.none))
 complete_operand_case left inner i (w ∷ ws) x rest (the_other d) = operand_case left inner i w ws x rest d
 
 pub complete_operand : {m : Spelled ExprKind} (left : ℕ) (inner : Reader ExprKind) → Inside m left inner → (ts : List Word) → Complete any (Operand m) ts (operand inner left ts)
@@ -216,6 +222,7 @@ prefix_read left many again make line us x rest met = go (left == 0) many met
     read : (r : Read ExprKind) → Met r (x, rest) → Met {A = ExprKind × List Word} (outcome.◌>>=◌ {A = Expr × List Word} (outcome.◌>>=◌ r (λ y. Ok (placed y.0 (first_line us), y.1))) (λ y. Ok (make y.0, y.1))) (make (placed_at x us), rest)
     read (Ok v) h = gives (ap (λ z. make (placed z.0 (first_line us))) h.is) (ap (λ z. z.1) h.is)
     read (Err f) h = record { is = h.is }
+
     go : (c many : Bool) → (many ≡ false → Met (again us) (x, rest)) → Met {A = ExprKind × List Word} (if c || many then Err (fault.Deep line) else outcome.◌>>=◌ (whole again us) (λ y. Ok (make y.0, y.1))) (make (placed_at x us), rest)
     go true many met = record { is = tt }
     go false true met = record { is = tt }
@@ -231,20 +238,20 @@ unary_read left inner i many again more [] x rest (Unary.minus p d) = let h : �
 unary_read left inner i many again more (w ∷ ws) x rest (Unary.operand d) =
     let at = (starts_operand i.known).at (w ∷ ws) rest x d in
     met_else _ (is_sign w sign.Bang) (sign_no w sign.Bang ((among_in {q = others (only (code sign.Bang))} operands refl).at (front_of w.what) at))
-      (met_else _ (is_sign w sign.Minus) (sign_no w sign.Minus ((among_in {q = others (only (code sign.Minus))} operands refl).at (front_of w.what) at))
-        (complete_operand_case left inner i (w ∷ ws) x rest d))
+    (met_else _ (is_sign w sign.Minus) (sign_no w sign.Minus ((among_in {q = others (only (code sign.Minus))} operands refl).at (front_of w.what) at))
+    (complete_operand_case left inner i (w ∷ ws) x rest d))
 unary_read left inner i many again more (w ∷ ws) x rest (Unary.negated {us = us} {x = y} p d) =
     let e : ◌≡◌ {A = List Word} (w ∷ ws) (p.word ∷ us) = p.stands in
     let tail = tail_is w p.word ws us e in
     met_if _ (is_sign w sign.Bang) (is_it w sign.Bang (says w p.word ws us (what.Sign sign.Bang) e p.is))
-      (subst (λ vs. Met (prefixed left many again kind.Not w.line vs) (kind.Not (placed_at y us), rest)) (sym tail) (prefix_read left many again kind.Not w.line us y rest (λ few. more us y rest few d)))
+    (subst (λ vs. Met (prefixed left many again kind.Not w.line vs) (kind.Not (placed_at y us), rest)) (sym tail) (prefix_read left many again kind.Not w.line us y rest (λ few. more us y rest few d)))
 unary_read left inner i many again more (w ∷ ws) x rest (Unary.minus {us = us} {x = y} p d) =
     let e : ◌≡◌ {A = List Word} (w ∷ ws) (p.word ∷ us) = p.stands in
     let tail = tail_is w p.word ws us e in
     let is = says w p.word ws us (what.Sign sign.Minus) e p.is in
     met_else _ (is_sign w sign.Bang) (sign_no w sign.Bang (ap (λ z. others (only (code sign.Bang)) (front_of z)) is))
-      (met_if _ (is_sign w sign.Minus) (is_it w sign.Minus is)
-        (subst (λ vs. Met (prefixed left many again kind.Minus w.line vs) (kind.Minus (placed_at y us), rest)) (sym tail) (prefix_read left many again kind.Minus w.line us y rest (λ few. more us y rest few d))))
+    (met_if _ (is_sign w sign.Minus) (is_it w sign.Minus is)
+    (subst (λ vs. Met (prefixed left many again kind.Minus w.line vs) (kind.Minus (placed_at y us), rest)) (sym tail) (prefix_read left many again kind.Minus w.line us y rest (λ few. more us y rest few d))))
 
 unary_run : {m : Spelled ExprKind} (left : ℕ) (inner : Reader ExprKind) → Inside m left inner → (run : ℕ) (ts : List Word) (x : ExprKind) (rest : List Word) → Unary m ts rest x → Met (unary inner left run ts) (x, rest)
 unfolding unary
@@ -269,6 +276,7 @@ factor_case {m = m} i (w ∷ star ∷ ws) x rest d e = go (is_sign star sign.Sta
         let end : rest ≡ star ∷ ws = number_alone i (w ∷ star ∷ ws) (w ∷ star ∷ ws) rest (star ∷ ws) x n d (record { word = w; stands = refl; is = is }) refl in
         let on : times_sign (front rest) ≡ true = ap (λ us. times_sign (front us)) end ∙ sym (front_case sign.Star star.what) ∙ h in
         not_both (times_sign (front rest)) on e
+
     go : (c : Bool) → is_sign star sign.Star ≡ c → (if c then number_in w.what else None) ≡ None
     go true h = said w.what refl h
     go false h = refl
@@ -294,8 +302,8 @@ unfolding product Product
 product_case left inner i ts x rest (the_one d) e = subst (λ f. Met (times inner left f ts) (x, rest)) (sym (factor_case i.known ts x rest d e)) (unary_run left inner i 64 ts x rest d)
 product_case left inner i ts x rest (the_other d) e =
     subst (λ f. Met (times inner left f ts) (x, rest)) (sym (factor_there ts d.middle d.next.middle d.value d.next.value d.one d.next.one))
-      ((complete_next {q = any} (complete_number left ts) λ n. complete_next (complete_the left sign.Star n.1) λ star.
-          complete_next (complete_whole (complete_unary left inner i 64) star.1) λ x. complete_yields).at x rest d refl)
+    ((complete_next {q = any} (complete_number left ts) λ n. complete_next (complete_the left sign.Star n.1) λ star.
+    complete_next (complete_whole (complete_unary left inner i 64) star.1) λ x. complete_yields).at x rest d refl)
 
 pub complete_product : {m : Spelled ExprKind} (left : ℕ) (inner : Reader ExprKind) → Inside m left inner → (ts : List Word) → Complete (others times_sign) (Product m) ts (product inner left ts)
 complete_product left inner i ts = record { at = λ x rest d e. product_case left inner i ts x rest d e }
@@ -326,9 +334,11 @@ chain_case op item k c i j l start count held [] x rest Chain.ends e = gives ref
 chain_case op item k c i j l start zero held (w ∷ ws) x rest Chain.ends e =
     subst (λ z. Met {A = ExprKind × List Word} (if is_some z then Err (fault.Deep w.line) else Ok (held, w ∷ ws)) (held, w ∷ ws)) (sym (none_here k w ws (l.at (front (w ∷ ws)) e) (op w) refl)) (gives refl refl)
 chain_case op item k c i j l start (suc count) held (w ∷ ws) x rest Chain.ends e =
-    subst (λ z. Met {A = ExprKind × List Word} (elim z [ None ↦ Ok (held, w ∷ ws)
-        | Some o ↦ outcome.◌>>=◌ (whole item ws) (λ x. chain op item (first_line start) count (kind.Two o (placed held (first_line start)) x.0) x.1) ]) (held, w ∷ ws))
-      (sym (none_here k w ws (l.at (front (w ∷ ws)) e) (op w) refl)) (gives refl refl)
+    subst (λ z. Met {A = ExprKind × List Word} (elim z [
+      | None ↦ Ok (held, w ∷ ws)
+      | Some o ↦ outcome.◌>>=◌ (whole item ws) (λ x. chain op item (first_line start) count (kind.Two o (placed held (first_line start)) x.0) x.1)
+    ]) (held, w ∷ ws))
+    (sym (none_here k w ws (l.at (front (w ∷ ws)) e) (op w) refl)) (gives refl refl)
 chain_case op item k c i j l start count held [] x rest (Chain.goes_on {us = us} {o = o} y d f more_d) e = let h : ◌≡◌ {A = List Word} [] ((k.finds [] us o d).0 ∷ us) = (k.finds [] us o d).1 in absurd cc
 chain_case op item k c i j l start zero held (w ∷ ws) x rest (Chain.goes_on {us = us} {o = o} y d f more_d) e =
     let h = k.finds (w ∷ ws) us o d in
@@ -340,9 +350,11 @@ chain_case op item k c i j l start (suc count) held (w ∷ ws) x rest (Chain.goe
     let tail = tail_is w h.0 ws us h.1 in
     let one = (complete_whole c us).at y vs f (follows_chain_case k.starts i j (kind.Two o (placed_at held start) y) vs rest x more_d e) in
     let read = subst (λ zs. Met (whole item zs) (y, vs)) (sym tail) one in
-    subst (λ z. Met {A = ExprKind × List Word} (elim z [ None ↦ Ok (held, w ∷ ws)
-        | Some o ↦ outcome.◌>>=◌ (whole item ws) (λ x. chain op item (first_line start) count (kind.Two o (placed held (first_line start)) x.0) x.1) ]) (x, rest))
-      (sym found) (whole_bind _ (whole item ws) y vs read (chain_case op item k c i j l start count (kind.Two o (placed_at held start) y) vs x rest more_d e))
+    subst (λ z. Met {A = ExprKind × List Word} (elim z [
+      | None ↦ Ok (held, w ∷ ws)
+      | Some o ↦ outcome.◌>>=◌ (whole item ws) (λ x. chain op item (first_line start) count (kind.Two o (placed held (first_line start)) x.0) x.1)
+    ]) (x, rest))
+    (sym found) (whole_bind _ (whole item ws) y vs read (chain_case op item k c i j l start count (kind.Two o (placed_at held start) y) vs x rest more_d e))
 
 complete_chained : {q p r : Set} {Op : Spelled Operator} {m : Spelled ExprKind} (op : Word → Option Operator) (item : Reader ExprKind) → Operators Op op r → ((ts : List Word) → Complete p m ts (item ts))
     → In r p → In q p → In q (others r) → (ts : List Word) → Complete q (Chained Op m) ts (chained op item ts)
@@ -371,12 +383,20 @@ if_no x true e = absurd cc
 if_no x false e = refl
 
 or_operators : Operators (Joins sign.Or operator.Or) or_of (only (code sign.Or))
-or_operators = record { table = or_table; starts = (joins_fork {q = any} sign.Or operator.Or).left; finds = λ ts us o d.
-    let h = joined_word sign.Or operator.Or o ts us d in (h.0, h.1, if_yes _ (is_sign h.0 sign.Or) (sign_yes h.0 sign.Or sign.Or h.2 refl) ∙ ap Some (sym h.3)) }
+or_operators = record {
+  table = or_table;
+  starts = (joins_fork {q = any} sign.Or operator.Or).left;
+  finds = λ ts us o d.
+      let h = joined_word sign.Or operator.Or o ts us d in (h.0, h.1, if_yes _ (is_sign h.0 sign.Or) (sign_yes h.0 sign.Or sign.Or h.2 refl) ∙ ap Some (sym h.3));
+}
 
 and_operators : Operators (Joins sign.And operator.And) and_of (only (code sign.And))
-and_operators = record { table = and_table; starts = (joins_fork {q = any} sign.And operator.And).left; finds = λ ts us o d.
-    let h = joined_word sign.And operator.And o ts us d in (h.0, h.1, if_yes _ (is_sign h.0 sign.And) (sign_yes h.0 sign.And sign.And h.2 refl) ∙ ap Some (sym h.3)) }
+and_operators = record {
+  table = and_table;
+  starts = (joins_fork {q = any} sign.And operator.And).left;
+  finds = λ ts us o d.
+      let h = joined_word sign.And operator.And o ts us d in (h.0, h.1, if_yes _ (is_sign h.0 sign.And) (sign_yes h.0 sign.And sign.And h.2 refl) ∙ ap Some (sym h.3));
+}
 
 sum_finds : (ts us : List Word) (o : Operator) → SumSign ts us o → (w : Word) × (ts ≡ w ∷ us) × (sum_of w ≡ Some o)
 unfolding sum_of SumSign
@@ -392,12 +412,18 @@ unfolding relation_of RelationSign
 relation_finds ts us o (the_one d) = let h = joined_word sign.Equal operator.Equal o ts us d in (h.0, h.1, if_yes _ (is_sign h.0 sign.Equal) (sign_yes h.0 sign.Equal sign.Equal h.2 refl) ∙ ap Some (sym h.3))
 relation_finds ts us o (the_other (the_one d)) = let h = joined_word sign.NotEqual operator.NotEqual o ts us d in
     (h.0, h.1, if_no _ (is_sign h.0 sign.Equal) (sign_not h.0 sign.NotEqual sign.Equal h.2 refl) ∙ if_yes _ (is_sign h.0 sign.NotEqual) (sign_yes h.0 sign.NotEqual sign.NotEqual h.2 refl) ∙ ap Some (sym h.3))
-relation_finds ts us o (the_other (the_other (the_one d))) = let h = joined_word sign.AtMost operator.AtMost o ts us d in
-    (h.0, h.1, if_no _ (is_sign h.0 sign.Equal) (sign_not h.0 sign.AtMost sign.Equal h.2 refl) ∙ if_no _ (is_sign h.0 sign.NotEqual) (sign_not h.0 sign.AtMost sign.NotEqual h.2 refl)
-      ∙ if_yes _ (is_sign h.0 sign.AtMost) (sign_yes h.0 sign.AtMost sign.AtMost h.2 refl) ∙ ap Some (sym h.3))
-relation_finds ts us o (the_other (the_other (the_other d))) = let h = joined_word sign.Below operator.Below o ts us d in
-    (h.0, h.1, if_no _ (is_sign h.0 sign.Equal) (sign_not h.0 sign.Below sign.Equal h.2 refl) ∙ if_no _ (is_sign h.0 sign.NotEqual) (sign_not h.0 sign.Below sign.NotEqual h.2 refl)
-      ∙ if_no _ (is_sign h.0 sign.AtMost) (sign_not h.0 sign.Below sign.AtMost h.2 refl) ∙ if_yes _ (is_sign h.0 sign.Below) (sign_yes h.0 sign.Below sign.Below h.2 refl) ∙ ap Some (sym h.3))
+relation_finds ts us o (the_other (the_other (the_one d))) = let h = joined_word sign.AtMost operator.AtMost o ts us d in (
+  h.0,
+  h.1,
+  if_no _ (is_sign h.0 sign.Equal) (sign_not h.0 sign.AtMost sign.Equal h.2 refl) ∙ if_no _ (is_sign h.0 sign.NotEqual) (sign_not h.0 sign.AtMost sign.NotEqual h.2 refl)
+      ∙ if_yes _ (is_sign h.0 sign.AtMost) (sign_yes h.0 sign.AtMost sign.AtMost h.2 refl) ∙ ap Some (sym h.3),
+)
+relation_finds ts us o (the_other (the_other (the_other d))) = let h = joined_word sign.Below operator.Below o ts us d in (
+  h.0,
+  h.1,
+  if_no _ (is_sign h.0 sign.Equal) (sign_not h.0 sign.Below sign.Equal h.2 refl) ∙ if_no _ (is_sign h.0 sign.NotEqual) (sign_not h.0 sign.Below sign.NotEqual h.2 refl)
+      ∙ if_no _ (is_sign h.0 sign.AtMost) (sign_not h.0 sign.Below sign.AtMost h.2 refl) ∙ if_yes _ (is_sign h.0 sign.Below) (sign_yes h.0 sign.Below sign.Below h.2 refl) ∙ ap Some (sym h.3),
+)
 
 relation_operators : Operators RelationSign relation_of relations
 relation_operators = record { table = relation_table; starts = (relation_fork {q = any}).left; finds = relation_finds }
@@ -417,7 +443,7 @@ related_case left inner i start held [] x rest (the_one d) e = gives (sym d.is) 
 related_case left inner i start held (w ∷ ws) x rest (the_one d) e =
     let free = subst (λ zs. others relation_signs (front zs) ≡ true) (sym d.none) e in
     subst (λ z. Met {A = ExprKind × List Word} (elim z [ None ↦ Ok (held, w ∷ ws) | Some o ↦ outcome.◌>>=◌ (whole (sums inner left) ws) (λ x. Ok (kind.Two o (placed held (first_line start)) x.0, x.1)) ]) (x, rest))
-      (sym (none_here relation_operators w ws ((others_first relations sum_signs).at (front (w ∷ ws)) free) (relation_of w) refl)) (gives (sym d.is) d.none)
+    (sym (none_here relation_operators w ws ((others_first relations sum_signs).at (front (w ∷ ws)) free) (relation_of w) refl)) (gives (sym d.is) d.none)
 related_case left inner i start held [] x rest (the_other d) e =
     let h = relation_operators.finds [] d.middle d.value d.one in let k : ◌≡◌ {A = List Word} [] (h.0 ∷ d.middle) = h.1 in absurd cc
 related_case left inner i start held (w ∷ ws) x rest (the_other d) e =
@@ -428,7 +454,7 @@ related_case left inner i start held (w ∷ ws) x rest (the_other d) e =
     let one = (complete_whole (complete_sum left inner i) d.middle).at d.next.value d.next.middle d.next.one ((others_in relations sum_signs).at (front d.next.middle) end) in
     let read = subst (λ zs. Met (whole (sums inner left) zs) (d.next.value, d.next.middle)) (sym tail) one in
     subst (λ z. Met {A = ExprKind × List Word} (elim z [ None ↦ Ok (held, w ∷ ws) | Some o ↦ outcome.◌>>=◌ (whole (sums inner left) ws) (λ x. Ok (kind.Two o (placed held (first_line start)) x.0, x.1)) ]) (x, rest))
-      (sym found) (whole_bind _ (whole (sums inner left) ws) d.next.value d.next.middle read (gives (sym d.next.next.is) d.next.next.none))
+    (sym found) (whole_bind _ (whole (sums inner left) ws) d.next.value d.next.middle read (gives (sym d.next.next.is) d.next.next.none))
 
 complete_relation : {m : Spelled ExprKind} (left : ℕ) (inner : Reader ExprKind) → Inside m left inner → (ts : List Word) → Complete (others relation_signs) (Relation m) ts (relation inner left ts)
 unfolding relation Relation
@@ -462,12 +488,13 @@ implied_goes many right start held (w ∷ ws) vs line y rest p met =
   where
     read : (zs : List Word) → zs ≡ vs → (r : Read ExprKind) → Met r (y, rest)
         → Met {A = ExprKind × List Word} (outcome.◌>>=◌ {A = Expr × List Word} (outcome.◌>>=◌ r (λ x. Ok (placed x.0 (first_line zs), x.1))) (λ x. Ok (kind.Two operator.Implies (placed held (first_line start)) x.0, x.1)))
-            (kind.Two operator.Implies (placed_at held start) (placed_at y vs), rest)
+        (kind.Two operator.Implies (placed_at held start) (placed_at y vs), rest)
     read zs same (Ok v) h = gives (λ k. kind.Two operator.Implies (placed held (first_line start)) (placed (h.is k).0 (first_line (same k)))) (ap (λ z. z.1) h.is)
     read zs same (Err f) h = record { is = h.is }
+
     go : (many : Bool) → (many ≡ false → Met (right vs) (y, rest)) → ws ≡ vs
         → Met {A = ExprKind × List Word} (if many then Err (fault.Deep w.line) else outcome.◌>>=◌ (whole right ws) (λ x. Ok (kind.Two operator.Implies (placed held (first_line start)) x.0, x.1)))
-            (kind.Two operator.Implies (placed_at held start) (placed_at y vs), rest)
+        (kind.Two operator.Implies (placed_at held start) (placed_at y vs), rest)
     go true met same = record { is = tt }
     go false met same = read ws same (right ws) (subst (λ zs. Met (right zs) (y, rest)) (sym same) (met refl))
 
@@ -497,8 +524,10 @@ unfolding inside Nested
 nested_inside zero depth = record { known = nested_inner depth depth; shrinks = shrinks_nested depth; complete = λ room. absurd (omega (arith, room)) }
 nested_inside (suc below) zero = record { known = nested_inner zero zero; shrinks = shrinks_nested zero; complete = λ room ts. record { at = λ x rest d e. absurd d } }
 nested_inside (suc below) (suc depth) = record {
-    known = nested_inner (suc depth) (suc depth); shrinks = shrinks_nested (suc depth);
-    complete = λ room ts. record { at = λ x rest d e. implies_run below (inside below) (nested_inside below depth) 64 ts x rest d e } }
+  known = nested_inner (suc depth) (suc depth);
+  shrinks = shrinks_nested (suc depth);
+  complete = λ room ts. record { at = λ x rest d e. implies_run below (inside below) (nested_inside below depth) 64 ts x rest d e };
+}
 
 outer_read : (left : ℕ) (ts : List Word) (x : ExprKind) (rest : List Word) (depth : ℕ) → Nested depth ts rest x → others operators (front rest) ≡ true → Met (implies (inside left) left 64 ts) (x, rest)
 unfolding Nested

@@ -1,5 +1,5 @@
 -- What is read as an expression is spelled.
-use Rattle.std.proofs.Common.{◌≡◌, ℕ, zero, suc, ◌-◌, ◌==◌, ◌||◌, Bool, true, false, if◌then◌else◌, List, [], ◌∷◌, Result, Ok, Err, Option, Some, None, is_some, refl, sym, ap, ◌∙◌, subst}
+use Rattle.std.proofs.Common.{◌≡◌, ℕ, zero, suc, ◌-◌, ◌==◌, ◌||◌, Bool, true, false, if◌then◌else◌, List, [], ◌∷◌, Ok, Err, Option, Some, None, is_some, refl, sym, ap, ◌∙◌, subst}
 use Rattle.sync_tokens.specs.declared.signs.Sign.{Sign}
 use Rattle.sync_tokens.specs.declared.signs.Sign.TheVariants as sign
 use Rattle.sync_tokens.specs.contracts.signs.Sign.{the_type}
@@ -9,7 +9,6 @@ use Rattle.sync_tokens.specs.declared.words.Word.{Word}
 use Rattle.sync_tokens.specs.Signs.{is_same}
 use Rattle.sync_tokens.specs.Words.{is_sign}
 use Rattle.sync_base.specs.Outcome as outcome
-use Rattle.sync_exprs.specs.declared.faults.Fault.{Fault}
 use Rattle.sync_exprs.specs.declared.faults.Fault.TheVariants as fault
 use Rattle.sync_exprs.specs.declared.expressions.Expr.{Expr}
 use Rattle.sync_exprs.specs.declared.expressions.ExprKind.{ExprKind}
@@ -18,9 +17,9 @@ use Rattle.sync_exprs.specs.declared.expressions.Special.{Special}
 use Rattle.sync_exprs.specs.declared.expressions.Function.{Function}
 use Rattle.sync_exprs.specs.declared.expressions.Operator.{Operator}
 use Rattle.sync_exprs.specs.declared.expressions.Operator.TheVariants as operator
-use Rattle.sync_exprs.specs.Lexemes.{Read, Reader, first_line, sign_at, name_at, number_at, listed, in_round}
-use Rattle.sync_exprs.specs.Expressions.{placed, whole, special_of, function_of, relation_of, sum_of, and_of, or_of, factor_of, begins_operand, word_operand, bracketed, param, sign_operand, operand_said, operand, prefixed, unary_with, unary, times, product, chain, chained, sums, related, relation, ands, ors, implied, implies, inside, expr_at, exprs_at}
-use Rattle.sync_grammar.specs.Relations.{Spelled, The, AName, ANumber, OneOf, Yields, Here, Then, ◌>>=◌, ◌>>◌, Either, the_one, the_other, ◌or◌}
+use Rattle.sync_exprs.specs.Lexemes.{Read, Reader, first_line}
+use Rattle.sync_exprs.specs.Expressions.{placed, whole, special_of, function_of, relation_of, sum_of, and_of, or_of, factor_of, begins_operand, word_operand, sign_operand, operand_said, operand, prefixed, unary_with, unary, times, product, chain, chained, sums, related, relation, ands, ors, implied, implies, inside, expr_at, exprs_at}
+use Rattle.sync_grammar.specs.Relations.{Spelled, The, Yields, ◌>>=◌, Either, the_one, the_other}
 use Rattle.sync_grammar.specs.Expressions.{placed_at, Whole, NoNumber, Operand, Unary, Product, Chain, Chained, Joins, SumSign, Sum, RelationSign, Relation, And, Or, Implied, Nested, AnExpr, Args}
 use Rattle.sync_grammar.proofs.Sounds.{Sound, ok_is, stops, yields, then_sound, began, here, first, second, either, tested, is_the, sign_sound, name_sound, number_sound, one_of, the_sign, round_sound}
 use denote.Enum.Bare.{same_true}

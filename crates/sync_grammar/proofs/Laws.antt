@@ -1,5 +1,5 @@
 -- What an answer of the reader says of the grammar.
-use Rattle.std.proofs.Common.{◌≡◌, ℕ, List, [], length, Result, Ok, Err, IfOk, refl, sym, ap, ◌∙◌, subst}
+use Rattle.std.proofs.Common.{◌≡◌, ℕ, List, length, Result, Ok, Err, IfOk}
 use Rattle.sync_base.specs.declared.stops.Stop.{Stop}
 use Rattle.sync_base.specs.Outcome.{Gives}
 use Rattle.sync_parse.specs.declared.trees.RawText.{RawText}

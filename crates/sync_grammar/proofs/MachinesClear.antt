@@ -1,27 +1,23 @@
 -- No words spell two machines, and no bytes two raw trees.
-use Rattle.std.proofs.Common.{◌≡◌, ℕ, Bool, true, false, List, [], ◌∷◌, Result, Ok, Err, refl, sym, ap, ◌∙◌, subst}
+use Rattle.std.proofs.Common.{◌≡◌, ℕ, List, [], ◌∷◌, Result, Ok, refl, sym, ap, ◌∙◌}
 use Rattle.sync_base.specs.declared.stops.Refusal.{Refusal}
-use Rattle.sync_machine.specs.declared.fields.OpMode.TheVariants as mode
 use Rattle.sync_tokens.specs.declared.signs.Sign.{Sign}
 use Rattle.sync_tokens.specs.declared.signs.Sign.TheVariants as sign
-use Rattle.sync_tokens.specs.declared.words.Word.{Word}
 use Rattle.sync_tokens.specs.declared.words.Words.{Words}
-use Rattle.sync_tokens.specs.Words.{worded}
 use Rattle.sync_exprs.specs.declared.naming.Named.{Named}
 use Rattle.sync_exprs.specs.declared.expressions.Expr.{Expr}
 use Rattle.sync_parse.specs.declared.trees.RawText.{RawText}
 use Rattle.sync_parse.specs.declared.trees.RawMachine.{RawMachine}
-use Rattle.sync_parse.specs.declared.trees.RawProof.{RawProof}
 use Rattle.sync_parse.specs.declared.trees.RawInvariant.{RawInvariant}
 use Rattle.sync_parse.specs.declared.trees.RawOperation.{RawOperation}
 use Rattle.sync_parse.specs.declared.trees.RawActKind.{RawActKind}
 use Rattle.sync_parse.specs.declared.trees.RawActKind.TheVariants as act
 use Rattle.sync_parse.specs.declared.trees.RawPlace.{RawPlace}
-use Rattle.sync_grammar.specs.Relations.{Spelled, The, AName, ANumber, AStrategy, Yields, Here, Then, ◌>>=◌, ◌>>◌, Either, ◌or◌, Closed, Many, Names}
+use Rattle.sync_grammar.specs.Relations.{Spelled, Then, Closed, Many}
 use Rattle.sync_grammar.specs.Expressions.{AnExpr}
 use Rattle.sync_grammar.specs.Machines.{Pattern, Place, FormulaAct, ValueAct, FieldPlace, PlaceAct, HaveAct, ActKind, Act, Field, Mode, Operation, Invariant, Machine, Claim, Proof, Proofs}
 use Rattle.sync_grammar.specs.Texts.{Version, Text, Spells}
-use Rattle.sync_grammar.proofs.Clears.{code, front, Set, any, only, among, both, others, In, only_in, among_in, both_in, same_in, any_in, Starts, Follows, Clear, Fork, lone, fork_or, starts_weaker, starts_then, starts_here, starts_or, starts_the, starts_name, starts_number, follows_starts, follows_yields, follows_or, follows_then, follows_many, clear_the, clear_name, clear_number, clear_strategy, clear_yields, clear_here, clear_then, clear_next, clear_optional, clear_many, clear_closed, clear_names}
+use Rattle.sync_grammar.proofs.Clears.{code, Set, any, only, among, both, others, only_in, among_in, both_in, same_in, any_in, Starts, Follows, Clear, Fork, lone, fork_or, starts_then, starts_here, starts_the, starts_name, follows_starts, follows_yields, follows_or, follows_then, follows_many, clear_the, clear_name, clear_number, clear_strategy, clear_yields, clear_here, clear_then, clear_next, clear_optional, clear_many, clear_closed, clear_names}
 use Rattle.sync_grammar.proofs.ExpressionsClear.{operators, begins, clear_expr, starts_expr}
 use Rattle.sync_grammar.proofs.ScriptsClear.{clear_script}
 

@@ -1,5 +1,5 @@
 -- What is spelled as a machine, as proofs and as a whole text is read, where it is not too deep.
-use Rattle.std.proofs.Common.{◌≡◌, ℕ, zero, suc, ◌-◌, ◌+◌, ◌<◌, ◌≤◌, ◌==◌, Bool, true, false, not, ◌||◌, if◌then◌else◌, List, [], ◌∷◌, length, Result, Ok, Err, Option, Some, None, is_some, ◌⊎◌, inl, inr, IfErr, refl, sym, ap, ◌∙◌, subst, arith}
+use Rattle.std.proofs.Common.{◌≡◌, ℕ, ◌-◌, ◌<◌, ◌==◌, Bool, true, false, ◌||◌, if◌then◌else◌, List, [], ◌∷◌, length, Result, Ok, Err, Some, None, is_some, ◌⊎◌, inl, inr, IfErr, refl, sym, ap, ◌∙◌, subst, arith}
 use Rattle.sync_base.specs.Outcome as outcome
 use Rattle.sync_base.specs.Outcome.{Gives}
 use Rattle.sync_base.specs.declared.stops.Refusal.{Refusal}
@@ -10,11 +10,10 @@ use Rattle.sync_machine.specs.declared.fields.OpMode.{OpMode}
 use Rattle.sync_machine.specs.declared.fields.OpMode.TheVariants as mode
 use Rattle.sync_tokens.specs.declared.signs.Sign.{Sign}
 use Rattle.sync_tokens.specs.declared.signs.Sign.TheVariants as sign
-use Rattle.sync_tokens.specs.declared.words.What.{What}
 use Rattle.sync_tokens.specs.declared.words.What.TheVariants as what
 use Rattle.sync_tokens.specs.declared.words.Word.{Word}
 use Rattle.sync_tokens.specs.declared.words.Words.{Words}
-use Rattle.sync_tokens.specs.Words.{is_sign, worded}
+use Rattle.sync_tokens.specs.Words.{is_sign}
 use Rattle.sync_exprs.specs.declared.faults.Fault.{Fault}
 use Rattle.sync_exprs.specs.declared.faults.Fault.TheVariants as fault
 use Rattle.sync_exprs.specs.declared.naming.Named.{Named}
@@ -22,25 +21,23 @@ use Rattle.sync_exprs.specs.declared.expressions.Expr.{Expr}
 use Rattle.sync_parse.specs.declared.trees.RawText.{RawText}
 use Rattle.sync_parse.specs.declared.trees.RawMachine.{RawMachine}
 use Rattle.sync_parse.specs.declared.trees.RawProof.{RawProof}
-use Rattle.sync_parse.specs.declared.trees.RawInvariant.{RawInvariant}
-use Rattle.sync_parse.specs.declared.trees.RawOperation.{RawOperation}
 use Rattle.sync_parse.specs.declared.trees.RawActKind.{RawActKind}
 use Rattle.sync_parse.specs.declared.trees.RawActKind.TheVariants as act
 use Rattle.sync_parse.specs.declared.trees.RawPlace.{RawPlace}
 use Rattle.sync_parse.specs.declared.trees.RawPlace.TheVariants as place
-use Rattle.sync_exprs.specs.Lexemes.{Read, Reader, first_line, begins_with, goes_on}
+use Rattle.sync_exprs.specs.Lexemes.{Read, Reader, begins_with}
 use Rattle.sync_parse.specs.Faults.{refusal_of, refused}
 use Rattle.sync_parse.specs.Machines.{pattern_at, keyed, place_at, closed_expr, closed_place, formula_act, value_act, field_place, place_act, have_act, act_kind, act_at, acts, field_at, fields, mode_of, mode_said, mode_at, operation_at, begins_operation, operations, invariant_at, invariants, machine_at, claim_at, proof_at, proof_row, proofs_at, version_at, at_end, text_of, parsed}
-use Rattle.sync_grammar.specs.Relations.{Spelled, The, AName, ANumber, AStrategy, Yields, Here, Then, ◌>>=◌, ◌>>◌, Either, the_one, the_other, Closed, Many, Names}
+use Rattle.sync_grammar.specs.Relations.{Spelled, The, Yields, Then, ◌>>=◌, Either, the_one, the_other, Closed}
 use Rattle.sync_grammar.specs.Expressions.{AnExpr}
 use Rattle.sync_grammar.specs.Scripts.{Script}
 use Rattle.sync_grammar.specs.Machines.{Pattern, Place, FormulaAct, ValueAct, FieldPlace, PlaceAct, HaveAct, ActKind, Act, Field, Mode, Operation, Invariant, Machine, Claim, Proof, Proofs}
 use Rattle.sync_grammar.specs.Texts.{Version, Text, Spells, MayRefuse}
-use Rattle.sync_grammar.proofs.Clears.{code, front, front_of, Set, any, only, among, both, others, In, only_in, among_in, both_in, same_in, any_in, not_both, Starts, Follows, starts_then, starts_or, starts_the, starts_name, follows_starts, follows_then, follows_many, follows_yields, follows_or}
+use Rattle.sync_grammar.proofs.Clears.{code, front, Set, any, only, among, others, In, only_in, among_in, same_in, Starts, Follows, starts_then, starts_or, starts_the, follows_starts, follows_then, follows_yields, follows_or}
 use Rattle.sync_grammar.proofs.ExpressionsClear.{operators, operands, starts_expr}
-use Rattle.sync_grammar.proofs.MachinesClear.{formula_fork, value_fork, place_fork, have_fork, starts_act, act_signs, field_fork, mode_fork, modes, operation_fork, invariant_fork, proof_fork, behind_operations, behind_fields, invariants_follow, operations_follow}
-use Rattle.sync_grammar.proofs.Counting.{Over, silent_act, silent_field, silent_operation, silent_invariant, silent_claim, silent_block, one_shorter}
-use Rattle.sync_grammar.proofs.Completes.{Excused, Met, gives, Complete, Shrinks, Row, braced, complete_yields, complete_then, complete_next, complete_here, complete_if, complete_last, complete_optional, complete_row, met_if, met_else, met_within, tail_is, head_is, says, is_it, begins_is, begins_not, front_case, is_not, complete_the, complete_name, complete_number, complete_strategy, complete_names}
+use Rattle.sync_grammar.proofs.MachinesClear.{formula_fork, value_fork, place_fork, have_fork, starts_act, field_fork, modes, operation_fork, invariant_fork, proof_fork, behind_operations, behind_fields, invariants_follow, operations_follow}
+use Rattle.sync_grammar.proofs.Counting.{silent_act, silent_field, silent_operation, silent_invariant, silent_claim, silent_block, one_shorter}
+use Rattle.sync_grammar.proofs.Completes.{Excused, Met, gives, Complete, Shrinks, Row, braced, complete_yields, complete_then, complete_next, complete_here, complete_if, complete_last, complete_optional, complete_row, met_within, tail_is, says, begins_is, begins_not, front_case, is_not, complete_the, complete_name, complete_number, complete_strategy, complete_names}
 use Rattle.sync_grammar.proofs.ExpressionsComplete.{complete_expr, if_yes, if_no, sign_yes, sign_not}
 use Rattle.sync_grammar.proofs.ScriptsComplete.{union_in, expr_next, complete_script}
 
@@ -61,12 +58,12 @@ complete_place : {q : Set} (left : ℕ) (ts : List Word) → Complete q Place ts
 unfolding place_at Place
 complete_place left ts = complete_if sign.OpenRound (starts_then starts_the) (starts_then (starts_the {s = sign.OpenSquare})) (only_in _ refl)
     (complete_next (complete_the left sign.OpenRound ts) λ o. complete_then (others operators) (complete_pattern (left - 1) o.1)
-      (λ p. complete_next (complete_the (left - 1) sign.CloseRound p.1) λ e. complete_yields) (λ p. follows_starts (starts_then starts_the) (only_in _ refl)))
+    (λ p. complete_next (complete_the (left - 1) sign.CloseRound p.1) λ e. complete_yields) (λ p. follows_starts (starts_then starts_the) (only_in _ refl)))
     (complete_next (complete_the left sign.OpenSquare ts) λ o. complete_then (others operators) (complete_expr (left - 1) o.1)
-      (λ k. complete_then (only (code sign.CloseSquare)) (keyed_complete (left - 1) k.0 k.1) (λ p. complete_next (complete_the (left - 1) sign.CloseSquare p.1) λ e. complete_yields)
-        (λ p. follows_starts (starts_then starts_the) same_in))
-      (λ k. follows_then (only (code sign.CloseSquare)) (follows_or (follows_yields (only_in _ refl)) (follows_starts (starts_then (starts_the {s = sign.MapsTo})) (only_in _ refl)))
-        (λ x. follows_starts (starts_then starts_the) same_in)))
+    (λ k. complete_then (only (code sign.CloseSquare)) (keyed_complete (left - 1) k.0 k.1) (λ p. complete_next (complete_the (left - 1) sign.CloseSquare p.1) λ e. complete_yields)
+    (λ p. follows_starts (starts_then starts_the) same_in))
+    (λ k. follows_then (only (code sign.CloseSquare)) (follows_or (follows_yields (only_in _ refl)) (follows_starts (starts_then (starts_the {s = sign.MapsTo})) (only_in _ refl)))
+    (λ x. follows_starts (starts_then starts_the) same_in)))
 
 complete_closed_expr : (left : ℕ) (ts : List Word) → Complete any (Closed AnExpr) ts (closed_expr left ts)
 unfolding closed_expr Closed
@@ -98,8 +95,8 @@ complete_have : {q : Set} (left : ℕ) (ts : List Word) → Complete q HaveAct t
 unfolding have_act HaveAct
 complete_have left ts = complete_next (complete_the left sign.Have ts) λ w. complete_next (complete_name left w.1) λ n.
     complete_if sign.Semicolon (starts_then starts_the) (starts_then (starts_the {s = sign.AtLeast})) (only_in _ refl)
-      (complete_next (complete_the left sign.Semicolon n.1) λ s. complete_yields)
-      (complete_next (complete_the left sign.AtLeast n.1) λ q. complete_next (complete_closed_place left q.1) λ p. complete_yields)
+    (complete_next (complete_the left sign.Semicolon n.1) λ s. complete_yields)
+    (complete_next (complete_the left sign.AtLeast n.1) λ q. complete_next (complete_closed_place left q.1) λ p. complete_yields)
 
 abbrev deposit_codes : List ℕ
 deposit_codes = code sign.Remove ∷ code sign.Withdraw ∷ []
@@ -148,10 +145,12 @@ complete_field left ts = complete_next (complete_the left sign.Field ts) λ f. c
 headed : {A : Type 0} {q : Set} {m : Spelled A} {item : Reader A} (s : Sign) → ((ts : List Word) → Complete any m ts (item ts)) → Shrinks m → Starts m (only (code s)) → In q (others (only (code s)))
     → Row q any m (begins_with s) item
 headed s c k t i = record {
-    complete = c; shrinks = k;
-    begin = λ ts rest x d. begins_is s ts ∙ t.at ts rest x d;
-    stop = λ ts e. begins_not s ts (i.at (front ts) e);
-    follows = record { at = λ ts rest xs d e. refl } }
+  complete = c;
+  shrinks = k;
+  begin = λ ts rest x d. begins_is s ts ∙ t.at ts rest x d;
+  stop = λ ts e. begins_not s ts (i.at (front ts) e);
+  follows = record { at = λ ts rest xs d e. refl };
+}
 
 some_mode : (a b c : Bool) → is_some (if a then Some mode.Init else if b then Some mode.Transition else if c then Some mode.Property else None) ≡ (a || (b || c))
 some_mode true b c = refl
@@ -179,12 +178,12 @@ mode_case left (w ∷ ws) x rest (the_one d) =
 mode_case left (w ∷ ws) x rest (the_other (the_one d)) =
     let is = says w d.one.word ws d.middle (what.Sign sign.Transition) d.one.stands d.one.is in
     mode_word left w d.one.word ws d.middle mode.Transition x rest d.one.stands
-      (if_no _ (is_sign w sign.Init) (sign_not w sign.Transition sign.Init is refl) ∙ if_yes _ (is_sign w sign.Transition) (sign_yes w sign.Transition sign.Transition is refl)) d.next.is d.next.none
+    (if_no _ (is_sign w sign.Init) (sign_not w sign.Transition sign.Init is refl) ∙ if_yes _ (is_sign w sign.Transition) (sign_yes w sign.Transition sign.Transition is refl)) d.next.is d.next.none
 mode_case left (w ∷ ws) x rest (the_other (the_other d)) =
     let is = says w d.one.word ws d.middle (what.Sign sign.Property) d.one.stands d.one.is in
     mode_word left w d.one.word ws d.middle mode.Property x rest d.one.stands
-      (if_no _ (is_sign w sign.Init) (sign_not w sign.Property sign.Init is refl) ∙ if_no _ (is_sign w sign.Transition) (sign_not w sign.Property sign.Transition is refl)
-        ∙ if_yes _ (is_sign w sign.Property) (sign_yes w sign.Property sign.Property is refl)) d.next.is d.next.none
+    (if_no _ (is_sign w sign.Init) (sign_not w sign.Property sign.Init is refl) ∙ if_no _ (is_sign w sign.Transition) (sign_not w sign.Property sign.Transition is refl)
+    ∙ if_yes _ (is_sign w sign.Property) (sign_yes w sign.Property sign.Property is refl)) d.next.is d.next.none
 
 complete_operation : {q : Set} (left : ℕ) (ts : List Word) → Complete q Operation ts (operation_at left ts)
 unfolding operation_at Operation acts
@@ -192,9 +191,9 @@ complete_operation left ts = complete_here (
     complete_next (record { at = λ x rest d e. mode_case left ts x rest d }) λ m. complete_next (complete_name left m.1) λ n. complete_next (complete_names left n.1) λ ps.
     complete_next (complete_the left sign.OpenBrace ps.1) λ o.
     complete_then (only (code sign.CloseBrace))
-      (complete_row (braced (complete_act (left - 1)) (record { at = λ ts rest x d. (silent_act.at ts rest x d).shorter }) starts_act
-        (union_in (code sign.Init ∷ code sign.Require ∷ code sign.Assert ∷ code sign.Update ∷ update_codes) refl)) o.1)
-      (λ xs. complete_next (complete_the (left - 1) sign.CloseBrace xs.1) λ e. complete_yields) (λ xs. follows_starts (starts_then starts_the) same_in))
+    (complete_row (braced (complete_act (left - 1)) (record { at = λ ts rest x d. (silent_act.at ts rest x d).shorter }) starts_act
+    (union_in (code sign.Init ∷ code sign.Require ∷ code sign.Assert ∷ code sign.Update ∷ update_codes) refl)) o.1)
+    (λ xs. complete_next (complete_the (left - 1) sign.CloseBrace xs.1) λ e. complete_yields) (λ xs. follows_starts (starts_then starts_the) same_in))
 
 complete_invariant : {q : Set} (left : ℕ) (ts : List Word) → Complete q Invariant ts (invariant_at left ts)
 unfolding invariant_at Invariant
@@ -209,19 +208,20 @@ unfolding machine_at Machine fields operations invariants
 complete_machine left ts =
     complete_next (complete_the left sign.Machine ts) λ m. complete_next (complete_name left m.1) λ n. complete_next (complete_the left sign.OpenBrace n.1) λ o.
     complete_then (among behind_fields)
-      (complete_row (headed sign.Field (complete_field (left - 1)) (record { at = λ ts rest x d. (silent_field.at ts rest x d).shorter }) (field_fork {q = any}).left (among_in behind_fields refl)) o.1)
-      (λ fs. complete_then (among behind_operations)
-        (complete_row {p = any} (record {
-            complete = complete_operation (left - 1);
-            shrinks = record { at = λ ts rest x d. (silent_operation.at ts rest x d).shorter };
-            begin = λ ts rest x d. modes_are ts ∙ (operation_fork {q = any}).left.at ts rest x d;
-            stop = λ ts e. modes_are ts ∙ is_not (modes (front ts)) ((among_in {q = others modes} behind_operations refl).at (front ts) e);
-            follows = record { at = λ ts rest xs d e. refl } }) fs.1)
-        (λ ops. complete_then (only (code sign.CloseBrace))
-          (complete_row (headed sign.Invariant (complete_invariant (left - 1)) (record { at = λ ts rest x d. (silent_invariant.at ts rest x d).shorter }) (invariant_fork {q = any}).left (only_in _ refl)) ops.1)
-          (λ is. complete_next (complete_the (left - 1) sign.CloseBrace is.1) λ e. complete_yields) (λ is. follows_starts (starts_then starts_the) same_in))
-        (λ ops. weaker (invariants_follow _ (λ is. starts_then starts_the))))
-      (λ fs. weaker (operations_follow _ (λ ops. invariants_follow _ (λ is. starts_then starts_the))))
+    (complete_row (headed sign.Field (complete_field (left - 1)) (record { at = λ ts rest x d. (silent_field.at ts rest x d).shorter }) (field_fork {q = any}).left (among_in behind_fields refl)) o.1)
+    (λ fs. complete_then (among behind_operations)
+    (complete_row {p = any} (record {
+      complete = complete_operation (left - 1);
+      shrinks = record { at = λ ts rest x d. (silent_operation.at ts rest x d).shorter };
+      begin = λ ts rest x d. modes_are ts ∙ (operation_fork {q = any}).left.at ts rest x d;
+      stop = λ ts e. modes_are ts ∙ is_not (modes (front ts)) ((among_in {q = others modes} behind_operations refl).at (front ts) e);
+      follows = record { at = λ ts rest xs d e. refl };
+    }) fs.1)
+    (λ ops. complete_then (only (code sign.CloseBrace))
+    (complete_row (headed sign.Invariant (complete_invariant (left - 1)) (record { at = λ ts rest x d. (silent_invariant.at ts rest x d).shorter }) (invariant_fork {q = any}).left (only_in _ refl)) ops.1)
+    (λ is. complete_next (complete_the (left - 1) sign.CloseBrace is.1) λ e. complete_yields) (λ is. follows_starts (starts_then starts_the) same_in))
+    (λ ops. weaker (invariants_follow _ (λ is. starts_then starts_the))))
+    (λ fs. weaker (operations_follow _ (λ ops. invariants_follow _ (λ is. starts_then starts_the))))
 
 -- ---- proofs
 
@@ -237,22 +237,24 @@ complete_proof left ts = complete_next (complete_name left ts) λ n. complete_ne
 
 shrinks_proof : Shrinks Proof
 unfolding Proof Script
-shrinks_proof = record { at = λ ts rest x d.
-    let name = one_shorter ts d.middle d.one.word d.one.stands in
-    let claim : length d.next.middle < length d.middle = (silent_claim.at d.middle d.next.middle d.next.value d.next.one).shorter in
-    let script = d.next.next.one in
-    let by = one_shorter d.next.middle script.middle script.one.word script.one.stands in
-    let block : length script.next.middle < length script.middle = (silent_block.at script.middle script.next.middle script.next.value script.next.one).shorter in
-    let end : length script.next.middle ≡ length d.next.next.middle = ap (λ (us : List Word). length us) script.next.next.none in
-    let last : length d.next.next.middle ≡ length rest = ap (λ (us : List Word). length us) d.next.next.next.none in
-    omega (arith, name, claim, by, block, end, last) }
+shrinks_proof = record {
+  at = λ ts rest x d.
+      let name = one_shorter ts d.middle d.one.word d.one.stands in
+      let claim : length d.next.middle < length d.middle = (silent_claim.at d.middle d.next.middle d.next.value d.next.one).shorter in
+      let script = d.next.next.one in
+      let by = one_shorter d.next.middle script.middle script.one.word script.one.stands in
+      let block : length script.next.middle < length script.middle = (silent_block.at script.middle script.next.middle script.next.value script.next.one).shorter in
+      let end : length script.next.middle ≡ length d.next.next.middle = ap (λ (us : List Word). length us) script.next.next.none in
+      let last : length d.next.next.middle ≡ length rest = ap (λ (us : List Word). length us) d.next.next.next.none in
+      omega (arith, name, claim, by, block, end, last);
+}
 
 complete_proofs : (left : ℕ) (ts : List Word) → Complete (only 0) Proofs ts (proofs_at left ts)
 unfolding proofs_at Proofs proof_row
 complete_proofs left ts = complete_optional sign.Proofs (starts_then starts_the) (only_in _ refl)
     (complete_next (complete_the left sign.Proofs ts) λ p. complete_next (complete_the left sign.OpenBrace p.1) λ o.
-      complete_then (only (code sign.CloseBrace)) (complete_row (braced (complete_proof (left - 1)) shrinks_proof (proof_fork {q = any}).left (only_in _ refl)) o.1)
-        (λ xs. complete_next (complete_the (left - 1) sign.CloseBrace xs.1) λ e. complete_yields) (λ xs. follows_starts (starts_then starts_the) same_in))
+    complete_then (only (code sign.CloseBrace)) (complete_row (braced (complete_proof (left - 1)) shrinks_proof (proof_fork {q = any}).left (only_in _ refl)) o.1)
+    (λ xs. complete_next (complete_the (left - 1) sign.CloseBrace xs.1) λ e. complete_yields) (λ xs. follows_starts (starts_then starts_the) same_in))
 
 -- ---- texts
 
@@ -290,7 +292,7 @@ pub text_ends : (ts : List Word) → Ends Text ts (text_of ts)
 unfolding text_of Text
 text_ends ts =
     ends_then any (complete_version 65 ts) (λ v. ends_then any (complete_the 65 sign.Semicolon v.1) (λ s. ends_then any (complete_machine 65 s.1) (λ m.
-      ends_then (only 0) (complete_proofs 65 m.1) (λ ps. ends_all (m.0, ps.0) ps.1) (λ ps. follows_yields same_in)) (λ m. anything)) (λ s. anything)) (λ v. anything)
+    ends_then (only 0) (complete_proofs 65 m.1) (λ ps. ends_all (m.0, ps.0) ps.1) (λ ps. follows_yields same_in)) (λ m. anything)) (λ s. anything)) (λ v. anything)
 
 -- a fault of depth or version breaks its rule
 excused_is : (line : ℕ) (f : Fault) → Excused f → ((refusal_of line f).rule ≡ rule.G3) ⊎ ((refusal_of line f).rule ≡ rule.G4)
@@ -312,6 +314,7 @@ refused_is text raw r d e =
   where
     next : Result Words Refusal → Result RawText Refusal
     next w = outcome.◌>>=◌ w (λ ws. outcome.◌>>=◌ {B = RawText} (refused ws.last_line (text_of ws.list)) (λ t. Ok (record { machine = t.0; proofs = t.1; names = ws.names })))
+
     read : (t : Result (RawMachine × List RawProof) Fault) → Met t (raw.machine, raw.proofs)
         → outcome.◌>>=◌ {B = RawText} (refused d.0.last_line t) (λ t. Ok (record { machine = t.0; proofs = t.1; names = d.0.names })) ≡ Err r → (r.rule ≡ rule.G3) ⊎ (r.rule ≡ rule.G4)
     read (Ok t) met h = absurd cc

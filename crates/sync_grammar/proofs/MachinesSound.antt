@@ -1,13 +1,10 @@
 -- What is read as a machine, as proofs and as a whole text is spelled.
-use Rattle.std.proofs.Common.{◌≡◌, ℕ, ◌-◌, ◌==◌, Bool, true, false, List, [], ◌∷◌, length, Result, Ok, Err, Option, Some, None, if◌then◌else◌, refl, sym, ap, ◌∙◌, subst}
+use Rattle.std.proofs.Common.{◌≡◌, ℕ, ◌-◌, ◌==◌, Bool, true, false, List, [], ◌∷◌, length, Result, Ok, Err, Some, None, if◌then◌else◌, refl, sym, ap, subst}
 use Rattle.sync_base.specs.Outcome as outcome
 use Rattle.sync_base.specs.declared.stops.Refusal.{Refusal}
-use Rattle.sync_machine.specs.declared.fields.OpMode.{OpMode}
 use Rattle.sync_machine.specs.declared.fields.OpMode.TheVariants as mode
 use Rattle.sync_tokens.specs.declared.signs.Sign.{Sign}
 use Rattle.sync_tokens.specs.declared.signs.Sign.TheVariants as sign
-use Rattle.sync_tokens.specs.declared.words.What.{What}
-use Rattle.sync_tokens.specs.declared.words.What.TheVariants as what
 use Rattle.sync_tokens.specs.declared.words.Word.{Word}
 use Rattle.sync_tokens.specs.declared.words.Words.{Words}
 use Rattle.sync_tokens.specs.Words.{is_sign, worded}
@@ -22,14 +19,14 @@ use Rattle.sync_parse.specs.declared.trees.RawActKind.{RawActKind}
 use Rattle.sync_parse.specs.declared.trees.RawActKind.TheVariants as act
 use Rattle.sync_parse.specs.declared.trees.RawPlace.{RawPlace}
 use Rattle.sync_parse.specs.declared.trees.RawPlace.TheVariants as place
-use Rattle.sync_exprs.specs.Lexemes.{Read, Reader, first_line, begins_with, goes_on}
+use Rattle.sync_exprs.specs.Lexemes.{Read, begins_with, goes_on}
 use Rattle.sync_parse.specs.Faults.{refused}
 use Rattle.sync_parse.specs.Machines.{pattern_at, keyed, place_at, closed_expr, closed_place, formula_act, value_act, field_place, place_act, have_act, act_kind, act_at, acts, field_at, fields, mode_of, mode_said, mode_at, operation_at, begins_operation, operations, invariant_at, invariants, machine_at, claim_at, proof_at, proof_row, proofs_at, version_at, at_end, text_of, parsed}
-use Rattle.sync_grammar.specs.Relations.{Spelled, The, AName, ANumber, AStrategy, Yields, Here, Then, ◌>>=◌, ◌>>◌, Either, ◌or◌, Closed, Many, Names}
+use Rattle.sync_grammar.specs.Relations.{Spelled, The, Yields, Then, ◌>>=◌, ◌>>◌, Either, Closed}
 use Rattle.sync_grammar.specs.Expressions.{AnExpr}
 use Rattle.sync_grammar.specs.Machines.{Pattern, Place, FormulaAct, ValueAct, FieldPlace, PlaceAct, HaveAct, ActKind, Act, Field, Mode, Operation, Invariant, Machine, Claim, Proof, Proofs}
 use Rattle.sync_grammar.specs.Texts.{Version, Text, Spells}
-use Rattle.sync_grammar.proofs.Sounds.{Sound, ok_is, stops, yields, then_sound, began, here, first, second, either, tested, is_the, the_sign, sign_sound, name_sound, number_sound, strategy_sound, row_sound, names_sound}
+use Rattle.sync_grammar.proofs.Sounds.{Sound, ok_is, stops, yields, then_sound, began, here, first, second, either, is_the, the_sign, sign_sound, name_sound, number_sound, strategy_sound, row_sound, names_sound}
 use Rattle.sync_grammar.proofs.ExpressionsSound.{expr_sound}
 use Rattle.sync_grammar.proofs.ScriptsSound.{refuse_sound, script_sound}
 

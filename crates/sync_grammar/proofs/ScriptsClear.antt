@@ -1,8 +1,7 @@
 -- No words spell two scripts.
-use Rattle.std.proofs.Common.{◌≡◌, ℕ, zero, suc, Bool, true, false, List, [], ◌∷◌, Option, Some, None, if◌then◌else◌, refl, sym, ap, ◌∙◌}
+use Rattle.std.proofs.Common.{◌≡◌, ℕ, zero, suc, Bool, true, false, List, [], ◌∷◌, Some, refl}
 use Rattle.sync_tokens.specs.declared.signs.Sign.{Sign}
 use Rattle.sync_tokens.specs.declared.signs.Sign.TheVariants as sign
-use Rattle.sync_tokens.specs.declared.words.Word.{Word}
 use Rattle.sync_tokens.specs.Signs.{is_same}
 use Rattle.sync_exprs.specs.declared.naming.Named.{Named}
 use Rattle.sync_exprs.specs.declared.expressions.Expr.{Expr}
@@ -12,11 +11,11 @@ use Rattle.sync_parse.specs.declared.scripts.RawBlock.{RawBlock}
 use Rattle.sync_parse.specs.declared.scripts.RawStepKind.{RawStepKind}
 use Rattle.sync_parse.specs.declared.scripts.RawStepKind.TheVariants as step
 use Rattle.sync_parse.specs.Scripts.{bounded_of}
-use Rattle.sync_grammar.specs.Relations.{Spelled, The, AName, ANumber, OneOf, Yields, Here, Then, ◌>>=◌, ◌>>◌, ◌or◌, Many, Series}
-use Rattle.sync_grammar.specs.Expressions.{AnExpr, Args}
+use Rattle.sync_grammar.specs.Relations.{Spelled, Then}
+use Rattle.sync_grammar.specs.Expressions.{AnExpr}
 use Rattle.sync_grammar.specs.Scripts.{ASubject, Hyp, Scaled, Part, As, Same, Sum, Inst, Parts, Lookup, Cong, Split, Cut, StepKind, Step, BlockOf, Nested, Block, Script}
-use Rattle.sync_grammar.proofs.Clears.{code, front, Set, any, only, among, both, others, In, only_in, among_in, both_in, same_in, any_in, Starts, Follows, Clear, Fork, lone, fork_or, starts_weaker, starts_then, starts_here, starts_or, starts_the, starts_name, starts_number, follows_starts, follows_yields, clear_the, clear_name, clear_number, clear_one_of, clear_yields, clear_here, clear_then, clear_next, clear_many, clear_series}
-use Rattle.sync_grammar.proofs.ExpressionsClear.{operators, row, starts_table, clear_expr, starts_expr, clear_args}
+use Rattle.sync_grammar.proofs.Clears.{code, Set, any, only, among, both, others, In, only_in, same_in, any_in, Starts, Clear, Fork, lone, fork_or, starts_then, starts_here, starts_the, starts_name, starts_number, follows_starts, clear_the, clear_name, clear_number, clear_one_of, clear_yields, clear_here, clear_then, clear_next, clear_many, clear_series}
+use Rattle.sync_grammar.proofs.ExpressionsClear.{operators, row, starts_table, clear_expr, clear_args}
 
 -- an expression, where what comes next begins with no operator
 pub expr_then : {A : Type 0} {q p : Set} {g : Expr → Spelled A} → ((x : Expr) → Clear q (g x) (g x)) → ((x : Expr) → Starts (g x) p) → In p (others operators) → Clear q (Then AnExpr g) (Then AnExpr g)

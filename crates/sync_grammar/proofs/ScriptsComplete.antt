@@ -1,30 +1,28 @@
 -- What is spelled as a script is read, where it is not too deep.
-use Rattle.std.proofs.Common.{◌≡◌, ℕ, zero, suc, ◌-◌, ◌<◌, Bool, true, false, ◌&&◌, if◌then◌else◌, List, [], ◌∷◌, length, Option, Some, None, refl, sym, ap, ◌∙◌, subst, arith}
+use Rattle.std.proofs.Common.{◌≡◌, ℕ, zero, suc, ◌-◌, ◌<◌, Bool, true, false, ◌&&◌, List, [], ◌∷◌, refl, sym, ap, ◌∙◌, subst, arith}
 use Rattle.sync_base.specs.Outcome as outcome
 use Rattle.sync_tokens.specs.declared.signs.Sign.{Sign}
 use Rattle.sync_tokens.specs.declared.signs.Sign.TheVariants as sign
-use Rattle.sync_tokens.specs.declared.words.What.{What}
 use Rattle.sync_tokens.specs.declared.words.What.TheVariants as what
 use Rattle.sync_tokens.specs.declared.words.Word.{Word}
 use Rattle.sync_exprs.specs.declared.naming.Named.{Named}
 use Rattle.sync_exprs.specs.declared.expressions.Expr.{Expr}
-use Rattle.sync_exprs.specs.declared.expressions.Special.{Special}
 use Rattle.sync_parse.specs.declared.scripts.Subject.{Subject}
 use Rattle.sync_parse.specs.declared.scripts.Subject.TheVariants as subject
 use Rattle.sync_parse.specs.declared.scripts.RawBlock.{RawBlock}
 use Rattle.sync_parse.specs.declared.scripts.RawStepKind.{RawStepKind}
 use Rattle.sync_parse.specs.declared.scripts.RawStepKind.TheVariants as step
-use Rattle.sync_exprs.specs.Lexemes.{Read, Reader, goes_on}
+use Rattle.sync_exprs.specs.Lexemes.{Read, Reader}
 use Rattle.sync_exprs.specs.Expressions.{expr_at}
-use Rattle.sync_parse.specs.Scripts.{bounded_of, subject_word, subject_said, subject_at, hyp_at, as_name, scaled, part_at, same_step, sum_step, inst_step, parts_step, lookup_step, cong_step, plain_step, split_step, cut_step, step_kind, step_at, steps, block_with, nested, block_at, script_at}
-use Rattle.sync_grammar.specs.Relations.{Spelled, The, AName, ANumber, OneOf, Yields, Here, Then, ◌>>=◌, ◌>>◌, Either, the_one, the_other, Many, Series}
+use Rattle.sync_parse.specs.Scripts.{subject_word, subject_said, subject_at, hyp_at, as_name, scaled, part_at, same_step, sum_step, inst_step, parts_step, lookup_step, cong_step, plain_step, split_step, cut_step, step_kind, step_at, steps, block_with, nested, block_at, script_at}
+use Rattle.sync_grammar.specs.Relations.{Spelled, Then, the_one, the_other}
 use Rattle.sync_grammar.specs.Expressions.{AnExpr}
 use Rattle.sync_grammar.specs.Scripts.{ASubject, Hyp, Scaled, Part, As, Same, Sum, Inst, Parts, Lookup, Cong, Split, Cut, StepKind, Step, BlockOf, Nested, Block, Script}
-use Rattle.sync_grammar.proofs.Clears.{code, front, Set, any, only, both, others, all_of, In, only_in, both_in, same_in, any_in, Starts, Follows, Clear, starts_then, starts_or, starts_the, starts_name, starts_number, follows_starts}
+use Rattle.sync_grammar.proofs.Clears.{code, front, Set, any, only, both, others, all_of, In, only_in, both_in, same_in, any_in, Starts, Clear, starts_then, starts_or, starts_the, starts_name, follows_starts}
 use Rattle.sync_grammar.proofs.ExpressionsClear.{operators}
-use Rattle.sync_grammar.proofs.ScriptsClear.{starts_as, scaled_fork, same_fork, sum_fork, inst_fork, parts_fork, lookup_fork, cong_fork, split_fork, cut_fork, step_signs, starts_step, clear_nested}
+use Rattle.sync_grammar.proofs.ScriptsClear.{starts_as, scaled_fork, same_fork, sum_fork, inst_fork, parts_fork, lookup_fork, cong_fork, split_fork, cut_fork, starts_step, clear_nested}
 use Rattle.sync_grammar.proofs.Counting.{Silent, silent_part, silent_step, silent_nested_block}
-use Rattle.sync_grammar.proofs.Completes.{Met, gives, Complete, Shrinks, Listing, braced, complete_yields, complete_then, complete_next, complete_here, complete_if, complete_last, complete_row, complete_series, met_within, no_room, tail_is, head_is, says, pair_is, complete_the, complete_name, complete_number}
+use Rattle.sync_grammar.proofs.Completes.{Met, gives, Complete, braced, complete_yields, complete_then, complete_next, complete_here, complete_if, complete_last, complete_row, complete_series, met_within, no_room, tail_is, head_is, says, complete_the, complete_name, complete_number}
 use Rattle.sync_grammar.proofs.ExpressionsComplete.{complete_expr, complete_args}
 
 -- ---- alternatives by their first sign
@@ -65,13 +63,13 @@ subject_case left (w ∷ ws) x rest (the_one d) =
     let line = ap (λ (z : Word). z.line) (head_is w d.one.word ws d.middle e) in
     let value : subject.Name (record { name = d.one.number; line = w.line }) ≡ x = (λ k. subject.Name (record { name = d.one.number; line = line k })) ∙ ap subject.Name (sym d.one.name_is) ∙ sym d.next.is in
     subst (λ z. Met (subject_said left w.line ws z) (x, rest)) (sym (says w d.one.word ws d.middle (what.Name d.one.number d.one.strategy) e d.one.is))
-      (met_within left w.line λ room. gives value (tail_is w d.one.word ws d.middle e ∙ d.next.none))
+    (met_within left w.line λ room. gives value (tail_is w d.one.word ws d.middle e ∙ d.next.none))
 subject_case left (w ∷ ws) x rest (the_other d) =
     let e : ◌≡◌ {A = List Word} (w ∷ ws) (d.one.word ∷ d.middle) = d.one.stands in
     let line : w.line ≡ d.value.1 = ap (λ (z : Word). z.line) (head_is w d.one.word ws d.middle e) ∙ sym d.one.line_is in
     let value : subject.Special d.value.0 w.line ≡ x = ap (subject.Special d.value.0) line ∙ sym d.next.is in
     subst (λ z. Met (subject_said left w.line ws z) (x, rest)) (sym (says w d.one.word ws d.middle (what.Sign d.one.sign) e d.one.is))
-      (subst (λ z. Met (subject_word left w.line ws z) (x, rest)) (sym d.one.found) (met_within left w.line λ room. gives value (tail_is w d.one.word ws d.middle e ∙ d.next.none)))
+    (subst (λ z. Met (subject_word left w.line ws z) (x, rest)) (sym d.one.found) (met_within left w.line λ room. gives value (tail_is w d.one.word ws d.middle e ∙ d.next.none)))
 
 complete_subject : (left : ℕ) (ts : List Word) → Complete any ASubject ts (subject_at left ts)
 complete_subject left ts = record { at = λ x rest d e. subject_case left ts x rest d }
@@ -80,16 +78,16 @@ pub complete_hyp : {q : Set} (left : ℕ) (ts : List Word) → Complete q Hyp ts
 unfolding hyp_at Hyp
 complete_hyp left ts =
     complete_if sign.Denied (starts_then starts_the) (starts_or (starts_then starts_the) (starts_or (starts_then starts_the) (starts_or (starts_then starts_the) (starts_then starts_name))))
-      (union_in (code sign.At ∷ code sign.Low ∷ code sign.High ∷ 1 ∷ []) refl)
-      (complete_next (complete_the left sign.Denied ts) λ d. complete_yields)
+    (union_in (code sign.At ∷ code sign.Low ∷ code sign.High ∷ 1 ∷ []) refl)
+    (complete_next (complete_the left sign.Denied ts) λ d. complete_yields)
     (complete_if sign.At (starts_then starts_the) (starts_or (starts_then starts_the) (starts_or (starts_then starts_the) (starts_then starts_name)))
-      (union_in (code sign.Low ∷ code sign.High ∷ 1 ∷ []) refl)
-      (complete_next (complete_the left sign.At ts) λ a. complete_next (complete_number left a.1) λ n. complete_yields)
+    (union_in (code sign.Low ∷ code sign.High ∷ 1 ∷ []) refl)
+    (complete_next (complete_the left sign.At ts) λ a. complete_next (complete_number left a.1) λ n. complete_yields)
     (complete_if sign.Low (starts_then starts_the) (starts_or (starts_then starts_the) (starts_then starts_name))
-      (union_in (code sign.High ∷ 1 ∷ []) refl)
-      (complete_next (complete_the left sign.Low ts) λ l. complete_next (complete_subject left l.1) λ s. complete_yields)
+    (union_in (code sign.High ∷ 1 ∷ []) refl)
+    (complete_next (complete_the left sign.Low ts) λ l. complete_next (complete_subject left l.1) λ s. complete_yields)
     (complete_if sign.High (starts_then starts_the) (starts_then starts_name) (only_in _ refl)
-      (complete_next (complete_the left sign.High ts) λ h. complete_next (complete_subject left h.1) λ s. complete_yields)
+    (complete_next (complete_the left sign.High ts) λ h. complete_next (complete_subject left h.1) λ s. complete_yields)
     (complete_next (complete_name left ts) λ n. complete_yields))))
 
 complete_scaled : {q : Set} (minus : Bool) (left : ℕ) (ts : List Word) → Complete q (Scaled minus) ts (scaled minus left ts)
@@ -120,8 +118,13 @@ complete_sum : {q : Set} (left : ℕ) (ts : List Word) → Complete q Sum ts (su
 unfolding sum_step Sum
 complete_sum left ts = complete_next (complete_the left sign.Sum ts) λ s.
     complete_then (only (code sign.Semicolon)) (complete_series {p = any} (record {
-        complete = complete_part left; shrinks = record { at = λ ts rest x d. (silent_part.at ts rest x d).shorter }; comma = refl; end = any_in; apart = only_in _ refl }) s.1)
-      (λ parts. complete_next (complete_the left sign.Semicolon parts.1) λ e. complete_yields) (λ parts. follows_starts (starts_then starts_the) same_in)
+      complete = complete_part left;
+      shrinks = record { at = λ ts rest x d. (silent_part.at ts rest x d).shorter };
+      comma = refl;
+      end = any_in;
+      apart = only_in _ refl;
+    }) s.1)
+    (λ parts. complete_next (complete_the left sign.Semicolon parts.1) λ e. complete_yields) (λ parts. follows_starts (starts_then starts_the) same_in)
 
 complete_inst : {q : Set} (left : ℕ) (ts : List Word) → Complete q Inst ts (inst_step left ts)
 unfolding inst_step Inst
@@ -137,16 +140,16 @@ complete_lookup : {q : Set} (opening : Sign) (made : Expr → Expr → Named →
 unfolding lookup_step Lookup
 complete_lookup opening made left ts = complete_next (complete_the left opening ts) λ s.
     expr_next left (λ m. complete_next (complete_the left sign.Comma m.1) λ c.
-      expr_next left (λ k. complete_next (complete_as left k.1) λ a. complete_next (complete_the left sign.Semicolon a.1) λ e. complete_yields) (λ k. starts_then starts_as) (only_in _ refl))
+    expr_next left (λ k. complete_next (complete_as left k.1) λ a. complete_next (complete_the left sign.Semicolon a.1) λ e. complete_yields) (λ k. starts_then starts_as) (only_in _ refl))
     (λ m. starts_then starts_the) (only_in _ refl)
 
 complete_cong : {q : Set} (left : ℕ) (ts : List Word) → Complete q Cong ts (cong_step left ts)
 unfolding cong_step Cong
 complete_cong left ts = complete_next (complete_the left sign.Cong ts) λ s.
     expr_next left (λ m. complete_next (complete_the left sign.Comma m.1) λ c.
-      expr_next left (λ j. complete_next (complete_the left sign.Comma j.1) λ d.
-        expr_next left (λ k. complete_next (complete_as left k.1) λ a. complete_next (complete_the left sign.Semicolon a.1) λ e. complete_yields) (λ k. starts_then starts_as) (only_in _ refl))
-      (λ j. starts_then starts_the) (only_in _ refl))
+    expr_next left (λ j. complete_next (complete_the left sign.Comma j.1) λ d.
+    expr_next left (λ k. complete_next (complete_as left k.1) λ a. complete_next (complete_the left sign.Semicolon a.1) λ e. complete_yields) (λ k. starts_then starts_as) (only_in _ refl))
+    (λ j. starts_then starts_the) (only_in _ refl))
     (λ m. starts_then starts_the) (only_in _ refl)
 
 complete_split : {q : Set} {m : Spelled RawBlock} (block : Reader RawBlock) → ((ts : List Word) → Complete any m ts (block ts)) → (left : ℕ) (ts : List Word) → Complete q (Split m) ts (split_step block left ts)
@@ -209,17 +212,19 @@ unfolding steps BlockOf
 block_case q block zero c k s ts x rest d e = no_room _ _ sign.OpenBrace ts d.middle d.value d.one
 block_case q block (suc below) c k s ts x rest d e =
     (complete_next {q = q} (complete_the (suc below) sign.OpenBrace ts) λ o.
-      complete_then (only (code sign.CloseBrace))
-        (complete_row (braced (complete_step block (c (omega arith)) k (suc below - 1)) (record { at = λ ts rest x d. ((silent_step s).at ts rest x d).shorter }) (starts_step k)
-          (union_in (code sign.Split ∷ code sign.Cut ∷ code sign.Same ∷ same_codes) refl)) o.1)
-        (λ xs. complete_next (complete_the (suc below - 1) sign.CloseBrace xs.1) λ e. complete_yields) (λ xs. follows_starts (starts_then starts_the) same_in)).at x rest d e
+    complete_then (only (code sign.CloseBrace))
+    (complete_row (braced (complete_step block (c (omega arith)) k (suc below - 1)) (record { at = λ ts rest x d. ((silent_step s).at ts rest x d).shorter }) (starts_step k)
+    (union_in (code sign.Split ∷ code sign.Cut ∷ code sign.Same ∷ same_codes) refl)) o.1)
+    (λ xs. complete_next (complete_the (suc below - 1) sign.CloseBrace xs.1) λ e. complete_yields) (λ xs. follows_starts (starts_then starts_the) same_in)).at x rest d e
 
 complete_nested : (left depth : ℕ) → 0 < left → (ts : List Word) → Complete any (Nested depth) ts (nested left ts)
 unfolding nested Nested
 complete_nested zero depth room ts = absurd (omega (arith, room))
 complete_nested (suc below) zero room ts = record { at = λ x rest d e. absurd d }
-complete_nested (suc below) (suc depth) room ts = record { at = λ x rest d e.
-    block_case any (nested below) below (λ room. complete_nested below depth room) (clear_nested depth depth) (silent_nested_block depth) ts x rest d refl }
+complete_nested (suc below) (suc depth) room ts = record {
+  at = λ x rest d e.
+      block_case any (nested below) below (λ room. complete_nested below depth room) (clear_nested depth depth) (silent_nested_block depth) ts x rest d refl;
+}
 
 outer_case : (left depth : ℕ) (ts : List Word) (x : RawBlock) (rest : List Word) → Nested depth ts rest x → Met (block_at left ts) (x, rest)
 unfolding block_at Nested

@@ -1,5 +1,5 @@
 -- What is read as a script is spelled.
-use Rattle.std.proofs.Common.{◌≡◌, ℕ, zero, suc, ◌-◌, ◌==◌, Bool, true, false, List, [], ◌∷◌, length, Option, Some, None, refl, sym, ap, ◌∙◌, subst}
+use Rattle.std.proofs.Common.{◌≡◌, ℕ, zero, suc, ◌-◌, ◌==◌, Bool, true, false, List, [], ◌∷◌, length, Option, Some, None, refl}
 use Rattle.sync_tokens.specs.declared.signs.Sign.{Sign}
 use Rattle.sync_tokens.specs.declared.signs.Sign.TheVariants as sign
 use Rattle.sync_tokens.specs.declared.words.What.{What}
@@ -9,12 +9,11 @@ use Rattle.sync_exprs.specs.declared.naming.Named.{Named}
 use Rattle.sync_exprs.specs.declared.expressions.Expr.{Expr}
 use Rattle.sync_exprs.specs.declared.expressions.Special.{Special}
 use Rattle.sync_parse.specs.declared.scripts.RawBlock.{RawBlock}
-use Rattle.sync_parse.specs.declared.scripts.RawStep.{RawStep}
 use Rattle.sync_parse.specs.declared.scripts.RawStepKind.{RawStepKind}
 use Rattle.sync_parse.specs.declared.scripts.RawStepKind.TheVariants as step
-use Rattle.sync_exprs.specs.Lexemes.{Read, Reader, begins_with, goes_on, sign_at, name_at}
+use Rattle.sync_exprs.specs.Lexemes.{Reader, begins_with, goes_on}
 use Rattle.sync_parse.specs.Scripts.{bounded_of, subject_word, subject_said, subject_at, hyp_at, as_name, scaled, part_at, refuse, same_step, sum_step, inst_step, parts_step, lookup_step, cong_step, plain_step, split_step, cut_step, step_kind, step_at, steps, block_with, nested, block_at, script_at}
-use Rattle.sync_grammar.specs.Relations.{Spelled, The, AName, ANumber, OneOf, Yields, Here, Then, ◌>>=◌, ◌>>◌, ◌or◌, Many, Series}
+use Rattle.sync_grammar.specs.Relations.{Spelled}
 use Rattle.sync_grammar.specs.Scripts.{ASubject, Hyp, Scaled, Part, As, Same, Sum, Inst, Parts, Lookup, Cong, Split, Cut, StepKind, Step, BlockOf, Nested, Block, Script}
 use Rattle.sync_grammar.proofs.Sounds.{Sound, stops, yields, then_sound, began, here, first, second, either, sign_sound, name_sound, number_sound, one_of, row_sound, series_sound}
 use Rattle.sync_grammar.proofs.ExpressionsSound.{expr_sound, exprs_sound}

@@ -1,7 +1,6 @@
 -- What a reading function gives is spelled: the law for each way to put productions together.
-use Rattle.std.proofs.Common.{◌≡◌, ℕ, zero, suc, ◌-◌, ◌==◌, Bool, true, false, cond, if◌then◌else◌, List, [], ◌∷◌, ◌++◌, length, Result, Ok, Err, Option, Some, None, inl, inr, refl, sym, ap, ◌∙◌, subst, append_assoc, append-nil}
+use Rattle.std.proofs.Common.{◌≡◌, ℕ, zero, suc, ◌-◌, ◌==◌, Bool, true, false, if◌then◌else◌, List, [], ◌∷◌, ◌++◌, length, Result, Ok, Err, Option, Some, None, refl, sym, ap, ◌∙◌, subst, append_assoc, append-nil}
 use Rattle.sync_base.specs.Outcome as outcome
-use Rattle.sync_machine.specs.declared.fields.Strategy.{Strategy}
 use Rattle.sync_tokens.specs.declared.signs.Sign.{Sign}
 use Rattle.sync_tokens.specs.declared.signs.Sign.TheVariants as sign
 use Rattle.sync_tokens.specs.contracts.signs.Sign.{the_type}
@@ -10,9 +9,8 @@ use Rattle.sync_tokens.specs.declared.words.What.TheVariants as what
 use Rattle.sync_tokens.specs.declared.words.Word.{Word}
 use Rattle.sync_tokens.specs.Words.{says_sign, is_sign}
 use Rattle.sync_exprs.specs.declared.faults.Fault.{Fault}
-use Rattle.sync_exprs.specs.declared.naming.Named.{Named}
-use Rattle.sync_exprs.specs.Lexemes.{Read, Reader, within, begins_with, sign_at, name_at, name_said, number_at, number_said, strategy_at, strategy_said, row, behind_commas, series, listed, in_round, names_at}
-use Rattle.sync_grammar.specs.Relations.{Spelled, The, AName, ANumber, AStrategy, OneOf, Yields, Here, Then, ◌>>=◌, ◌>>◌, Either, the_one, the_other, ◌or◌, Many, nothing, more, Series, Listed, InRound, Names}
+use Rattle.sync_exprs.specs.Lexemes.{Read, Reader, begins_with, sign_at, name_at, name_said, number_at, number_said, strategy_at, strategy_said, row, behind_commas, series, listed, in_round, names_at}
+use Rattle.sync_grammar.specs.Relations.{Spelled, The, AName, ANumber, AStrategy, OneOf, Yields, Here, Then, ◌>>◌, Either, the_one, the_other, Many, nothing, more, Series, Listed, InRound, Names}
 use denote.Enum.Bare.{same_true}
 
 -- what is read here, if it is not a fault, is spelled by the words from here on

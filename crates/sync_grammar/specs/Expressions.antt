@@ -1,6 +1,6 @@
 -- The productions of expressions. What stands in brackets is given to the productions of one level; at the end it is an
 -- expression whose own brackets stand one deeper, to any depth.
-use Rattle.std.specs.Prelude.{◌≡◌, ℕ, zero, suc, List, Option}
+use Rattle.std.specs.Prelude.{ℕ, zero, suc, List}
 use Rattle.sync_tokens.specs.declared.signs.Sign.{Sign}
 use Rattle.sync_tokens.specs.declared.signs.Sign.TheVariants as sign
 use Rattle.sync_tokens.specs.declared.words.Word.{Word}

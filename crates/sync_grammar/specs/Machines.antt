@@ -1,10 +1,9 @@
 -- The productions of machines and proofs.
-use Rattle.std.specs.Prelude.{◌≡◌, ℕ, List, []}
+use Rattle.std.specs.Prelude.{List, []}
 use Rattle.sync_machine.specs.declared.fields.OpMode.{OpMode}
 use Rattle.sync_machine.specs.declared.fields.OpMode.TheVariants as mode
 use Rattle.sync_tokens.specs.declared.signs.Sign.{Sign}
 use Rattle.sync_tokens.specs.declared.signs.Sign.TheVariants as sign
-use Rattle.sync_tokens.specs.declared.words.Word.{Word}
 use Rattle.sync_exprs.specs.declared.expressions.Expr.{Expr}
 use Rattle.sync_exprs.specs.declared.naming.Named.{Named}
 use Rattle.sync_parse.specs.declared.trees.RawMachine.{RawMachine}

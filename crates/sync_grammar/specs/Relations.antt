@@ -4,7 +4,6 @@ use Rattle.std.specs.Prelude.{◌≡◌, ℕ, List, [], ◌∷◌, Option, Some}
 use Rattle.sync_machine.specs.declared.fields.Strategy.{Strategy}
 use Rattle.sync_tokens.specs.declared.signs.Sign.{Sign}
 use Rattle.sync_tokens.specs.declared.signs.Sign.TheVariants as sign
-use Rattle.sync_tokens.specs.declared.words.What.{What}
 use Rattle.sync_tokens.specs.declared.words.What.TheVariants as what
 use Rattle.sync_tokens.specs.declared.words.Word.{Word}
 use Rattle.sync_exprs.specs.declared.naming.Named.{Named}
