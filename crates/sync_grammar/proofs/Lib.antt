@@ -1,0 +1,14 @@
+pub mod Sounds
+pub mod ExpressionsSound
+pub mod ScriptsSound
+pub mod MachinesSound
+pub mod Clears
+pub mod ExpressionsClear
+pub mod ScriptsClear
+pub mod MachinesClear
+pub mod Counting
+pub mod Laws
+pub mod Completes
+pub mod ExpressionsComplete
+pub mod ScriptsComplete
+pub mod MachinesComplete
