@@ -8,6 +8,8 @@ use Rattle.sync_base.specs.Outcome.{first, ◌>>=◌}
 use Rattle.sync_lex.specs.Lexemes.{lexemes_of}
 use Rattle.sync_tokens.specs.Words.{worded}
 use Rattle.sync_parse.specs.Machines.{parsed}
+use Rattle.sync_parse.specs.declared.trees.RawText.{RawText}
+use Rattle.sync_grammar.specs.Texts.{Spells, HasScripts}
 use Rattle.sync_machine.specs.Machines.{MachineTree}
 use Rattle.sync_machine.specs.Naming.{machine_fault}
 use Rattle.sync_machine.specs.States.{HoldsAlways}
@@ -39,10 +41,15 @@ judged t = unless (first (form_fault t.machine) (proof_fault t.machine t.proofs)
 unfoldable pub verdict_of : List ℕ → Result ℕ Refusal
 verdict_of bytes = spelled bytes >>= judged
 
--- The bytes spell a machine with so many scripts, and it holds always: each state that it reaches by declared steps meets
--- all its invariants, and no safety condition and no assertion fails at one.
+-- The bytes spell a raw tree by the productions of the grammar, the tree means this machine with these proofs, and the
+-- word `by` stands once for each proof.
+abbrev pub Means : List ℕ → TextTree → Type 0
+Means bytes t = (raw : RawText) × Spells bytes raw × (resolved raw ≡ Ok t) × HasScripts bytes (length t.proofs)
+
+-- The bytes spell a machine, so often `by` stands in them, and the machine holds always: each state that it reaches by
+-- declared steps meets all its invariants, and no safety condition and no assertion fails at one.
 unfoldable pub IsAccepted : List ℕ → ℕ → Type 0
-IsAccepted bytes scripts = (t : TextTree) × (spelled bytes ≡ Ok t) × HoldsAlways t.machine × (scripts ≡ length t.proofs)
+IsAccepted bytes scripts = (t : TextTree) × Means bytes t × HoldsAlways t.machine × HasScripts bytes scripts
 
 -- a text that is longer than the limit is refused for that
 pub spelled-too_long : (bytes : List ℕ) → most_bytes < length bytes → spelled bytes ≡ Err (record { line = 1; rule = L1 })

@@ -11,13 +11,13 @@ ghost use Rattle.sync_rules.specs.Strategies.{AreAllowed};
 ghost use Rattle.sync_induct.specs.Checks.{AreScriptsOf};
 ghost use Rattle.sync_read.specs.Texts.{text_tree};
 ghost use Rattle.sync_read.specs.declared.texts.Text.{Text};
-ghost use Rattle.sync_check.specs.Checking.{spelled, form_fault, judged, verdict_of, IsAccepted};
+ghost use Rattle.sync_check.specs.Checking.{spelled, form_fault, judged, verdict_of, Means, IsAccepted};
 
 use std::alloc::Global;
 use sync_base::Stop;
+use sync_grammar::read_tree;
 use sync_induct::inductive;
 use sync_machine::{Machine, well_formed};
-use sync_parse::parse;
 use sync_read::{Text, resolve};
 use sync_rules::check_ops;
 
@@ -25,10 +25,11 @@ use sync_rules::check_ops;
 /// names that they break.
 pub(crate) fn read(alloc: Global, bytes: &[u8]) -> Result<Text, Stop>
     ensures exact { Gives text_tree result (spelled bytes.now) }
+    ensures means { IfOk result (λ (t : Text). Means bytes.now (text_tree t)) }
     ensures ids { IfOk result (λ (t : Text). HasOwnIds t.machine) }
     ensures names { IfOk result (λ (t : Text). AreTextNames (machine_tree t.machine)) }
 {
-    let raw = parse(alloc, bytes)?;
+    let raw = read_tree(alloc, bytes)?;
     resolve(alloc, raw)
 }
 

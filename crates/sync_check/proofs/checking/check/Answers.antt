@@ -3,4 +3,4 @@ use Rattle.sync_check.proofs.Accepting.{accepted}
 use Rattle.sync_check.proofs.checking.check.Goals as goal
 
 pub returns-clause-sound : goal.returns-clause-sound
-returns-clause-sound c = accepted c.args.text.now (text_tree c.in_ok-text.text) c.judge.result c.in_ok-text.ensures.exact c.judge.ensures.holds c.judge.ensures.scripts
+returns-clause-sound c = accepted c.args.text.now (text_tree c.in_ok-text.text) c.judge.result c.in_ok-text.ensures.means c.judge.ensures.holds c.judge.ensures.scripts
