@@ -28,6 +28,7 @@ pub(crate) fn read(alloc: Global, bytes: &[u8]) -> Result<Text, Stop>
     ensures means { IfOk result (λ (t : Text). Means bytes.now (text_tree t)) }
     ensures ids { IfOk result (λ (t : Text). HasOwnIds t.machine) }
     ensures names { IfOk result (λ (t : Text). AreTextNames (machine_tree t.machine)) }
+    ensures scripts { IfOk result (λ (t : Text). AreScriptsOf t.machine.terms t.proofs.list) }
 {
     let raw = read_tree(alloc, bytes)?;
     resolve(alloc, raw)
