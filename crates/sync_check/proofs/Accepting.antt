@@ -1,5 +1,5 @@
 -- What a text means whose machine was checked.
-use Rattle.std.proofs.Common.{◌≡◌, ℕ, ◌+◌, List, [], ◌∷◌, ◌++◌, length, Result, Ok, Err, refl, sym, ap, subst, ◌∙◌, arith, length-++}
+use Rattle.std.proofs.Common.{◌≡◌, ℕ, ◌+◌, List, [], ◌∷◌, ◌++◌, length, Result, Ok, Err, refl, sym, ap, subst, ◌∙◌, arith, length-append}
 use Rattle.std.specs.Prelude.{OnOk, IfOk}
 use Rattle.sync_base.specs.declared.stops.Stop.{Stop}
 use Rattle.sync_base.specs.declared.stops.Refusal.{Refusal}
@@ -20,24 +20,24 @@ bound : {A B : Type 0} (r : Result A Refusal) (f : A → Result B Refusal) (y : 
 bound (Ok x) f y e = (x, refl, e)
 bound (Err refusal) f y e = absurd cc
 
-same : {A : Type 0} (x y : A) → Ok {A} {Refusal} x ≡ Ok y → x ≡ y
-same x y e = cc
+same : {A : Type 0} (x y : A) (r : Result A Refusal) → r ≡ Ok x → r ≡ Ok y → x ≡ y
+same x y r e f = cc
 
 -- there are as many proofs as raw ones
 proofs-counted : (held : List ProofTree) (s : Scope) (ps : List RawProof) (x : List ProofTree × Scope) → proofs_from held s ps ≡ Ok x → length x.0 ≡ length held + length ps
 unfolding proofs_from
-proofs-counted held s [] x e = let is : (held, s) ≡ x = same (held, s) x e in sym (ap (λ (y : List ProofTree × Scope). length y.0) is) ∙ (omega arith)
+proofs-counted held s [] x e = let is : (held, s) ≡ x = same (held, s) x (Ok (held, s)) refl e in sym (ap (λ (y : List ProofTree × Scope). length y.0) is) ∙ (omega arith)
 proofs-counted held s (p ∷ ps) x e =
     let one = bound (proof_in (length held) s p) (λ (y : ProofTree × Scope). proofs_from (held ++ y.0 ∷ []) y.1 ps) x e in
     let more = proofs-counted (held ++ one.0.0 ∷ []) one.0.1 ps x one.2 in
-    let longer = length-++ held (one.0.0 ∷ []) in
-    omega arith
+    omega (arith, length-append held (one.0.0 ∷ []), more)
 
 all-counted : (raw : RawText) (t : TextTree) → resolved raw ≡ Ok t → length t.proofs ≡ length raw.proofs
 all-counted raw t e =
     let m = bound (machine_in (first_scope (length raw.names.list)) raw.machine) _ t e in
     let ps = bound (proofs_from [] m.0.1 raw.proofs) _ t m.2 in
-    ap (λ (x : TextTree). length x.proofs) (sym (same _ t ps.2)) ∙ proofs-counted [] m.0.1 raw.proofs ps.0 ps.1
+    let counted : length ps.0.0 ≡ length raw.proofs = let c = proofs-counted [] m.0.1 raw.proofs ps.0 ps.1 in omega (arith, c) in
+    ap (λ (x : TextTree). length x.proofs) (sym (same _ t (Ok _) refl ps.2)) ∙ counted
 
 pub meant : {A : Type 0} (bytes : List ℕ) (raw : RawText) (f : A → TextTree) (r : Result A Stop) → Spells bytes raw → HasScripts bytes (length raw.proofs) → Gives f r (resolved raw) → IfOk r (λ x. Means bytes (f x))
 meant bytes raw f (Ok x) spells scripts gives = (raw, spells, gives, subst (HasScripts bytes) (sym (all-counted raw (f x) gives)) scripts)
@@ -46,5 +46,5 @@ meant bytes raw f (Err stop) spells scripts gives = tt
 pub accepted : (bytes : List ℕ) (t : TextTree) (r : Result ℕ Stop) → Means bytes t → OnOk r (HoldsAlways t.machine) → IfOk r (λ n. n ≡ length t.proofs)
     → IfOk r (λ n. IsAccepted bytes n)
 unfolding IsAccepted
-accepted bytes t (Ok n) means holds is = (t, means, holds, subst (HasScripts bytes) (sym is) means.2.2)
+accepted bytes t (Ok n) means holds is = (t, means, holds, subst (HasScripts bytes) (sym is) means.3)
 accepted bytes t (Err e) means holds is = tt
