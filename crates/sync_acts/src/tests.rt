@@ -82,28 +82,6 @@ fn a_removal_from_a_count_tells_two_bounds(rt: HostRuntime) -> Result<(), Fail> 
 }
 
 #[test]
-fn a_withdrawal_binds_a_name(rt: HostRuntime) -> Result<(), Fail> {
-    let mut terms = Terms::new(rt.alloc());
-    let map = term(&mut terms, Node::Name(Sym(0)))?;
-    let key = term(&mut terms, Node::Lit(7))?;
-    let there = equation(&mut terms, Node::Has(map, key), Node::Lit(1))?;
-    let named = equation(&mut terms, Node::Get(map, key), Node::Name(Sym(64)))?;
-    let both = form(&mut terms, FormNode::And(there, named))?;
-    let act = Act::Withdraw(
-        0,
-        Place {
-            key: Some(key),
-            value: Some(Pattern::Bind(Sym(64))),
-        },
-    );
-    let promise = safety(&mut terms, Strategy::StorageMap, map, act)?;
-    assert_eq!(rt; promise, Some(there));
-    let answer = condition(&mut terms, Strategy::StorageMap, map, act)?;
-    assert_eq!(rt; answer, Some(both));
-    Ok(())
-}
-
-#[test]
 fn a_removal_from_a_multiset_takes_one(rt: HostRuntime) -> Result<(), Fail> {
     let mut terms = Terms::new(rt.alloc());
     let map = term(&mut terms, Node::Name(Sym(0)))?;
@@ -121,66 +99,5 @@ fn a_removal_from_a_multiset_takes_one(rt: HostRuntime) -> Result<(), Fail> {
     );
     let answer = after(&mut terms, Strategy::Multiset, map, act)?;
     assert_eq!(rt; answer, left);
-    Ok(())
-}
-
-#[test]
-fn an_addition_to_a_persistent_map_may_agree(rt: HostRuntime) -> Result<(), Fail> {
-    let mut terms = Terms::new(rt.alloc());
-    let map = term(&mut terms, Node::Name(Sym(0)))?;
-    let key = term(&mut terms, Node::Lit(7))?;
-    let free = equation(&mut terms, Node::Has(map, key), Node::Lit(0))?;
-    let agrees = equation(&mut terms, Node::Get(map, key), Node::Lit(9))?;
-    let either = form(&mut terms, FormNode::Or(free, agrees))?;
-    let value = term(&mut terms, Node::Lit(9))?;
-    let act = Act::Add(
-        0,
-        Place {
-            key: Some(key),
-            value: Some(Pattern::Term(value)),
-        },
-    );
-    let answer = safety(&mut terms, Strategy::PersistentMap, map, act)?;
-    assert_eq!(rt; answer, Some(either));
-    Ok(())
-}
-
-/// The sum of a term and itself.
-fn doubled(terms: &mut Terms, of: TermId) -> Result<TermId, TermStop>
-    requires { IsTerm terms.old of }
-    ensures id { IfOk result (IsTerm terms.new) }
-{
-    term(terms, Node::Add(of, of))
-}
-
-/// A term doubled six times.
-fn doubled_six_times(terms: &mut Terms, of: TermId) -> Result<TermId, TermStop>
-    requires { IsTerm terms.old of }
-    ensures id { IfOk result (IsTerm terms.new) }
-{
-    let sum = doubled(terms, of)?;
-    let sum = doubled(terms, sum)?;
-    let sum = doubled(terms, sum)?;
-    let sum = doubled(terms, sum)?;
-    let sum = doubled(terms, sum)?;
-    doubled(terms, sum)
-}
-
-#[test]
-fn a_value_of_two_large_parts_is_too_large(rt: HostRuntime) -> Result<(), Fail> {
-    let mut terms = Terms::new(rt.alloc());
-    let one = term(&mut terms, Node::Lit(1))?;
-    let sum = doubled_six_times(&mut terms, one)?;
-    let sum = doubled_six_times(&mut terms, sum)?;
-    let sum = doubled_six_times(&mut terms, sum)?;
-    let act = Act::Add(
-        0,
-        Place {
-            key: None,
-            value: Some(Pattern::Term(sum)),
-        },
-    );
-    let answer = after(&mut terms, Strategy::Count, sum, act);
-    assert_eq!(rt; answer, Err(TermStop::TooLarge));
     Ok(())
 }
