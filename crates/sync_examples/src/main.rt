@@ -1,8 +1,7 @@
 //! Checks the example texts, which lie in the folder that it is run in, and prints a line for each.
 #![tactic(auto)]
 
-use std::fs;
-use std::io;
+use std::{fs, io};
 use sync_base::{Refusal, Stop};
 use sync_check::check;
 
