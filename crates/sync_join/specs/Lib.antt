@@ -1,0 +1,4 @@
+pub mod Shards
+pub mod Join
+pub mod Widths
+pub mod Views

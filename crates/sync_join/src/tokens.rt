@@ -1,0 +1,32 @@
+//! Tokens, bags of them, and what is kept beside the tokens.
+use crate::values::Value;
+use sqlite_items::Items;
+
+/// The field of a permission.
+pub const PERM: u32 = 4_294_967_295;
+
+/// A token of a field, or a permission of a cell.
+///
+/// A permission has `PERM` as its field, the cell's number as its key and the cell's content as its value. Where the
+/// strategy has no keys the key is 0; an element of a set has the value 1.
+#[derive(Clone, Copy, PartialEq, Eq, Debug)]
+pub struct Token {
+    pub field: u32,
+    pub key: i128,
+    pub value: i128,
+}
+
+/// A bag of tokens, in some order.
+#[derive(Drop)]
+pub struct Bag {
+    pub tokens: Items<Token>,
+}
+
+/// What is kept beside the tokens: a record for each field, and the stored permissions, each with its storage field.
+///
+/// The records of constants, of fields without tokens and of persistent fields count; the others say nothing.
+#[derive(Drop)]
+pub struct Rest {
+    pub records: Items<Value>,
+    pub stored: Items<Token>,
+}
