@@ -2,3 +2,4 @@ pub mod Maps
 pub mod Lookups
 pub mod Bags
 pub mod Parts
+pub mod Leaving

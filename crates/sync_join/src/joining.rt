@@ -2,7 +2,6 @@
 ghost use Rattle.std.specs.Prelude.{◌≡◌, ◌<◌, length, Err, option_map, IfOk, OnOk};
 ghost use Rattle.sync_machine.specs.States as states;
 ghost use Rattle.sync_join.specs.declared.sums.JoinStop.TheVariants.{Width};
-ghost use Rattle.sync_join.specs.Shards.{IsShaped};
 ghost use Rattle.sync_join.specs.Join as shards;
 ghost use Rattle.sync_join.specs.Widths.{AreNarrow};
 ghost use Rattle.sync_join.specs.Views.{value_tree, state_tree, kept_of};
@@ -23,10 +22,12 @@ use sync_machine::{Field, Machine, Strategy};
 /// passed over. `Width` comes exactly where a partial sum of a count field's tokens, in the bag's order, leaves signed
 /// 128 bits; it stands before none.
 ///
+/// It asks for a record for each field; bags and rests that are shaped as they should be have one.
+///
 /// What it costs goes with the number of fields, of which a machine has at most 32, times n log n, n the tokens of the
 /// bag and the stored permissions.
 pub fn join(alloc: Global, m: &Machine, bag: &Bag, rest: &Rest) -> Result<Option<State>, JoinStop>
-    requires { IsShaped m.now.fields bag.now.tokens (kept_of rest.now) }
+    requires { length rest.now.records ≡ length m.now.fields }
     ensures state { IfOk result (λ r. option_map state_tree r ≡ shards.join_of m.now.fields bag.now.tokens (kept_of rest.now)) }
     ensures fits { OnOk result (AreNarrow m.now.fields bag.now.tokens) }
     ensures width { result ≡ Err Width → AreNarrow m.now.fields bag.now.tokens → ⊥ }
