@@ -1,5 +1,5 @@
 -- Tokens of a bag in another order: what one field's tokens make together does not depend on it.
-use Rattle.std.proofs.Common.{◌≡◌, ℕ, ◌+◌, ◌≤◌, ℤ, pos, ◌+ℤ◌, ◌≤ℤ◌, Bool, true, false, not, ◌&&◌, ◌||◌, List, [], ◌∷◌, ◌++◌, length, map, Option, Some, None, option_map, is_some, refl, sym, ap, ◌∙◌, arith, if◌then◌else◌, nat_eq, cond}
+use Rattle.std.proofs.Common.{◌≡◌, ◌≢◌, ℕ, ◌+◌, ◌≤◌, ℤ, pos, ◌+ℤ◌, ◌≤ℤ◌, Bool, true, false, not, ◌&&◌, ◌||◌, List, [], ◌∷◌, ◌++◌, length, map, Option, Some, None, option_map, is_some, refl, sym, ap, ◌∙◌, arith, if◌then◌else◌, nat_eq, cond}
 use Rattle.std.specs.Ordering.{int_eq}
 use Rattle.std.specs.Cmp.{int_eq_equiv}
 use Rattle.std.specs.List.{filter, list_all, range_with_len}
@@ -8,6 +8,7 @@ use Rattle.std.specs.FinMap.{get-empty}
 use Rattle.std.specs.Ordering.{int_cmp}
 use Rattle.std.proofs.lemmas.List.Elements.{filter-append}
 use Rattle.std.proofs.lemmas.Int.{ints}
+use Rattle.std.proofs.lemmas.Bool.Decides.{nat_tests}
 use Rattle.sync_terms.specs.Maps.{Map, nil, put, bump}
 use Rattle.sync_terms.specs.Maps as maps
 use Rattle.sync_machine.specs.declared.fields.Field.{Field}
@@ -137,7 +138,7 @@ all-front p xs t ys = front (list_all p) (λ t u ts. and-swap (p t) (p u) (list_
 
 -- ---- a field, and the state
 
-pub joined-front : (s : Strategy) (xs : List Token) (t : Token) (ys : List Token) (record : Value) (stored : List Token) → joined s (xs ++ t ∷ ys) record stored ≡ joined s (t ∷ (xs ++ ys)) record stored
+pub joined-front : (s : Strategy) (xs : List Token) (t : Token) (ys : List Token) (recorded : Value) (stored : List Token) → joined s (xs ++ t ∷ ys) recorded stored ≡ joined s (t ∷ (xs ++ ys)) recorded stored
 joined-front Variable xs t ys r st = ap (option_map Number) (only_value-front xs t ys)
 joined-front OptionField xs t ys r st = ap (option_map Mapped) (as_map-front xs t ys)
 joined-front MapField xs t ys r st = ap (option_map Mapped) (as_map-front xs t ys)
@@ -153,7 +154,7 @@ joined-front NotTokenized xs t ys r st = refl
 joined-front StorageMap xs t ys r st = refl
 
 -- a token of the field stands in front of its tokens, one of another field does not stand among them
-front-cases : (s : Strategy) (b : Bool) (xs : List Token) (t : Token) (ys : List Token) (record : Value) (stored : List Token) → joined s (xs ++ cond b (t ∷ ys) ys) record stored ≡ joined s (cond b (t ∷ (xs ++ ys)) (xs ++ ys)) record stored
+front-cases : (s : Strategy) (b : Bool) (xs : List Token) (t : Token) (ys : List Token) (recorded : Value) (stored : List Token) → joined s (xs ++ cond b (t ∷ ys) ys) recorded stored ≡ joined s (cond b (t ∷ (xs ++ ys)) (xs ++ ys)) recorded stored
 front-cases s true xs t ys r st = joined-front s xs t ys r st
 front-cases s false xs t ys r st = refl
 
@@ -175,3 +176,8 @@ value_at-other fs t ts kept f e = ap (λ b. joined (strategy_at fs f) (cond b (t
 -- of its own field it stands in front
 pub value_at-own : (fs : List Field) (t : Token) (ts : List Token) (kept : Kept) (f : ℕ) → nat_eq t.field f ≡ true → value_at fs (t ∷ ts) kept f ≡ joined (strategy_at fs f) (t ∷ tokens_of f ts) (record_at kept f) (tokens_of f kept.stored)
 value_at-own fs t ts kept f e = ap (λ b. joined (strategy_at fs f) (cond b (t ∷ tokens_of f ts) (tokens_of f ts)) (record_at kept f) (tokens_of f kept.stored)) e
+
+pub value_at-apart : (fs : List Field) (t : Token) (ts : List Token) (kept : Kept) (f : ℕ) → t.field ≢ f → value_at fs (t ∷ ts) kept f ≡ value_at fs ts kept f
+value_at-apart fs t ts kept f differ = value_at-other fs t ts kept f (differs t.field f differ) where
+  differs : (a b : ℕ) → a ≢ b → nat_eq a b ≡ false
+  differs a b h = grind (arith, nat_tests)

@@ -3,3 +3,4 @@ pub mod Lookups
 pub mod Bags
 pub mod Parts
 pub mod Leaving
+pub mod States

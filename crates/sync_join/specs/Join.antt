@@ -67,34 +67,34 @@ is_value None v = false
 
 -- what a token says stands in the record: its key with its value; its key; an amount that is reached
 abbrev pub is_entry : Value → Token → Bool
-is_entry record t = is_value (finmap.get (entries_of record) t.key) t.value
+is_entry recorded t = is_value (finmap.get (entries_of recorded) t.key) t.value
 
 abbrev pub is_element : Value → Token → Bool
-is_element record t = is_some (finmap.get (entries_of record) t.key)
+is_element recorded t = is_some (finmap.get (entries_of recorded) t.key)
 
 abbrev pub is_reached : Value → Token → Bool
-is_reached record t = int_le t.value (number_of record)
+is_reached recorded t = int_le t.value (number_of recorded)
 
 -- ---- a field, by its strategy, from its tokens, its record and its stored permissions
 
 abbrev pub borne_out : Bool → Value → Option Value
-borne_out true record = Some record
-borne_out false record = None
+borne_out true recorded = Some recorded
+borne_out false recorded = None
 
 abbrev pub joined : Strategy → List Token → Value → List Token → Option Value
-joined Variable ts record stored = option_map Number (only_value ts)
-joined OptionField ts record stored = option_map Mapped (as_map ts)
-joined Map ts record stored = option_map Mapped (as_map ts)
-joined Set ts record stored = option_map Mapped (as_map ts)
-joined Multiset ts record stored = Some (Mapped (counts_of ts))
-joined Count ts record stored = Some (Number (sum_of ts))
-joined PersistentOption ts record stored = borne_out (list_all (is_entry record) ts) record
-joined PersistentMap ts record stored = borne_out (list_all (is_entry record) ts) record
-joined PersistentSet ts record stored = borne_out (list_all (is_element record) ts) record
-joined PersistentCount ts record stored = borne_out (list_all (is_reached record) ts) record
-joined Constant ts record stored = Some record
-joined NotTokenized ts record stored = Some record
-joined StorageMap ts record stored = option_map Mapped (as_map stored)
+joined Variable ts recorded stored = option_map Number (only_value ts)
+joined OptionField ts recorded stored = option_map Mapped (as_map ts)
+joined Map ts recorded stored = option_map Mapped (as_map ts)
+joined Set ts recorded stored = option_map Mapped (as_map ts)
+joined Multiset ts recorded stored = Some (Mapped (counts_of ts))
+joined Count ts recorded stored = Some (Number (sum_of ts))
+joined PersistentOption ts recorded stored = borne_out (list_all (is_entry recorded) ts) recorded
+joined PersistentMap ts recorded stored = borne_out (list_all (is_entry recorded) ts) recorded
+joined PersistentSet ts recorded stored = borne_out (list_all (is_element recorded) ts) recorded
+joined PersistentCount ts recorded stored = borne_out (list_all (is_reached recorded) ts) recorded
+joined Constant ts recorded stored = Some recorded
+joined NotTokenized ts recorded stored = Some recorded
+joined StorageMap ts recorded stored = option_map Mapped (as_map stored)
 
 -- ---- the state
 

@@ -67,13 +67,13 @@ fn value_at(
     rest: &Rest,
     field: u32,
 ) -> Result<Option<Value>, JoinStop>
-    requires record { field < length rest.now.records }
+    requires within { field < length rest.now.records }
     requires narrow { AreNarrow m.now.fields bag.now.tokens }
     ensures value { IfOk result (λ v. option_map value_tree v ≡ shards.value_at m.now.fields bag.now.tokens (kept_of rest.now) field) }
     ensures narrow { result ≡ Err Width → ⊥ }
 {
     let tokens = bag.tokens.as_slice();
-    let record = &rest.records.as_slice()[field as usize];
+    let recorded = &rest.records.as_slice()[field as usize];
     match strategy_at(m.fields.as_slice(), field) {
         Strategy::Variable => Ok(only_value(tokens, field).map(Value::Number)),
         Strategy::Option | Strategy::Map | Strategy::Set => keyed(alloc, tokens, field),
@@ -83,11 +83,11 @@ fn value_at(
             None => Err(JoinStop::Width),
         },
         Strategy::PersistentOption | Strategy::PersistentMap => {
-            borne_out(are_entries(record, tokens, field), record)
+            borne_out(are_entries(recorded, tokens, field), recorded)
         }
-        Strategy::PersistentSet => borne_out(are_elements(record, tokens, field), record),
-        Strategy::PersistentCount => borne_out(are_reached(record, tokens, field), record),
-        Strategy::Constant | Strategy::NotTokenized => Ok(Some(record.copy()?)),
+        Strategy::PersistentSet => borne_out(are_elements(recorded, tokens, field), recorded),
+        Strategy::PersistentCount => borne_out(are_reached(recorded, tokens, field), recorded),
+        Strategy::Constant | Strategy::NotTokenized => Ok(Some(recorded.copy()?)),
         Strategy::StorageMap => keyed(alloc, rest.stored.as_slice(), field),
     }
 }
@@ -101,12 +101,12 @@ fn keyed(alloc: Global, tokens: &[Token], field: u32) -> Result<Option<Value>, J
 }
 
 /// The record, where it bears out every token.
-fn borne_out(is_borne_out: bool, record: &Value) -> Result<Option<Value>, JoinStop>
-    ensures value { IfOk result (λ v. option_map value_tree v ≡ shards.borne_out is_borne_out (value_tree record.now)) }
+fn borne_out(is_borne_out: bool, recorded: &Value) -> Result<Option<Value>, JoinStop>
+    ensures value { IfOk result (λ v. option_map value_tree v ≡ shards.borne_out is_borne_out (value_tree recorded.now)) }
     ensures narrow { result ≡ Err Width → ⊥ }
 {
     if is_borne_out {
-        Ok(Some(record.copy()?))
+        Ok(Some(recorded.copy()?))
     } else {
         Ok(None)
     }

@@ -3,6 +3,7 @@
 
 mod entries;
 mod joining;
+mod laws;
 mod parts;
 mod sums;
 mod tokens;
@@ -10,6 +11,7 @@ mod values;
 
 pub use entries::Entries;
 pub use joining::join;
+pub use laws::{bag_order, other_fields};
 pub use sums::JoinStop;
 pub use tokens::{Bag, PERM, Rest, Token};
 pub use values::{State, Value};

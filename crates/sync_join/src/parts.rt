@@ -61,58 +61,58 @@ pub(crate) fn counts_of(alloc: Global, tokens: &[Token], field: u32) -> Result<E
 }
 
 /// Whether a record has a token's key with its value.
-fn is_entry(record: &Value, token: &Token) -> bool
-    ensures { result ≡ shards.is_entry (value_tree record.now) token.now }
+fn is_entry(recorded: &Value, token: &Token) -> bool
+    ensures { result ≡ shards.is_entry (value_tree recorded.now) token.now }
 {
-    match record {
+    match recorded {
         Value::Map(entries) => entries.get(token.key) == Some(token.value),
         Value::Number(_) => false,
     }
 }
 
 /// Whether a record has a token's key.
-fn is_element(record: &Value, token: &Token) -> bool
-    ensures { result ≡ shards.is_element (value_tree record.now) token.now }
+fn is_element(recorded: &Value, token: &Token) -> bool
+    ensures { result ≡ shards.is_element (value_tree recorded.now) token.now }
 {
-    match record {
+    match recorded {
         Value::Map(entries) => entries.get(token.key).is_some(),
         Value::Number(_) => false,
     }
 }
 
 /// Whether a record has reached a token's amount.
-fn is_reached(record: &Value, token: &Token) -> bool
-    ensures { result ≡ shards.is_reached (value_tree record.now) token.now }
+fn is_reached(recorded: &Value, token: &Token) -> bool
+    ensures { result ≡ shards.is_reached (value_tree recorded.now) token.now }
 {
-    match record {
+    match recorded {
         Value::Number(mark) => token.value <= *mark,
         Value::Map(_) => token.value <= 0,
     }
 }
 
 /// Whether a record has the key and value of each token of a field.
-pub(crate) fn are_entries(record: &Value, tokens: &[Token], field: u32) -> bool
-    ensures { result ≡ list_all (shards.is_entry (value_tree record.now)) (shards.tokens_of field tokens.now) }
+pub(crate) fn are_entries(recorded: &Value, tokens: &[Token], field: u32) -> bool
+    ensures { result ≡ list_all (shards.is_entry (value_tree recorded.now)) (shards.tokens_of field tokens.now) }
 {
     tokens
         .iter()
-        .all(|token| token.field != field || is_entry(record, token))
+        .all(|token| token.field != field || is_entry(recorded, token))
 }
 
 /// Whether a record has the key of each token of a field.
-pub(crate) fn are_elements(record: &Value, tokens: &[Token], field: u32) -> bool
-    ensures { result ≡ list_all (shards.is_element (value_tree record.now)) (shards.tokens_of field tokens.now) }
+pub(crate) fn are_elements(recorded: &Value, tokens: &[Token], field: u32) -> bool
+    ensures { result ≡ list_all (shards.is_element (value_tree recorded.now)) (shards.tokens_of field tokens.now) }
 {
     tokens
         .iter()
-        .all(|token| token.field != field || is_element(record, token))
+        .all(|token| token.field != field || is_element(recorded, token))
 }
 
 /// Whether a record has reached the amount of each token of a field.
-pub(crate) fn are_reached(record: &Value, tokens: &[Token], field: u32) -> bool
-    ensures { result ≡ list_all (shards.is_reached (value_tree record.now)) (shards.tokens_of field tokens.now) }
+pub(crate) fn are_reached(recorded: &Value, tokens: &[Token], field: u32) -> bool
+    ensures { result ≡ list_all (shards.is_reached (value_tree recorded.now)) (shards.tokens_of field tokens.now) }
 {
     tokens
         .iter()
-        .all(|token| token.field != field || is_reached(record, token))
+        .all(|token| token.field != field || is_reached(recorded, token))
 }

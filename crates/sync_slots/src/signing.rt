@@ -38,7 +38,7 @@ fn add_variables(list: &mut Vec<Slot>, m: &Machine, steps: &[Step]) -> Result<()
     ensures own { OnOk result (HaveSlotIds m.now.terms list.old.items → HaveSlotIds m.now.terms list.new.items) }
 {
     for f in 0..m.fields.len() {
-        let field = u32::try_from(f).map_err(|_| NoMemory)?;
+        let field = number(f)?;
         if let Some(slot) = field_slot(m, steps, field) {
             list.push(slot)?;
         }
@@ -58,4 +58,11 @@ fn add_statements(list: &mut Vec<Slot>, m: &Machine, steps: &[Step]) -> Result<(
         }
     }
     Ok(())
+}
+
+/// A place in a list as a number of 32 bits.
+fn number(place: usize) -> Result<u32, NoMemory>
+    ensures { IfOk result (λ n. n ≡ place) }
+{
+    u32::try_from(place).map_err(|_| NoMemory)
 }

@@ -1,13 +1,12 @@
 //! Slots, and what happens in them.
+ghost use Rattle.std.specs.Prelude.{◌≡◌};
+ghost use Rattle.sync_terms.specs.Stored.{Stored, IsTerm, tree};
+ghost use Rattle.sync_machine.specs.Views.{place_tree, HasPlaceIds};
+ghost use Rattle.sync_slots.specs.Slots.{place_slot, value_slot, read_slot};
+ghost use Rattle.sync_slots.specs.Views.{slot_tree, HasSlotIds};
+
 use sync_machine::{Pattern, Place};
 use sync_terms::TermId;
-
-ghost use Rattle.std.specs.Prelude.{◌≡◌};
-ghost use Rattle.sync_terms.specs.Stored.{Stored};
-ghost use Rattle.sync_machine.specs.Views.{place_tree};
-ghost use Rattle.sync_terms.specs.Stored.{tree};
-ghost use Rattle.sync_slots.specs.Slots.{place_slot, value_slot, read_slot};
-ghost use Rattle.sync_slots.specs.Views.{slot_tree};
 
 /// What happens to a token, or to a stored object.
 #[derive(Clone, Copy, PartialEq, Eq, Hash, Debug)]
@@ -44,7 +43,8 @@ pub struct Slot {
 impl Slot {
     /// The slot of a statement with a place.
     pub(crate) fn of_place(role: Role, field: u32, place: Place, line: u32) -> Slot
-        ensures { (s : Stored) → slot_tree s result ≡ place_slot role field (place_tree s place) line }
+        ensures tree { (s : Stored) → slot_tree s result ≡ place_slot role field (place_tree s place) line }
+    ensures ids { (s : Stored) → HasPlaceIds s place → HasSlotIds s result }
     {
         Slot {
             role,
@@ -57,7 +57,8 @@ impl Slot {
 
     /// The slot of a statement that writes a value alone.
     pub(crate) fn of_value(role: Role, field: u32, value: TermId, line: u32) -> Slot
-        ensures { (s : Stored) → slot_tree s result ≡ value_slot role field (tree s value) line }
+        ensures tree { (s : Stored) → slot_tree s result ≡ value_slot role field (tree s value) line }
+    ensures ids { (s : Stored) → IsTerm s value → HasSlotIds s result }
     {
         Slot {
             role,
@@ -70,7 +71,8 @@ impl Slot {
 
     /// The slot of a variable that is only read.
     pub(crate) fn of_read(field: u32, line: u32) -> Slot
-        ensures { (s : Stored) → slot_tree s result ≡ read_slot field line }
+        ensures tree { (s : Stored) → slot_tree s result ≡ read_slot field line }
+    ensures ids { (s : Stored) → HasSlotIds s result }
     {
         Slot {
             role: Role::Read,

@@ -1,7 +1,7 @@
 //! The slots of variables.
 ghost use Rattle.std.specs.Prelude.{◌≡◌, option_map, IfSome};
 ghost use Rattle.std.specs.List.{AllByRecursion};
-ghost use Rattle.sync_terms.specs.Stored.{Stored, IsTerm, tree};
+ghost use Rattle.sync_terms.specs.Stored.{IsTerm, tree};
 ghost use Rattle.sync_machine.specs.Views.{act_tree, step_tree, steps_tree, HasActIds};
 ghost use Rattle.sync_machine.specs.declared.machine.Step.{Step as Statement};
 ghost use Rattle.sync_slots.specs.Slots as slots;
@@ -14,9 +14,10 @@ use sync_terms::TermId;
 
 /// The first value that a statement gives a field.
 #[tactic(auto, unfolding(crate::specs::Slots::started_at))]
-fn started_at(field: u32, act: &Act) -> Option<TermId>
-    ensures exact { (s : Stored) → option_map (tree s) result ≡ slots.started_at field (act_tree s act.now) }
-    ensures ids { (s : Stored) → HasActIds s act.now → IfSome result (IsTerm s) }
+fn started_at(m: &Machine, field: u32, act: &Act) -> Option<TermId>
+    requires { HasActIds m.now.terms act.now }
+    ensures exact { option_map (tree m.now.terms) result ≡ slots.started_at field (act_tree m.now.terms act.now) }
+    ensures ids { IfSome result (IsTerm m.now.terms) }
 {
     match *act {
         Act::Init(f, term) if f == field => Some(term),
@@ -26,9 +27,10 @@ fn started_at(field: u32, act: &Act) -> Option<TermId>
 
 /// The new value that a statement gives a field.
 #[tactic(auto, unfolding(crate::specs::Slots::updated_to))]
-fn updated_to(field: u32, act: &Act) -> Option<TermId>
-    ensures exact { (s : Stored) → option_map (tree s) result ≡ slots.updated_to field (act_tree s act.now) }
-    ensures ids { (s : Stored) → HasActIds s act.now → IfSome result (IsTerm s) }
+fn updated_to(m: &Machine, field: u32, act: &Act) -> Option<TermId>
+    requires { HasActIds m.now.terms act.now }
+    ensures exact { option_map (tree m.now.terms) result ≡ slots.updated_to field (act_tree m.now.terms act.now) }
+    ensures ids { IfSome result (IsTerm m.now.terms) }
 {
     match *act {
         Act::Update(f, term) if f == field => Some(term),
@@ -43,7 +45,7 @@ fn first_given(m: &Machine, steps: &[Step], variable: u32) -> Option<Slot>
     ensures ids { IfSome result (HasSlotIds m.now.terms) }
 {
     for step in steps {
-        if let Some(value) = started_at(variable, &step.act) {
+        if let Some(value) = started_at(m, variable, &step.act) {
             return Some(Slot::of_value(Role::Given, variable, value, step.line));
         }
     }
@@ -57,7 +59,7 @@ fn first_changed(m: &Machine, steps: &[Step], variable: u32) -> Option<Slot>
     ensures ids { IfSome result (HasSlotIds m.now.terms) }
 {
     for step in steps {
-        if let Some(value) = updated_to(variable, &step.act) {
+        if let Some(value) = updated_to(m, variable, &step.act) {
             return Some(Slot::of_value(Role::Change, variable, value, step.line));
         }
     }
