@@ -40,7 +40,7 @@ either-some false v o = refl
 
 -- the keys of the map are those of the tokens
 pub has_key-map_of : (k : ℤ) (ts : List Token) → has_key k ts ≡ is_some (finmap.get (map_of ts) k)
-has_key-map_of k [] = sym (ap is_some (get-empty int_cmp k))
+has_key-map_of k [] = let none : finmap.get nil k ≡ None = get-empty int_cmp k in sym (ap is_some none)
 has_key-map_of k (t ∷ ts) =
     ap (λ b. int_eq k t.key || b) (has_key-map_of k ts)
     ∙ sym (either-some (int_eq k t.key) t.value (finmap.get (map_of ts) k))

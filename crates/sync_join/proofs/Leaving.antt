@@ -15,9 +15,15 @@ use Rattle.sync_join.proofs.Bags.{unless, with_token, as_map-cons, counts_natura
 
 -- ---- variables
 
+same_some : {X : Type 0} (x y : X) → Some x ≡ Some y → x ≡ y
+same_some x y e = ap (λ o. unwrap_or o x) e
+
+none_not_some : {X : Type 0} (x : X) → None ≡ Some x → ⊥
+none_not_some x e = cc
+
 pub only_value-out : (t : Token) (ts : List Token) (v : ℤ) → only_value (t ∷ ts) ≡ Some v → (ts ≡ []) × (t.value ≡ v)
-only_value-out t [] v e = (refl, cc)
-only_value-out t (u ∷ ts) v e = absurd (cc)
+only_value-out t [] v e = (refl, same_some t.value v e)
+only_value-out t (u ∷ ts) v e = absurd (none_not_some v e)
 
 -- ---- maps
 
@@ -47,15 +53,15 @@ abbrev pub GoesOut : Token → Option Map → Map → Type 0
 GoesOut t others m = (finmap.get m t.key ≡ Some t.value) × (others ≡ Some (del m t.key))
 
 out_of : (t : Token) (n m : Map) (b : Bool) → is_some (finmap.get n t.key) ≡ b → unless b (put n t.key t.value) ≡ Some m → GoesOut t (Some n) m
-out_of t n m true there e = absurd (cc)
+out_of t n m true there e = absurd (none_not_some m e)
 out_of t n m false there e =
-    let is : put n t.key t.value ≡ m = cc in
+    let is : put n t.key t.value ≡ m = same_some (put n t.key t.value) m e in
     let free : finmap.get n t.key ≡ None = nothing (finmap.get n t.key) there in
     ( ap (λ w. finmap.get w t.key) (sym is) ∙ get-put_same n t.key t.value
     , ap Some (sym (ap (λ w. del w t.key) (sym is) ∙ del-put n t.key t.value free)) )
 
 out_cases : (t : Token) (o : Option Map) (m : Map) → with_token t o ≡ Some m → GoesOut t o m
-out_cases t None m e = absurd (cc)
+out_cases t None m e = absurd (none_not_some m e)
 out_cases t (Some n) m e = out_of t n m (is_some (finmap.get n t.key)) refl e
 
 pub as_map-out : (t : Token) (ts : List Token) (m : Map) → as_map (t ∷ ts) ≡ Some m → GoesOut t (as_map ts) m
@@ -91,14 +97,14 @@ AreCounted m = (q n : ℤ) → finmap.get m q ≡ Some n → pos 0 <ℤ n
 
 counted_either : (b : Bool) (n w : ℤ) (o : Option ℤ) → pos 0 ≤ℤ n → (o ≡ Some w → pos 0 <ℤ w) → (if b then Some (n +ℤ pos 1) else o) ≡ Some w → pos 0 <ℤ w
 counted_either true n w o h k e =
-    let is : n +ℤ pos 1 ≡ w = cc in
-    subst (λ x. pos 0 <ℤ x) is (more n h) where
+    let is : n +ℤ pos 1 ≡ w = same_some (n +ℤ pos 1) w e in
+    subst (λ (x : ℤ). pos 0 <ℤ x) is (more n h) where
   more : (n : ℤ) → pos 0 ≤ℤ n → pos 0 <ℤ (n +ℤ pos 1)
   more n h = omega (arith, ints)
 counted_either false n w o h k e = k e
 
 pub are_counted : (ts : List Token) → AreCounted (counts_of ts)
-are_counted [] q n e = absurd (let none : finmap.get nil q ≡ None = get-empty int_cmp q in cc)
+are_counted [] q n e = let none : finmap.get nil q ≡ None = get-empty int_cmp q in absurd (none_not_some n (sym none ∙ e))
 are_counted (t ∷ ts) q n e =
     counted_either (int_eq q t.key) (maps.get (counts_of ts) t.key) n (finmap.get (counts_of ts) q) (counts_natural ts t.key) (are_counted ts q n)
       (sym (ap (λ m. finmap.get m q) (bump-put (counts_of ts) t.key (counts_natural ts t.key)) ∙ get-put (counts_of ts) t.key (maps.get (counts_of ts) t.key +ℤ pos 1) q) ∙ e)

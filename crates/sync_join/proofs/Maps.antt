@@ -40,13 +40,16 @@ abbrev pub AreNatural : Map → Type 0
 AreNatural m = (q : ℤ) → pos 0 ≤ℤ maps.get m q
 
 pub natural-nil : AreNatural nil
-natural-nil q = subst (λ o. pos 0 ≤ℤ unwrap_or o (pos 0)) (sym (get-empty int_cmp q)) (omega (arith, ints))
+natural-nil q = let none : finmap.get nil q ≡ None = get-empty int_cmp q in subst (λ (o : Option ℤ). pos 0 ≤ℤ unwrap_or o (pos 0)) (sym none) (omega (arith, ints))
 
 pub value-nil : (q : ℤ) → maps.get nil q ≤ℤ pos 0
-value-nil q = subst (λ o. unwrap_or o (pos 0) ≤ℤ pos 0) (sym (get-empty int_cmp q)) (omega (arith, ints))
+value-nil q = let none : finmap.get nil q ≡ None = get-empty int_cmp q in subst (λ (o : Option ℤ). unwrap_or o (pos 0) ≤ℤ pos 0) (sym none) (omega (arith, ints))
+
+above : (n : ℤ) → pos 0 <ℤ n → int_lt (pos 0) n ≡ true
+above n h = grind (arith, ints)
 
 more_than_nothing : (n : ℤ) → pos 0 ≤ℤ n → int_lt (pos 0) (n +ℤ pos 1) ≡ true
-more_than_nothing n h = grind (arith, ints)
+more_than_nothing n h = above (n +ℤ pos 1) (omega (arith, ints))
 
 if-true : {X : Type 0} (b : Bool) (x y : X) → b ≡ true → (if b then x else y) ≡ x
 if-true true x y e = refl
@@ -71,7 +74,7 @@ value-bump m k q h = ap (λ n. maps.get n q) (bump-put m k h) ∙ value-put m k 
 
 pub natural-bump : (m : Map) (k : ℤ) → AreNatural m → AreNatural (bump m k (pos 1))
 natural-bump m k h q =
-    subst (λ n. pos 0 ≤ℤ n) (sym (value-bump m k q (h k)))
+    subst (λ (n : ℤ). pos 0 ≤ℤ n) (sym (value-bump m k q (h k)))
       (natural_either (int_eq q k) (maps.get m k) (maps.get m q) (h k) (h q))
 
 -- what stands at another key stays
@@ -93,6 +96,6 @@ bump_apart m a b h differ =
 pub bump-bump : (m : Map) (a b : ℤ) → AreNatural m → bump (bump m a (pos 1)) b (pos 1) ≡ bump (bump m b (pos 1)) a (pos 1)
 bump-bump m a b h =
     elim (int_eq a b) as (λ r. int_eq a b ≡ r → bump (bump m a (pos 1)) b (pos 1) ≡ bump (bump m b (pos 1)) a (pos 1)) [
-      | true ↦ λ e. subst (λ c. bump (bump m a (pos 1)) c (pos 1) ≡ bump (bump m c (pos 1)) a (pos 1)) (equal a b e) refl
+      | true ↦ λ e. subst (λ (c : ℤ). bump (bump m a (pos 1)) c (pos 1) ≡ bump (bump m c (pos 1)) a (pos 1)) (equal a b e) refl
       | false ↦ λ e. bump_apart m a b h e
     ] refl

@@ -30,10 +30,10 @@ cond-false false x y e = refl
 -- ---- from a place on
 
 pub own-drop : (f i : ℕ) (xs : List Token) (d : Token) → i < length xs → nat_eq (get_or xs i d).field f ≡ true → tokens_of f (drop i xs) ≡ get_or xs i d ∷ tokens_of f (drop (i + 1) xs)
-own-drop f i xs d h e = at_drop_more (tokens_of f) xs i d h ∙ cond-true _ _ _ e
+own-drop f i xs d h e = at_drop_more (tokens_of f) xs i d h ∙ cond-true (nat_eq (get_or xs i d).field f) (get_or xs i d ∷ tokens_of f (drop (i + 1) xs)) (tokens_of f (drop (i + 1) xs)) e
 
 pub other-drop : (f i : ℕ) (xs : List Token) (d : Token) → i < length xs → nat_eq (get_or xs i d).field f ≡ false → tokens_of f (drop i xs) ≡ tokens_of f (drop (i + 1) xs)
-other-drop f i xs d h e = at_drop_more (tokens_of f) xs i d h ∙ cond-false _ _ _ e
+other-drop f i xs d h e = at_drop_more (tokens_of f) xs i d h ∙ cond-false (nat_eq (get_or xs i d).field f) (get_or xs i d ∷ tokens_of f (drop (i + 1) xs)) (tokens_of f (drop (i + 1) xs)) e
 
 pub none-drop : (f i : ℕ) (xs : List Token) → length xs ≤ i → tokens_of f (drop i xs) ≡ []
 none-drop f i xs h = at_drop_all (tokens_of f) xs i h
@@ -43,12 +43,12 @@ none-drop f i xs h = at_drop_all (tokens_of f) xs i h
 pub own-take : (f i : ℕ) (xs : List Token) (d : Token) → i < length xs → nat_eq (get_or xs i d).field f ≡ true → tokens_of f (take (i + 1) xs) ≡ tokens_of f (take i xs) ++ get_or xs i d ∷ []
 own-take f i xs d h e =
     ap (tokens_of f) (take_more xs i d h) ∙ filter-append (λ (t : Token). nat_eq t.field f) (take i xs) (get_or xs i d ∷ [])
-    ∙ ap (λ ts. tokens_of f (take i xs) ++ ts) (cond-true _ _ _ e)
+    ∙ ap (λ ts. tokens_of f (take i xs) ++ ts) (cond-true (nat_eq (get_or xs i d).field f) (get_or xs i d ∷ []) [] e)
 
 pub other-take : (f i : ℕ) (xs : List Token) (d : Token) → i < length xs → nat_eq (get_or xs i d).field f ≡ false → tokens_of f (take (i + 1) xs) ≡ tokens_of f (take i xs)
 other-take f i xs d h e =
     ap (tokens_of f) (take_more xs i d h) ∙ filter-append (λ (t : Token). nat_eq t.field f) (take i xs) (get_or xs i d ∷ [])
-    ∙ ap (λ ts. tokens_of f (take i xs) ++ ts) (cond-false _ _ _ e)
+    ∙ ap (λ ts. tokens_of f (take i xs) ++ ts) (cond-false (nat_eq (get_or xs i d).field f) (get_or xs i d ∷ []) [] e)
     ∙ append-nothing (tokens_of f (take i xs))
 
 pub all-take : (f i : ℕ) (xs : List Token) → length xs ≤ i → tokens_of f (take i xs) ≡ tokens_of f xs
@@ -111,7 +111,7 @@ either_bounded false x y n h k = omega (arith, ints)
 pub counts_bounded : (ts : List Token) (q : ℤ) → maps.get (counts_of ts) q ≤ℤ pos (length ts)
 counts_bounded [] q = value-nil q
 counts_bounded (t ∷ ts) q =
-    subst (λ n. n ≤ℤ pos (suc (length ts))) (sym (value-bump (counts_of ts) t.key q (counts_natural ts t.key)))
+    subst (λ (n : ℤ). n ≤ℤ pos (suc (length ts))) (sym (value-bump (counts_of ts) t.key q (counts_natural ts t.key)))
       (either_bounded (int_eq q t.key) (maps.get (counts_of ts) t.key) (maps.get (counts_of ts) q) (length ts) (counts_bounded ts t.key) (counts_bounded ts q))
 
 -- ---- tests

@@ -1,5 +1,5 @@
 -- A value of each field, and so a state.
-use Rattle.std.proofs.Common.{◌≡◌, ℕ, zero, suc, ◌+◌, ◌<◌, ◌≤◌, List, [], ◌∷◌, ◌++◌, length, map, get_or, Option, Some, None, option_map, refl, sym, ap, ◌∙◌, arith}
+use Rattle.std.proofs.Common.{◌≡◌, ℕ, zero, suc, ◌+◌, ◌<◌, ◌≤◌, List, [], ◌∷◌, ◌++◌, length, map, get_or, Option, Some, None, option_map, unwrap_or, refl, sym, ap, ◌∙◌, arith}
 use Rattle.std.specs.List.{range_with_len}
 use Rattle.std.proofs.lemmas.List.{map_push}
 use Rattle.std.proofs.lemmas.List.FromFn.{length-map-range_with_len, get_or-map-range_with_len, map-range_with_len_more}
@@ -9,19 +9,25 @@ use Rattle.sync_join.specs.declared.tokens.Token.{Token}
 use Rattle.sync_join.specs.Shards.{Kept}
 use Rattle.sync_join.specs.Join.{value_at, all_of, join_of}
 
+same_some : {X : Type 0} (x y : X) → Some x ≡ Some y → x ≡ y
+same_some x y e = ap (λ o. unwrap_or o x) e
+
+none_not_some : {X : Type 0} (x : X) → None ≡ Some x → ⊥
+none_not_some x e = cc
+
 module _ {A : Type 0} where
   pub all_of-some : (ys : List A) → all_of (map Some ys) ≡ Some ys
   all_of-some [] = refl
   all_of-some (y ∷ ys) = ap (option_map (λ zs. y ∷ zs)) (all_of-some ys)
 
   onto : (x : A) (o : Option (List A)) (ys : List A) → option_map (λ zs. x ∷ zs) o ≡ Some ys → (zs : List A) × (o ≡ Some zs) × (ys ≡ x ∷ zs)
-  onto x None ys e = absurd (cc)
-  onto x (Some zs) ys e = (zs, refl, cc)
+  onto x None ys e = absurd (none_not_some ys e)
+  onto x (Some zs) ys e = (zs, refl, sym (same_some (x ∷ zs) ys e))
 
   -- where there is a list of all, each is there
   pub some-all_of : (xs : List (Option A)) (ys : List A) → all_of xs ≡ Some ys → xs ≡ map Some ys
-  some-all_of [] ys e = let is : [] ≡ ys = cc in ap (map Some) is
-  some-all_of (None ∷ xs) ys e = absurd (cc)
+  some-all_of [] ys e = ap (map Some) (same_some [] ys e)
+  some-all_of (None ∷ xs) ys e = absurd (none_not_some ys e)
   some-all_of (Some x ∷ xs) ys e =
       let rest = onto x (all_of xs) ys e in
       ap (λ zs. Some x ∷ zs) (some-all_of xs rest.0 rest.1) ∙ sym (ap (map Some) rest.2)
@@ -30,7 +36,7 @@ module _ {A : Type 0} where
   pub all_of-none : (xs : List (Option A)) (i : ℕ) (d : Option A) → i < length xs → get_or xs i d ≡ None → all_of xs ≡ None
   all_of-none [] i d h e = absurd (omega arith)
   all_of-none (None ∷ xs) i d h e = refl
-  all_of-none (Some x ∷ xs) zero d h e = absurd (cc)
+  all_of-none (Some x ∷ xs) zero d h e = absurd (none_not_some x (sym e))
   all_of-none (Some x ∷ xs) (suc i) d h e = ap (option_map (λ ys. x ∷ ys)) (all_of-none xs i d (omega arith) e)
 
 -- a state is joined exactly where it has each field's value

@@ -16,7 +16,7 @@ loop-f-preserved c =
     let start = slots_tree s c.args.list.now.items in
     let before = range_with_len 0 f in
     let on = λ (e : slots_tree s c.match-field_slot.list.items ≡ start ++ filter_map g (before ++ f ∷ [])). e ∙ ap (λ ys. start ++ filter_map g ys) (sym (range_more f)) in
-    let number : g f ≡ option_map (slot_tree s) c.field_slot.result = ap g (sym c.in_ok-number.ensures) ∙ sym c.field_slot.ensures.exact in
+    let number : g f ≡ option_map (slot_tree s) c.field_slot.result = ap g (sym c.in_ok-field.ensures) ∙ sym c.field_slot.ensures.exact in
     elim c.match-field_slot.branch [
       | in-Some+in_ok-push w ↦
           (let pushed : c.match-field_slot.list.items ≡ c.loop-f.list.items ++ w.in-Some.slot ∷ [] = ap (λ v. v.items) w.list-is ∙ w.in_ok-push.ensures.items in

@@ -14,3 +14,6 @@ loop-step-preserved c =
     let step = get_or c.args.steps.now c.loop-step.step-index d in
     let none : read_by c.args.m.now.fields x (step_tree s step) ≡ None = ap (λ b. only_if b (read_slot x step.line)) (sym c.needs.ensures ∙ c.if-needs.false) in
     earliest-more (read_by c.args.m.now.fields x) (step_tree s) c.args.steps.now c.loop-step.step-index d _ c.loop-step-test.true none c.loop-step.invariant
+
+pub returns-then-needs-clause-ids : goal.returns-then-needs-clause-ids
+returns-then-needs-clause-ids c = c.of_read.ensures.ids c.args.m.now.terms
