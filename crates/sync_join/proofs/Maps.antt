@@ -20,9 +20,9 @@ equal a b e = (Decides-int_eq a b).0 e
 
 -- tests of two keys that differ are not both true
 apart : {X : Type 0} (a b : Bool) (x y z : X) → (a ≡ true → b ≡ true → ⊥) → (if a then x else (if b then y else z)) ≡ (if b then y else (if a then x else z))
-apart true true x y z no = absurd (no refl refl)
-apart true false x y z no = refl
-apart false b x y z no = refl
+apart true true x y z h = absurd (h refl refl)
+apart true false x y z h = refl
+apart false b x y z h = refl
 
 pub put-put : (m : Map) (a v b w : ℤ) → int_eq a b ≡ false → put (put m a v) b w ≡ put (put m b w) a v
 put-put m a v b w differ =

@@ -1,8 +1,9 @@
 -- The state of which a bag of tokens and what is kept beside them are the shards: one line for each strategy.
 --
 -- Permissions are of no field, so they are passed over.
-use Rattle.std.specs.Prelude.{ℕ, ℤ, pos, ◌+ℤ◌, List, [], ◌∷◌, length, map, slice_index_or, Bool, true, false, not, ◌&&◌, nat_eq, int_eq, int_le, is_some, if◌then◌else◌, Option, Some, None, option_map}
+use Rattle.std.specs.Prelude.{ℕ, ℤ, pos, ◌+ℤ◌, List, [], ◌∷◌, length, map, slice_index_or, Bool, true, false, not, ◌&&◌, nat_eq, int_le, is_some, if◌then◌else◌, Option, Some, None, option_map}
 use Rattle.std.specs.List.{filter, list_any, list_all, range_with_len}
+use Rattle.std.specs.Ordering.{int_eq}
 use Rattle.std.specs.FinMap as finmap
 use Rattle.sync_terms.specs.Maps as maps
 use Rattle.sync_machine.specs.declared.fields.Field.{Field}

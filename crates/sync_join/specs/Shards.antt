@@ -6,7 +6,10 @@ use Rattle.sync_machine.specs.declared.fields.Strategy.{Strategy}
 use Rattle.sync_machine.specs.declared.fields.Strategy.TheVariants.{Variable, Constant, NotTokenized, Option as OptionField, Map, Set, Multiset, Count, PersistentOption, PersistentMap, PersistentSet, PersistentCount, StorageMap}
 use Rattle.sync_machine.specs.States.{Value, Number, Mapped, Sort, Numbers, Maps, sort_of, strategy_at}
 use Rattle.sync_join.specs.declared.tokens.Token.{Token}
-use Rattle.sync_join.specs.declared.TheConstants.{PERM}
+
+-- the field of a permission
+abbrev pub perm : ℕ
+perm = 4294967295
 
 -- a record for each field, and the stored permissions, each with its storage field
 pub record Kept : Type 0 where
@@ -69,7 +72,7 @@ pub record IsTokenOf (s : Strategy) (t : Token) : Type 0 where
 
 -- a permission, or a token of a declared field
 abbrev pub IsToken : List Field → Token → Type 0
-IsToken fs t = (t.field ≡ PERM) ⊎ ((t.field < length fs) × IsTokenOf (strategy_at fs t.field) t)
+IsToken fs t = (t.field ≡ perm) ⊎ ((t.field < length fs) × IsTokenOf (strategy_at fs t.field) t)
 
 abbrev pub IsOf : Sort → Value → Type 0
 IsOf Numbers (Number n) = Unit {0}

@@ -1,8 +1,8 @@
 //! What the tokens of one field make together, strategy by strategy.
 ghost use Rattle.std.specs.Prelude.{◌≡◌, IfOk};
 ghost use Rattle.std.specs.List.{list_all};
-ghost use Rattle.sync_shards.specs.Join as shards;
-ghost use Rattle.sync_shards.specs.Views.{value_tree};
+ghost use Rattle.sync_join.specs.Join as shards;
+ghost use Rattle.sync_join.specs.Views.{value_tree};
 
 use crate::entries::Entries;
 use crate::tokens::Token;

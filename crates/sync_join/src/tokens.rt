@@ -1,4 +1,7 @@
 //! Tokens, bags of them, and what is kept beside the tokens.
+ghost use Rattle.std.specs.Prelude.{◌≡◌, nat_eq};
+ghost use Rattle.sync_join.specs.Shards.{perm};
+
 use crate::values::Value;
 use sqlite_items::Items;
 
@@ -14,6 +17,15 @@ pub struct Token {
     pub field: u32,
     pub key: i128,
     pub value: i128,
+}
+
+impl Token {
+    /// Whether this is a permission of a cell.
+    pub fn is_permission(self) -> bool
+        ensures { result ≡ nat_eq self.field perm }
+    {
+        self.field == PERM
+    }
 }
 
 /// A bag of tokens, in some order.

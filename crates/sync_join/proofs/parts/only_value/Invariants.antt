@@ -1,6 +1,6 @@
 use Rattle.std.proofs.Common.{◌≡◌, drop}
 use Rattle.sync_join.specs.Join.{tokens_of, only_value}
-use Rattle.sync_join.proofs.Parts.{only_behind}
+use Rattle.sync_join.proofs.Through.{only_behind}
 use Rattle.sync_join.proofs.parts.only_value.Given as goal
 
 abbrev pub invariant-loop-token : goal.invariant-loop-token
