@@ -1,11 +1,12 @@
 -- A map as the code has it, a list of entries, and as a finite map.
-use Rattle.std.proofs.Common.{◌≡◌, ℤ, Bool, true, false, cond, List, [], ◌∷◌, Option, Some, None, refl, sym, ap, ◌∙◌}
+use Rattle.std.proofs.Common.{◌≡◌, ℤ, Bool, true, false, cond, List, [], ◌∷◌, Option, Some, None, is_some, refl, sym, ap, ◌∙◌}
 use Rattle.std.specs.Ordering.{int_cmp, int_eq, is_eq}
 use Rattle.std.specs.Cmp.{int_cmp_total, int_eq_equiv}
-use Rattle.std.specs.FinMap.{FinMap, from_entries, find, get-from_entries, get-insert, get-remove}
+use Rattle.std.specs.FinMap.{FinMap, from_entries, find, get-from_entries, get-insert, get-remove, get-empty}
 use Rattle.std.specs.FinMap as finmap
 use Rattle.std.specs.Map.{lookup}
-use Rattle.sync_terms.specs.Maps.{Map, put, del}
+use Rattle.sync_terms.specs.Maps.{Map, nil, put, del}
+use Rattle.sync_join.specs.Join.{is_value}
 use Rattle.sync_join.proofs.Maps.{same}
 
 abbrev pub map_in : List (ℤ × ℤ) → Map
@@ -33,3 +34,10 @@ map_in-del es ns k is = same _ _ (λ q.
     ∙ ap (λ o. cond (int_eq k q) None o) (sym (get-map_in es q))
     ∙ ap (λ b. cond b None (finmap.get (map_in es) q)) (int_eq_equiv.symm k q)
     ∙ sym (get-remove int_cmp_total (map_in es) k q))
+
+-- nothing is in the empty map
+pub nil-entry : (k v : ℤ) → is_value (finmap.get nil k) v ≡ false
+nil-entry k v = let none : finmap.get nil k ≡ None = get-empty int_cmp k in ap (λ o. is_value o v) none
+
+pub nil-element : (k : ℤ) → is_some (finmap.get nil k) ≡ false
+nil-element k = let none : finmap.get nil k ≡ None = get-empty int_cmp k in ap is_some none

@@ -51,7 +51,7 @@ pub no-state : (fs : List Field) (bag : List Token) (kept : Kept) (f : ℕ) → 
 no-state fs bag kept f h e =
     let xs = map (value_at fs bag kept) (range_with_len 0 (length fs)) in
     let long : length xs ≡ length fs = length-map-range_with_len (value_at fs bag kept) 0 (length fs) in
-    all_of-none xs f None (omega arith) (get_or-map-range_with_len (value_at fs bag kept) 0 (length fs) f f None h refl ∙ e)
+    all_of-none xs f None (omega arith) (get_or-map-range_with_len (value_at fs bag kept) 0 (length fs) f f None h (omega arith) ∙ e)
 
 -- one more field's value
 pub values-more : (fs : List Field) (bag : List Token) (kept : Kept) (f : ℕ) (s : State) (v : Value) → map (value_at fs bag kept) (range_with_len 0 f) ≡ map Some s → value_at fs bag kept f ≡ Some v → map (value_at fs bag kept) (range_with_len 0 (f + 1)) ≡ map Some (s ++ v ∷ [])
