@@ -1,11 +1,13 @@
 -- A field's tokens, one after another through a bag, and what they make together so far.
-use Rattle.std.proofs.Common.{◌≡◌, ℕ, suc, ◌+◌, ◌<◌, ◌≤◌, ℤ, pos, ◌+ℤ◌, ◌≤ℤ◌, Bool, true, false, not, ◌&&◌, ◌||◌, List, [], ◌∷◌, ◌++◌, length, take, drop, get_or, Option, Some, None, is_some, refl, sym, ap, subst, ◌∙◌, arith, cond, nat_eq, if◌then◌else◌}
+use Rattle.std.proofs.Common.{◌≡◌, ℕ, zero, suc, FitsSigned, ◌+◌, ◌<◌, ◌≤◌, ℤ, pos, ◌+ℤ◌, ◌≤ℤ◌, Bool, true, false, not, ◌&&◌, ◌||◌, List, [], ◌∷◌, ◌++◌, length, take, drop, get_or, Option, Some, None, is_some, refl, sym, ap, subst, ◌∙◌, arith, cond, nat_eq, if◌then◌else◌}
 use Rattle.std.specs.List.{filter, list_all}
 use Rattle.std.specs.Ordering.{int_eq}
 use Rattle.std.specs.FinMap as finmap
 use Rattle.std.proofs.lemmas.List.{at_drop_more, at_drop_all, take_more, take_all, take-append-drop}
 use Rattle.std.proofs.lemmas.List.Elements.{filter-append}
 use Rattle.std.proofs.lemmas.Int.{ints}
+use Rattle.std.proofs.lemmas.Bool.Decides.{nat_tests}
+use Rattle.std.specs.Int.{w128}
 use Rattle.sync_terms.specs.Maps.{Map, put, bump}
 use Rattle.sync_terms.specs.Maps as maps
 use Rattle.sync_join.specs.declared.tokens.Token.{Token}
@@ -26,6 +28,12 @@ cond-true false x y e = absurd (cc)
 pub cond-false : {X : Type 0} (b : Bool) (x y : X) → b ≡ false → cond b x y ≡ y
 cond-false true x y e = absurd (cc)
 cond-false false x y e = refl
+
+pub is_same : (a b : ℕ) → a ≡ b → nat_eq a b ≡ true
+is_same a b h = grind (arith, nat_tests)
+
+pub is_other : (a b : ℕ) → (a ≡ b → ⊥) → nat_eq a b ≡ false
+is_other a b h = grind (arith, nat_tests)
 
 -- ---- from a place on
 
@@ -113,6 +121,59 @@ counts_bounded [] q = value-nil q
 counts_bounded (t ∷ ts) q =
     subst (λ (n : ℤ). n ≤ℤ pos (suc (length ts))) (sym (value-bump (counts_of ts) t.key q (counts_natural ts t.key)))
       (either_bounded (int_eq q t.key) (maps.get (counts_of ts) t.key) (maps.get (counts_of ts) q) (length ts) (counts_bounded ts t.key) (counts_bounded ts q))
+
+few-cases : (b : Bool) (t : Token) (ts : List Token) (i : ℕ) → length ts ≤ i → length (cond b (t ∷ ts) ts) ≤ suc i
+few-cases true t ts i h = omega arith
+few-cases false t ts i h = omega arith
+
+tokens-few : (f i : ℕ) (xs : List Token) → length (tokens_of f (take i xs)) ≤ i
+tokens-few f zero xs = omega arith
+tokens-few f (suc i) [] = omega arith
+tokens-few f (suc i) (x ∷ xs) = few-cases (nat_eq x.field f) x (tokens_of f (take i xs)) i (tokens-few f i xs)
+
+no_more : (n : ℤ) (a b : ℕ) → n ≤ℤ pos a → a ≤ b → n ≤ℤ pos b
+no_more n a b h k = omega (arith, ints)
+
+-- how often a key stands up to a place: not below 0, and not above the place
+pub counted-within : (f i : ℕ) (xs : List Token) (m : Map) (k n : ℤ) → counts_of (tokens_of f (take i xs)) ≡ m → n ≡ maps.get m k → (pos 0 ≤ℤ n) × (n ≤ℤ pos i)
+counted-within f i xs m k n inv is =
+    let ts = tokens_of f (take i xs) in
+    let e : maps.get (counts_of ts) k ≡ n = ap (λ (w : Map). maps.get w k) inv ∙ sym is in
+    ( subst (λ (x : ℤ). pos 0 ≤ℤ x) e (counts_natural ts k)
+    , subst (λ (x : ℤ). x ≤ℤ pos i) e (no_more (maps.get (counts_of ts) k) (length ts) i (counts_bounded ts k) (tokens-few f i xs)) )
+
+-- one more token of the field
+pub counts-more : (f i : ℕ) (xs : List Token) (d : Token) (m new : Map) (k n v : ℤ) → i < length xs → nat_eq (get_or xs i d).field f ≡ true → counts_of (tokens_of f (take i xs)) ≡ m → k ≡ (get_or xs i d).key → n ≡ maps.get m k → v ≡ n +ℤ pos 1 → new ≡ put m k v → counts_of (tokens_of f (take (i + 1) xs)) ≡ new
+counts-more f i xs d m new k n v h own inv key now one is =
+    let t = get_or xs i d in
+    ap counts_of (own-take f i xs d h own) ∙ counts-push (tokens_of f (take i xs)) t
+    ∙ ap (λ (w : Map). put w t.key (maps.get w t.key +ℤ pos 1)) inv
+    ∙ ap (λ (q : ℤ). put m q (maps.get m q +ℤ pos 1)) (sym key)
+    ∙ ap (λ (q : ℤ). put m k q) (ap (λ (q : ℤ). q +ℤ pos 1) (sym now) ∙ sym one)
+    ∙ sym is
+
+-- ---- sums
+
+together : (a b c : ℤ) → (a +ℤ b) +ℤ c ≡ a +ℤ (b +ℤ c)
+together a b c = omega (arith, ints)
+
+pub sum-own : (f i : ℕ) (xs : List Token) (d : Token) (old new all : ℤ) → i < length xs → nat_eq (get_or xs i d).field f ≡ true → new ≡ old +ℤ (get_or xs i d).value → old +ℤ sum_of (tokens_of f (drop i xs)) ≡ all → new +ℤ sum_of (tokens_of f (drop (i + 1) xs)) ≡ all
+sum-own f i xs d old new all h own is inv =
+    ap (λ (n : ℤ). n +ℤ sum_of (tokens_of f (drop (i + 1) xs))) is
+    ∙ together old (get_or xs i d).value (sum_of (tokens_of f (drop (i + 1) xs)))
+    ∙ ap (λ ts. old +ℤ sum_of ts) (sym (own-drop f i xs d h own)) ∙ inv
+
+pub fits-own : (f i : ℕ) (xs : List Token) (d : Token) (old new : ℤ) → i < length xs → nat_eq (get_or xs i d).field f ≡ true → new ≡ old +ℤ (get_or xs i d).value → FitsSigned w128 (old +ℤ (get_or xs i d).value) → SumsFit new (tokens_of f (drop (i + 1) xs)) → SumsFit old (tokens_of f (drop i xs))
+fits-own f i xs d old new h own is fit later =
+    subst (λ (ts : List Token). SumsFit old ts) (sym (own-drop f i xs d h own))
+      (fit, subst (λ (n : ℤ). SumsFit n (tokens_of f (drop (i + 1) xs))) is later)
+
+pub later-own : (f i : ℕ) (xs : List Token) (d : Token) (old new : ℤ) → i < length xs → nat_eq (get_or xs i d).field f ≡ true → new ≡ old +ℤ (get_or xs i d).value → SumsFit old (tokens_of f (drop i xs)) → SumsFit new (tokens_of f (drop (i + 1) xs))
+later-own f i xs d old new h own is fits =
+    subst (λ (n : ℤ). SumsFit n (tokens_of f (drop (i + 1) xs))) (sym is)
+      (second old (get_or xs i d) (tokens_of f (drop (i + 1) xs)) (subst (λ (ts : List Token). SumsFit old ts) (own-drop f i xs d h own) fits)) where
+  second : (n : ℤ) (t : Token) (ts : List Token) → SumsFit n (t ∷ ts) → SumsFit (n +ℤ t.value) ts
+  second n t ts h = h.1
 
 -- ---- tests
 
