@@ -26,13 +26,13 @@ loop-token-preserved c =
     let m = c.loop-token.map in
     let d : Token = record { field = 0; key = pos 0; value = pos 0 } in
     let t = get_or c.args.tokens.now i d in
-    let key_fits : SFits w128 t.key = search rules in
-    let value_fits : SFits w128 t.value = search rules in
-    let k : to_z w128 (of_z w128 t.key) ≡ t.key = to_z-of_z w128 t.key key_fits in
-    let v : to_z w128 (of_z w128 t.value) ≡ t.value = to_z-of_z w128 t.value value_fits in
     elim c.if-token-field.branch [
       | then-token-field+else-is_some+in_ok-put w ↦
-          (let free : is_some (finmap.get m t.key) ≡ false =
+          (let key_fits : SFits w128 t.key = search rules in
+          let value_fits : SFits w128 t.value = search rules in
+          let k : to_z w128 (of_z w128 t.key) ≡ t.key = to_z-of_z w128 t.key key_fits in
+          let v : to_z w128 (of_z w128 t.value) ≡ t.value = to_z-of_z w128 t.value value_fits in
+          let free : is_some (finmap.get m t.key) ≡ false =
             ap (λ (q : ℤ). is_some (finmap.get m q)) (sym k) ∙ ap is_some (sym w.get.ensures) ∙ sym w.is_some.ensures ∙ w.if-is_some.false in
           map-more c.args.field i c.args.tokens.now d m c.loop-token-test.true (is_same t.field c.args.field w.if-token-field.true) c.loop-token.invariant free
           ∙ ap Some (sym (w.map-is ∙ w.in_ok-put.ensures.ok

@@ -29,12 +29,12 @@ loop-token-preserved c =
     let d : Token = record { field = 0; key = pos 0; value = pos 0 } in
     let t = get_or c.args.tokens.now i d in
     let key = to_z w128 (of_z w128 t.key) in
-    let key_fits : SFits w128 t.key = search rules in
-    let k : key ≡ t.key = to_z-of_z w128 t.key key_fits in
     let long : Fits w64 (length c.args.tokens.now) = search rules in
     elim c.if-token-field.branch [
       | then-token-field+in_ok-put w ↦
-          (let n = w.unwrap_or-before.result in
+          (let key_fits : SFits w128 t.key = search rules in
+          let k : key ≡ t.key = to_z-of_z w128 t.key key_fits in
+          let n = w.unwrap_or-before.result in
           let now = w.unwrap_or-before.ensures ∙ ap (λ (o : Option ℤ). unwrap_or o (pos 0)) w.get.ensures in
           let within = counted-within c.args.field i c.args.tokens.now c.loop-token.counts key n c.loop-token.invariant now in
           let low : pos 0 ≤ℤ n = within.0 in

@@ -19,11 +19,11 @@ loop-token-preserved c =
     let new = to_z w128 c.if-token-field.sum-bits in
     let inside = c.loop-token-test.true in
     let inv = c.loop-token.invariant in
-    let value_fits : SFits w128 t.value = search rules in
-    let v : to_z w128 (of_z w128 t.value) ≡ t.value = to_z-of_z w128 t.value value_fits in
     elim c.if-token-field.branch [
       | then-token-field+in_ok-sum w ↦
-          (let own = is_same t.field f w.if-token-field.true in
+          (let value_fits : SFits w128 t.value = search rules in
+          let v : to_z w128 (of_z w128 t.value) ≡ t.value = to_z-of_z w128 t.value value_fits in
+          let own = is_same t.field f w.if-token-field.true in
           let more = w.in_ok-sum.ensures in
           let fit : SFits w128 (old +ℤ t.value) = subst (λ (q : ℤ). SFits w128 (old +ℤ q)) v more.0 in
           let is : new ≡ old +ℤ t.value =
