@@ -1,8 +1,8 @@
 -- Tokens of a bag in another order: what one field's tokens make together does not depend on it.
-use Rattle.std.proofs.Common.{◌≡◌, ◌≢◌, ℕ, ◌+◌, ◌≤◌, ℤ, pos, ◌+ℤ◌, ◌≤ℤ◌, Bool, true, false, not, ◌&&◌, ◌||◌, List, [], ◌∷◌, ◌++◌, length, map, Option, Some, None, option_map, is_some, refl, sym, ap, ◌∙◌, arith, if◌then◌else◌, nat_eq, cond}
+use Rattle.std.proofs.Common.{◌≡◌, ◌≢◌, ℕ, ◌+◌, ℤ, pos, ◌+ℤ◌, Bool, true, false, not, ◌&&◌, ◌||◌, List, [], ◌∷◌, ◌++◌, length, map, Option, Some, None, option_map, is_some, refl, sym, ap, ◌∙◌, arith, if◌then◌else◌, nat_eq, cond}
 use Rattle.std.specs.Ordering.{int_eq}
 use Rattle.std.specs.Cmp.{int_eq_equiv}
-use Rattle.std.specs.List.{filter, list_all, range_with_len}
+use Rattle.std.specs.List.{list_all, range_with_len}
 use Rattle.std.specs.FinMap as finmap
 use Rattle.std.specs.FinMap.{get-empty}
 use Rattle.std.specs.Ordering.{int_cmp}
@@ -10,7 +10,6 @@ use Rattle.std.proofs.lemmas.List.Elements.{filter-append}
 use Rattle.std.proofs.lemmas.Int.{ints}
 use Rattle.std.proofs.lemmas.Bool.Decides.{nat_tests}
 use Rattle.sync_terms.specs.Maps.{Map, nil, put, bump}
-use Rattle.sync_terms.specs.Maps as maps
 use Rattle.sync_machine.specs.declared.fields.Field.{Field}
 use Rattle.sync_machine.specs.declared.fields.Strategy.{Strategy}
 use Rattle.sync_machine.specs.declared.fields.Strategy.TheVariants.{Variable, Constant, NotTokenized, Option as OptionField, Map as MapField, Set, Multiset, Count, PersistentOption, PersistentMap, PersistentSet, PersistentCount, StorageMap}
@@ -18,7 +17,7 @@ use Rattle.sync_machine.specs.States.{Value, Number, Mapped, strategy_at}
 use Rattle.sync_join.specs.declared.tokens.Token.{Token}
 use Rattle.sync_join.specs.Shards.{Kept}
 use Rattle.sync_join.specs.Join.{tokens_of, only_value, has_key, are_apart, map_of, as_map, counts_of, sum_of, is_entry, is_element, is_reached, borne_out, joined, record_at, value_at, all_of, join_of}
-use Rattle.sync_join.proofs.Maps.{get-put, equal, put-put, AreNatural, natural-nil, natural-bump, bump-bump}
+use Rattle.sync_join.proofs.Maps.{get-put, put-put, AreNatural, natural-nil, natural-bump, bump-bump}
 
 -- what does not depend on the order of the first two tokens does not depend on where a token stands
 pub front : {B : Type 0} (f : List Token → B) (swap : (t u : Token) (ts : List Token) → f (t ∷ u ∷ ts) ≡ f (u ∷ t ∷ ts)) (onto : (t : Token) (xs ys : List Token) → f xs ≡ f ys → f (t ∷ xs) ≡ f (t ∷ ys)) (xs : List Token) (t : Token) (ys : List Token) → f (xs ++ t ∷ ys) ≡ f (t ∷ (xs ++ ys))

@@ -1,12 +1,12 @@
 -- A token at the front of a field's tokens that goes out or comes: what the others make together.
-use Rattle.std.proofs.Common.{◌≡◌, ℕ, suc, ◌+◌, ◌<◌, ◌≤◌, ℤ, pos, negsuc, ◌+ℤ◌, ◌-ℤ◌, ◌≤ℤ◌, ◌<ℤ◌, Bool, true, false, cond, List, [], ◌∷◌, length, Option, Some, None, is_some, unwrap_or, refl, sym, ap, subst, ◌∙◌, arith, if◌then◌else◌, int_lt}
+use Rattle.std.proofs.Common.{◌≡◌, ◌+◌, ◌<◌, ◌≤◌, ℤ, pos, ◌+ℤ◌, ◌-ℤ◌, ◌≤ℤ◌, ◌<ℤ◌, Bool, true, false, List, [], ◌∷◌, Option, Some, None, is_some, unwrap_or, refl, sym, ap, subst, ◌∙◌, arith, if◌then◌else◌}
 use Rattle.std.specs.List.{AllByRecursion}
 use Rattle.std.specs.Ordering.{int_eq, int_cmp}
 use Rattle.std.specs.Cmp.{int_cmp_total, int_eq_equiv}
 use Rattle.std.specs.FinMap.{get-remove, get-empty}
 use Rattle.std.specs.FinMap as finmap
 use Rattle.std.proofs.lemmas.Int.{ints}
-use Rattle.sync_terms.specs.Maps.{Map, nil, put, del, bump}
+use Rattle.sync_terms.specs.Maps.{Map, nil, put, del}
 use Rattle.sync_terms.specs.Maps as maps
 use Rattle.sync_join.specs.declared.tokens.Token.{Token}
 use Rattle.sync_join.specs.Join.{only_value, as_map, counts_of, sum_of}
@@ -56,9 +56,10 @@ out_of : (t : Token) (n m : Map) (b : Bool) → is_some (finmap.get n t.key) ≡
 out_of t n m true there e = absurd (none_not_some m e)
 out_of t n m false there e =
     let is : put n t.key t.value ≡ m = same_some (put n t.key t.value) m e in
-    let free : finmap.get n t.key ≡ None = nothing (finmap.get n t.key) there in
-    ( ap (λ w. finmap.get w t.key) (sym is) ∙ get-put_same n t.key t.value
-    , ap Some (sym (ap (λ w. del w t.key) (sym is) ∙ del-put n t.key t.value free)) )
+    let free : finmap.get n t.key ≡ None = nothing (finmap.get n t.key) there in (
+      ap (λ w. finmap.get w t.key) (sym is) ∙ get-put_same n t.key t.value,
+      ap Some (sym (ap (λ w. del w t.key) (sym is) ∙ del-put n t.key t.value free)),
+    )
 
 out_cases : (t : Token) (o : Option Map) (m : Map) → with_token t o ≡ Some m → GoesOut t o m
 out_cases t None m e = absurd (none_not_some m e)
@@ -99,12 +100,12 @@ counted_either : (b : Bool) (n w : ℤ) (o : Option ℤ) → pos 0 ≤ℤ n → 
 counted_either true n w o h k e =
     let is : n +ℤ pos 1 ≡ w = same_some (n +ℤ pos 1) w e in
     subst (λ (x : ℤ). pos 0 <ℤ x) is (more n h) where
-  more : (n : ℤ) → pos 0 ≤ℤ n → pos 0 <ℤ (n +ℤ pos 1)
-  more n h = omega (arith, ints)
+      more : (n : ℤ) → pos 0 ≤ℤ n → pos 0 <ℤ (n +ℤ pos 1)
+      more n h = omega (arith, ints)
 counted_either false n w o h k e = k e
 
 pub are_counted : (ts : List Token) → AreCounted (counts_of ts)
 are_counted [] q n e = let none : finmap.get nil q ≡ None = get-empty int_cmp q in absurd (none_not_some n (sym none ∙ e))
 are_counted (t ∷ ts) q n e =
     counted_either (int_eq q t.key) (maps.get (counts_of ts) t.key) n (finmap.get (counts_of ts) q) (counts_natural ts t.key) (are_counted ts q n)
-      (sym (ap (λ m. finmap.get m q) (bump-put (counts_of ts) t.key (counts_natural ts t.key)) ∙ get-put (counts_of ts) t.key (maps.get (counts_of ts) t.key +ℤ pos 1) q) ∙ e)
+    (sym (ap (λ m. finmap.get m q) (bump-put (counts_of ts) t.key (counts_natural ts t.key)) ∙ get-put (counts_of ts) t.key (maps.get (counts_of ts) t.key +ℤ pos 1) q) ∙ e)

@@ -1,8 +1,8 @@
 -- A map as the code has it, a list of entries, and as a finite map.
-use Rattle.std.proofs.Common.{◌≡◌, ℤ, Bool, true, false, cond, List, [], ◌∷◌, Option, Some, None, is_some, refl, sym, ap, ◌∙◌}
-use Rattle.std.specs.Ordering.{int_cmp, int_eq, is_eq}
+use Rattle.std.proofs.Common.{◌≡◌, ℤ, false, cond, List, [], ◌∷◌, Some, None, is_some, refl, sym, ap, ◌∙◌}
+use Rattle.std.specs.Ordering.{int_cmp, int_eq}
 use Rattle.std.specs.Cmp.{int_cmp_total, int_eq_equiv}
-use Rattle.std.specs.FinMap.{FinMap, from_entries, find, get-from_entries, get-insert, get-remove, get-empty}
+use Rattle.std.specs.FinMap.{from_entries, find, get-from_entries, get-insert, get-remove, get-empty}
 use Rattle.std.specs.FinMap as finmap
 use Rattle.std.specs.Map.{lookup}
 use Rattle.sync_terms.specs.Maps.{Map, nil, put, del}

@@ -1,5 +1,5 @@
 -- Finite maps of numbers: what is at a key behind a change, and changes at two keys in either order.
-use Rattle.std.proofs.Common.{◌≡◌, ℕ, suc, ◌+◌, ◌≤◌, ℤ, pos, ◌+ℤ◌, ◌≤ℤ◌, ◌<ℤ◌, Bool, true, false, List, [], ◌∷◌, ◌++◌, length, Option, Some, None, is_some, unwrap_or, refl, sym, ap, subst, ◌∙◌, arith, if◌then◌else◌, int_lt}
+use Rattle.std.proofs.Common.{◌≡◌, ◌+◌, ◌≤◌, ℤ, pos, ◌+ℤ◌, ◌≤ℤ◌, ◌<ℤ◌, Bool, true, false, Option, Some, None, unwrap_or, refl, sym, ap, subst, ◌∙◌, arith, if◌then◌else◌, int_lt}
 use Rattle.std.specs.Ordering.{int_eq, int_cmp}
 use Rattle.std.specs.Cmp.{int_cmp_total, int_eq_equiv}
 use Rattle.std.specs.FinMap.{int_cmp-IsAntisymmetric, same_map, get-insert, get-empty}
@@ -27,13 +27,13 @@ apart false b x y z h = refl
 pub put-put : (m : Map) (a v b w : ℤ) → int_eq a b ≡ false → put (put m a v) b w ≡ put (put m b w) a v
 put-put m a v b w differ =
     same _ _ (λ q.
-      get-put (put m a v) b w q
-      ∙ ap (λ o. if int_eq q b then Some w else o) (get-put m a v q)
-      ∙ apart (int_eq q b) (int_eq q a) (Some w) (Some v) (finmap.get m q) (λ at_b at_a.
-          let here : int_eq a b ≡ true = (Decides-int_eq a b).1 (sym (equal q a at_a) ∙ equal q b at_b) in
-          absurd (cc))
-      ∙ ap (λ o. if int_eq q a then Some v else o) (sym (get-put m b w q))
-      ∙ sym (get-put (put m b w) a v q))
+    get-put (put m a v) b w q
+    ∙ ap (λ o. if int_eq q b then Some w else o) (get-put m a v q)
+    ∙ apart (int_eq q b) (int_eq q a) (Some w) (Some v) (finmap.get m q) (λ at_b at_a.
+    let here : int_eq a b ≡ true = (Decides-int_eq a b).1 (sym (equal q a at_a) ∙ equal q b at_b) in
+    absurd (cc))
+    ∙ ap (λ o. if int_eq q a then Some v else o) (sym (get-put m b w q))
+    ∙ sym (get-put (put m b w) a v q))
 
 -- no value is negative
 abbrev pub AreNatural : Map → Type 0
@@ -75,7 +75,7 @@ value-bump m k q h = ap (λ n. maps.get n q) (bump-put m k h) ∙ value-put m k 
 pub natural-bump : (m : Map) (k : ℤ) → AreNatural m → AreNatural (bump m k (pos 1))
 natural-bump m k h q =
     subst (λ (n : ℤ). pos 0 ≤ℤ n) (sym (value-bump m k q (h k)))
-      (natural_either (int_eq q k) (maps.get m k) (maps.get m q) (h k) (h q))
+    (natural_either (int_eq q k) (maps.get m k) (maps.get m q) (h k) (h q))
 
 -- what stands at another key stays
 value-other : (m : Map) (k v q : ℤ) → int_eq q k ≡ false → maps.get (put m k v) q ≡ maps.get m q

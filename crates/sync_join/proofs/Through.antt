@@ -1,6 +1,6 @@
 -- A field's tokens, one after another through a bag, and what they make together so far.
 use Rattle.std.proofs.Common.{◌≡◌, ℕ, zero, suc, FitsSigned, ◌+◌, ◌<◌, ◌≤◌, ℤ, pos, ◌+ℤ◌, ◌≤ℤ◌, Bool, true, false, not, ◌&&◌, ◌||◌, List, [], ◌∷◌, ◌++◌, length, take, drop, get_or, Option, Some, None, is_some, refl, sym, ap, subst, ◌∙◌, arith, cond, nat_eq, if◌then◌else◌}
-use Rattle.std.specs.List.{filter, list_all}
+use Rattle.std.specs.List.{list_all}
 use Rattle.std.specs.Ordering.{int_eq}
 use Rattle.std.specs.FinMap as finmap
 use Rattle.std.proofs.lemmas.List.{at_drop_more, at_drop_all, take_more, take_all, take-append-drop}
@@ -8,7 +8,7 @@ use Rattle.std.proofs.lemmas.List.Elements.{filter-append}
 use Rattle.std.proofs.lemmas.Int.{ints}
 use Rattle.std.proofs.lemmas.Bool.Decides.{nat_tests}
 use Rattle.std.specs.Int.{w128}
-use Rattle.sync_terms.specs.Maps.{Map, put, bump}
+use Rattle.sync_terms.specs.Maps.{Map, put}
 use Rattle.sync_terms.specs.Maps as maps
 use Rattle.sync_join.specs.declared.tokens.Token.{Token}
 use Rattle.sync_join.specs.Join.{tokens_of, only_value, as_map, counts_of, sum_of}
@@ -98,8 +98,8 @@ map-more f i xs d m h own inv free =
 pub map-twice : (f i : ℕ) (xs : List Token) (d : Token) (m : Map) → i < length xs → nat_eq (get_or xs i d).field f ≡ true → as_map (tokens_of f (take i xs)) ≡ Some m → is_some (finmap.get m (get_or xs i d).key) ≡ true → as_map (tokens_of f xs) ≡ None
 map-twice f i xs d m h own inv there =
     let here : as_map (tokens_of f (take (i + 1) xs)) ≡ None =
-      ap as_map (own-take f i xs d h own) ∙ as_map-push (tokens_of f (take i xs)) (get_or xs i d) ∙ ap (with_token (get_or xs i d)) inv
-      ∙ ap (λ b. unless b (put m (get_or xs i d).key (get_or xs i d).value)) there in
+    ap as_map (own-take f i xs d h own) ∙ as_map-push (tokens_of f (take i xs)) (get_or xs i d) ∙ ap (with_token (get_or xs i d)) inv
+    ∙ ap (λ b. unless b (put m (get_or xs i d).key (get_or xs i d).value)) there in
     ap (λ ts. as_map (tokens_of f ts)) (sym (take-append-drop (i + 1) xs))
     ∙ ap as_map (filter-append (λ (t : Token). nat_eq t.field f) (take (i + 1) xs) (drop (i + 1) xs))
     ∙ as_map-none (tokens_of f (take (i + 1) xs)) (tokens_of f (drop (i + 1) xs)) here
@@ -120,7 +120,7 @@ pub counts_bounded : (ts : List Token) (q : ℤ) → maps.get (counts_of ts) q �
 counts_bounded [] q = value-nil q
 counts_bounded (t ∷ ts) q =
     subst (λ (n : ℤ). n ≤ℤ pos (suc (length ts))) (sym (value-bump (counts_of ts) t.key q (counts_natural ts t.key)))
-      (either_bounded (int_eq q t.key) (maps.get (counts_of ts) t.key) (maps.get (counts_of ts) q) (length ts) (counts_bounded ts t.key) (counts_bounded ts q))
+    (either_bounded (int_eq q t.key) (maps.get (counts_of ts) t.key) (maps.get (counts_of ts) q) (length ts) (counts_bounded ts t.key) (counts_bounded ts q))
 
 few-cases : (b : Bool) (t : Token) (ts : List Token) (i : ℕ) → length ts ≤ i → length (cond b (t ∷ ts) ts) ≤ suc i
 few-cases true t ts i h = omega arith
@@ -138,9 +138,10 @@ no_more n a b h k = omega (arith, ints)
 pub counted-within : (f i : ℕ) (xs : List Token) (m : Map) (k n : ℤ) → counts_of (tokens_of f (take i xs)) ≡ m → n ≡ maps.get m k → (pos 0 ≤ℤ n) × (n ≤ℤ pos i)
 counted-within f i xs m k n inv is =
     let ts = tokens_of f (take i xs) in
-    let e : maps.get (counts_of ts) k ≡ n = ap (λ (w : Map). maps.get w k) inv ∙ sym is in
-    ( subst (λ (x : ℤ). pos 0 ≤ℤ x) e (counts_natural ts k)
-    , subst (λ (x : ℤ). x ≤ℤ pos i) e (no_more (maps.get (counts_of ts) k) (length ts) i (counts_bounded ts k) (tokens-few f i xs)) )
+    let e : maps.get (counts_of ts) k ≡ n = ap (λ (w : Map). maps.get w k) inv ∙ sym is in (
+      subst (λ (x : ℤ). pos 0 ≤ℤ x) e (counts_natural ts k),
+      subst (λ (x : ℤ). x ≤ℤ pos i) e (no_more (maps.get (counts_of ts) k) (length ts) i (counts_bounded ts k) (tokens-few f i xs)),
+    )
 
 -- one more token of the field
 pub counts-more : (f i : ℕ) (xs : List Token) (d : Token) (m new : Map) (k n v : ℤ) → i < length xs → nat_eq (get_or xs i d).field f ≡ true → counts_of (tokens_of f (take i xs)) ≡ m → k ≡ (get_or xs i d).key → n ≡ maps.get m k → v ≡ n +ℤ pos 1 → new ≡ put m k v → counts_of (tokens_of f (take (i + 1) xs)) ≡ new
@@ -166,14 +167,14 @@ sum-own f i xs d old new all h own is inv =
 pub fits-own : (f i : ℕ) (xs : List Token) (d : Token) (old new : ℤ) → i < length xs → nat_eq (get_or xs i d).field f ≡ true → new ≡ old +ℤ (get_or xs i d).value → FitsSigned w128 (old +ℤ (get_or xs i d).value) → SumsFit new (tokens_of f (drop (i + 1) xs)) → SumsFit old (tokens_of f (drop i xs))
 fits-own f i xs d old new h own is fit later =
     subst (λ (ts : List Token). SumsFit old ts) (sym (own-drop f i xs d h own))
-      (fit, subst (λ (n : ℤ). SumsFit n (tokens_of f (drop (i + 1) xs))) is later)
+    (fit, subst (λ (n : ℤ). SumsFit n (tokens_of f (drop (i + 1) xs))) is later)
 
 pub later-own : (f i : ℕ) (xs : List Token) (d : Token) (old new : ℤ) → i < length xs → nat_eq (get_or xs i d).field f ≡ true → new ≡ old +ℤ (get_or xs i d).value → SumsFit old (tokens_of f (drop i xs)) → SumsFit new (tokens_of f (drop (i + 1) xs))
 later-own f i xs d old new h own is fits =
     subst (λ (n : ℤ). SumsFit n (tokens_of f (drop (i + 1) xs))) (sym is)
-      (second old (get_or xs i d) (tokens_of f (drop (i + 1) xs)) (subst (λ (ts : List Token). SumsFit old ts) (own-drop f i xs d h own) fits)) where
-  second : (n : ℤ) (t : Token) (ts : List Token) → SumsFit n (t ∷ ts) → SumsFit (n +ℤ t.value) ts
-  second n t ts h = h.1
+    (second old (get_or xs i d) (tokens_of f (drop (i + 1) xs)) (subst (λ (ts : List Token). SumsFit old ts) (own-drop f i xs d h own) fits)) where
+      second : (n : ℤ) (t : Token) (ts : List Token) → SumsFit n (t ∷ ts) → SumsFit (n +ℤ t.value) ts
+      second n t ts h = h.1
 
 -- ---- tests
 

@@ -1,5 +1,5 @@
 -- What values, states and what is kept are as plain lists.
-use Rattle.std.specs.Prelude.{List, map}
+use Rattle.std.specs.Prelude.{map}
 use Rattle.sync_machine.specs.States as states
 use Rattle.sync_join.specs.declared.values.Value.{Value}
 use Rattle.sync_join.specs.declared.values.Value.TheVariants as stored

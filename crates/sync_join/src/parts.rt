@@ -103,16 +103,12 @@ pub(crate) fn are_entries(recorded: &Value, tokens: &[Token], field: u32) -> boo
 pub(crate) fn are_elements(recorded: &Value, tokens: &[Token], field: u32) -> bool
     ensures { result ≡ list_all (shards.is_element (value_tree recorded.now)) (shards.tokens_of field tokens.now) }
 {
-    tokens
-        .iter()
-        .all(|token| token.field != field || is_element(recorded, token))
+    tokens.iter().all(|token| token.field != field || is_element(recorded, token))
 }
 
 /// Whether a record has reached the amount of each token of a field.
 pub(crate) fn are_reached(recorded: &Value, tokens: &[Token], field: u32) -> bool
     ensures { result ≡ list_all (shards.is_reached (value_tree recorded.now)) (shards.tokens_of field tokens.now) }
 {
-    tokens
-        .iter()
-        .all(|token| token.field != field || is_reached(recorded, token))
+    tokens.iter().all(|token| token.field != field || is_reached(recorded, token))
 }

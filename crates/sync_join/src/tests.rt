@@ -62,11 +62,7 @@ fn joined(
 }
 
 /// The same where the record is 0 and the value a number.
-fn number(
-    alloc: Global,
-    strategy: Strategy,
-    tokens: &[Token],
-) -> Result<Option<i128>, JoinStop> {
+fn number(alloc: Global, strategy: Strategy, tokens: &[Token]) -> Result<Option<i128>, JoinStop> {
     match joined(alloc, strategy, tokens, Value::Number(0))? {
         Some(Value::Number(n)) => Ok(Some(n)),
         _ => Ok(None),
@@ -81,11 +77,7 @@ fn five_at_0(alloc: Global) -> Result<Value, JoinStop> {
 }
 
 /// The same as `joined` where the value is a map.
-fn map(
-    alloc: Global,
-    strategy: Strategy,
-    tokens: &[Token],
-) -> Result<Option<Entries>, JoinStop> {
+fn map(alloc: Global, strategy: Strategy, tokens: &[Token]) -> Result<Option<Entries>, JoinStop> {
     let record = five_at_0(alloc)?;
     match joined(alloc, strategy, tokens, record)? {
         Some(Value::Map(entries)) => Ok(Some(entries)),

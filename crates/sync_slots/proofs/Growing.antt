@@ -1,10 +1,8 @@
 -- How the list of slots grows, field by field and statement by statement.
-use Rattle.std.proofs.Common.{◌≡◌, ℕ, zero, suc, ◌+◌, ◌<◌, ◌≤◌, List, [], ◌∷◌, ◌++◌, map, length, get_or, take, Option, Some, None, option_map, filter_map, refl, sym, ap, ◌∙◌, arith, append_assoc}
+use Rattle.std.proofs.Common.{◌≡◌, ℕ, zero, suc, ◌+◌, List, [], ◌∷◌, ◌++◌, Option, Some, None, filter_map, refl, sym, ap, ◌∙◌, arith, append_assoc}
 use Rattle.std.specs.List.{range_with_len, AllByRecursion, cons_option}
-use Rattle.std.proofs.lemmas.List.{take_more, take_all, map_push}
 use Rattle.std.proofs.lemmas.List.Elements.{filter_map-append}
 use Rattle.sync_slots.specs.Slots.{SlotTree}
-use Rattle.sync_slots.specs.declared.slots.Slot.{Slot}
 
 pub append-nothing : {X : Type 0} (xs : List X) → xs ++ [] ≡ xs
 append-nothing [] = refl

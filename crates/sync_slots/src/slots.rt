@@ -44,7 +44,7 @@ impl Slot {
     /// The slot of a statement with a place.
     pub(crate) fn of_place(role: Role, field: u32, place: Place, line: u32) -> Slot
         ensures tree { (s : Stored) → slot_tree s result ≡ place_slot role field (place_tree s place) line }
-    ensures ids { (s : Stored) → HasPlaceIds s place → HasSlotIds s result }
+        ensures ids { (s : Stored) → HasPlaceIds s place → HasSlotIds s result }
     {
         Slot {
             role,
@@ -58,7 +58,7 @@ impl Slot {
     /// The slot of a statement that writes a value alone.
     pub(crate) fn of_value(role: Role, field: u32, value: TermId, line: u32) -> Slot
         ensures tree { (s : Stored) → slot_tree s result ≡ value_slot role field (tree s value) line }
-    ensures ids { (s : Stored) → IsTerm s value → HasSlotIds s result }
+        ensures ids { (s : Stored) → IsTerm s value → HasSlotIds s result }
     {
         Slot {
             role,
@@ -72,7 +72,7 @@ impl Slot {
     /// The slot of a variable that is only read.
     pub(crate) fn of_read(field: u32, line: u32) -> Slot
         ensures tree { (s : Stored) → slot_tree s result ≡ read_slot field line }
-    ensures ids { (s : Stored) → HasSlotIds s result }
+        ensures ids { (s : Stored) → HasSlotIds s result }
     {
         Slot {
             role: Role::Read,

@@ -14,7 +14,9 @@ use sync_terms::{FormId, FormNode, Node, Sym, TermId, TermStop, Terms};
 
 /// The parameter k, and the names v and w that places bind.
 const K: Sym = Sym(64);
+
 const V: Sym = Sym(68);
+
 const W: Sym = Sym(72);
 
 /// A field of this strategy.

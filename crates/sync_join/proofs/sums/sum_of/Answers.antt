@@ -27,8 +27,8 @@ loop-token-preserved c =
           let more = w.in_ok-sum.ensures in
           let fit : SFits w128 (old +ℤ t.value) = subst (λ (q : ℤ). SFits w128 (old +ℤ q)) v more.0 in
           let is : new ≡ old +ℤ t.value =
-            w.sum-is ∙ ap (λ (q : ℤ). to_z w128 (of_z w128 q)) more.1
-            ∙ ap (λ (q : ℤ). to_z w128 (of_z w128 (old +ℤ q))) v ∙ to_z-of_z w128 (old +ℤ t.value) fit in
+          w.sum-is ∙ ap (λ (q : ℤ). to_z w128 (of_z w128 q)) more.1
+          ∙ ap (λ (q : ℤ). to_z w128 (of_z w128 (old +ℤ q))) v ∙ to_z-of_z w128 (old +ℤ t.value) fit in
           record {
             sum = sum-own f i xs d old new _ inside own is inv.sum;
             fits = λ h. inv.fits (fits-own f i xs d old new inside own is fit h);

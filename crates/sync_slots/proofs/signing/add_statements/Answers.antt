@@ -24,12 +24,14 @@ loop-step-preserved c =
     elim c.match-statement_slot.branch [
       | in-Some+in_ok-push w ↦
           (let pushed : c.match-statement_slot.list.items ≡ c.loop-step.list.items ++ w.in-Some.slot ∷ [] = ap (λ v. v.items) w.list-is ∙ w.in_ok-push.ensures.items in
-          let is : statement_slot fs x ≡ Some (slot_tree s w.in-Some.slot) = sym c.statement_slot.ensures.exact ∙ ap (option_map (slot_tree s)) w.in-Some.is in
-          ( on (ap (slots_tree s) pushed ∙ map_push (slot_tree s) c.loop-step.list.items w.in-Some.slot ∙ grown (statement_slot fs) (slots_tree s c.loop-step.list.items) start before x (slot_tree s w.in-Some.slot) c.loop-step.invariant.0 is)
-          , λ h. subst (HaveSlotIds s) (sym pushed) (all-push (HasSlotIds s) c.loop-step.list.items w.in-Some.slot (c.loop-step.invariant.1 h) w.in-Some.ensures.ids) ))
+          let is : statement_slot fs x ≡ Some (slot_tree s w.in-Some.slot) = sym c.statement_slot.ensures.exact ∙ ap (option_map (slot_tree s)) w.in-Some.is in (
+            on (ap (slots_tree s) pushed ∙ map_push (slot_tree s) c.loop-step.list.items w.in-Some.slot ∙ grown (statement_slot fs) (slots_tree s c.loop-step.list.items) start before x (slot_tree s w.in-Some.slot) c.loop-step.invariant.0 is),
+            λ h. subst (HaveSlotIds s) (sym pushed) (all-push (HasSlotIds s) c.loop-step.list.items w.in-Some.slot (c.loop-step.invariant.1 h) w.in-Some.ensures.ids),
+          ))
       | in_default w ↦
           (let same : c.match-statement_slot.list.items ≡ c.loop-step.list.items = ap (λ v. v.items) w.list-is in
-          let is : statement_slot fs x ≡ None = sym c.statement_slot.ensures.exact ∙ ap (option_map (slot_tree s)) w.in_default.is in
-          ( on (ap (slots_tree s) same ∙ kept (statement_slot fs) (slots_tree s c.loop-step.list.items) start before x c.loop-step.invariant.0 is)
-          , λ h. subst (HaveSlotIds s) (sym same) (c.loop-step.invariant.1 h) ))
+          let is : statement_slot fs x ≡ None = sym c.statement_slot.ensures.exact ∙ ap (option_map (slot_tree s)) w.in_default.is in (
+            on (ap (slots_tree s) same ∙ kept (statement_slot fs) (slots_tree s c.loop-step.list.items) start before x c.loop-step.invariant.0 is),
+            λ h. subst (HaveSlotIds s) (sym same) (c.loop-step.invariant.1 h),
+          ))
     ]

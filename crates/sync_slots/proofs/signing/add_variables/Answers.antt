@@ -20,12 +20,14 @@ loop-f-preserved c =
     elim c.match-field_slot.branch [
       | in-Some+in_ok-push w ↦
           (let pushed : c.match-field_slot.list.items ≡ c.loop-f.list.items ++ w.in-Some.slot ∷ [] = ap (λ v. v.items) w.list-is ∙ w.in_ok-push.ensures.items in
-          let is : g f ≡ Some (slot_tree s w.in-Some.slot) = number ∙ ap (option_map (slot_tree s)) w.in-Some.is in
-          ( on (ap (slots_tree s) pushed ∙ map_push (slot_tree s) c.loop-f.list.items w.in-Some.slot ∙ grown g (slots_tree s c.loop-f.list.items) start before f (slot_tree s w.in-Some.slot) c.loop-f.invariant.0 is)
-          , λ h. subst (HaveSlotIds s) (sym pushed) (all-push (HasSlotIds s) c.loop-f.list.items w.in-Some.slot (c.loop-f.invariant.1 h) w.in-Some.ensures.ids) ))
+          let is : g f ≡ Some (slot_tree s w.in-Some.slot) = number ∙ ap (option_map (slot_tree s)) w.in-Some.is in (
+            on (ap (slots_tree s) pushed ∙ map_push (slot_tree s) c.loop-f.list.items w.in-Some.slot ∙ grown g (slots_tree s c.loop-f.list.items) start before f (slot_tree s w.in-Some.slot) c.loop-f.invariant.0 is),
+            λ h. subst (HaveSlotIds s) (sym pushed) (all-push (HasSlotIds s) c.loop-f.list.items w.in-Some.slot (c.loop-f.invariant.1 h) w.in-Some.ensures.ids),
+          ))
       | in_default w ↦
           (let same : c.match-field_slot.list.items ≡ c.loop-f.list.items = ap (λ v. v.items) w.list-is in
-          let is : g f ≡ None = number ∙ ap (option_map (slot_tree s)) w.in_default.is in
-          ( on (ap (slots_tree s) same ∙ kept g (slots_tree s c.loop-f.list.items) start before f c.loop-f.invariant.0 is)
-          , λ h. subst (HaveSlotIds s) (sym same) (c.loop-f.invariant.1 h) ))
+          let is : g f ≡ None = number ∙ ap (option_map (slot_tree s)) w.in_default.is in (
+            on (ap (slots_tree s) same ∙ kept g (slots_tree s c.loop-f.list.items) start before f c.loop-f.invariant.0 is),
+            λ h. subst (HaveSlotIds s) (sym same) (c.loop-f.invariant.1 h),
+          ))
     ]
