@@ -12,3 +12,4 @@ pub mod Completes
 pub mod ExpressionsComplete
 pub mod ScriptsComplete
 pub mod MachinesComplete
+pub mod Examples
