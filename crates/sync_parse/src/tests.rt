@@ -1,6 +1,5 @@
 use super::*;
 use std::test::*;
-use sync_base::{Rule, Stop};
 use sync_exprs::Named;
 use sync_machine::{OpMode, Strategy};
 
@@ -38,67 +37,5 @@ fn a_small_text(rt: HostRuntime) -> Result<(), Fail> {
     let proof = text.proofs.get(0).ok_or("a proof")?;
     assert_eq!(rt; proof.script.block.end_line, 10);
     assert_eq!(rt; proof.script.block.steps.len(), 1);
-    Ok(())
-}
-
-fn refusal(rt: &HostRuntime, text: &[u8]) -> Option<(u32, Rule)> {
-    match parse(rt.alloc(), text) {
-        Err(Stop::Refused(refusal)) => Some((refusal.line, refusal.rule)),
-        Err(Stop::Memory) | Ok(_) => None,
-    }
-}
-
-#[test]
-fn refusals(rt: HostRuntime) {
-    assert_eq!(rt;
-        refusal(&rt, b"version 1;\nmachine machine { }"),
-        Some((2, Rule::G1))
-    );
-    assert_eq!(rt;
-        refusal(&rt, b"version 1;\nmachine M { field f:\ncounter; }"),
-        Some((3, Rule::G1))
-    );
-    assert_eq!(rt;
-        refusal(&rt, b"version 1;\nmachine M {\n\n"),
-        Some((4, Rule::G2))
-    );
-    assert_eq!(rt; refusal(&rt, b"version\n7 7"), Some((2, Rule::G4)));
-    assert_eq!(rt;
-        refusal(&rt, b"version 1;\nmachine M { }\nprogram ;"),
-        Some((3, Rule::G9))
-    );
-    assert_eq!(rt;
-        refusal(&rt, b"version 1;\nmachine M { }\nproofs { }\n#"),
-        Some((4, Rule::L2))
-    );
-}
-
-/// An invariant in so many brackets, with runs of 64 `!` before each and chains of 64 `==>` behind it.
-fn nested(rt: &HostRuntime, brackets: u32) -> Result<Vec<u8>, Fail> {
-    let mut text = Vec::new(rt.alloc());
-    text.extend_from_slice(b"version 1;\nmachine M { invariant i():\n")?;
-    for _ in 0..brackets {
-        for _ in 0..64 {
-            text.push(b'!')?;
-        }
-        text.push(b'(')?;
-    }
-    text.push(b'a')?;
-    for _ in 0..brackets {
-        text.push(b')')?;
-        for _ in 0..64 {
-            text.extend_from_slice(b"==>a")?;
-        }
-    }
-    text.extend_from_slice(b"; }")?;
-    Ok(text)
-}
-
-#[test]
-fn deep_nesting(rt: HostRuntime) -> Result<(), Fail> {
-    let text = nested(&rt, 63)?;
-    assert!(rt; parse(rt.alloc(), text.as_slice()).is_ok());
-    let text = nested(&rt, 64)?;
-    assert_eq!(rt; refusal(&rt, text.as_slice()), Some((3, Rule::G3)));
     Ok(())
 }
