@@ -43,6 +43,28 @@ fn verdict(alloc: Global, text: &[u8]) -> Result<String, io::Error> {
     }
 }
 
+/// A sum of 65 times this text, in brackets.
+fn sum_of(alloc: Global, item: &str) -> Result<String, io::Error> {
+    let mut sum = String::new(alloc);
+    for k in 0..65 {
+        sum.push(if k == 0 { '(' } else { '+' })?;
+        sum.push_str(item)?;
+    }
+    sum.push(')')?;
+    Ok(sum)
+}
+
+/// A text with an invariant of more than 1,000,000 nodes in its line 2, which begins so.
+fn large_text(alloc: Global, first: &str) -> Result<String, io::Error> {
+    let mut item = String::new(alloc);
+    for _ in 0..64 {
+        item.push('-')?;
+    }
+    item.push('x')?;
+    let half = sum_of(alloc, sum_of(alloc, item.as_str())?.as_str())?;
+    Ok(format!(alloc; "version 1; machine M {{ invariant i():\n{first}{half}\n<= {half}; }}")?)
+}
+
 fn main(rt: HostRuntime) -> io::Result<()> {
     for name in TEXTS {
         let text = fs::read(&rt, name)?;
@@ -64,5 +86,10 @@ fn main(rt: HostRuntime) -> io::Result<()> {
             println!(&rt; "wanted {wanted}, found {found}: {text}")?;
         }
     }
-    println!(&rt; "verdicts.txt: {right} of {all} as wanted")
+    println!(&rt; "verdicts.txt: {right} of {all} as wanted")?;
+    for first in ["", "(\nx) + ", "x + "] {
+        let text = large_text(rt.alloc(), first)?;
+        println!(&rt; "a large formula: {}", verdict(rt.alloc(), text.as_bytes())?)?;
+    }
+    Ok(())
 }
