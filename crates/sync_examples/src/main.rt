@@ -54,15 +54,36 @@ fn sum_of(alloc: Global, item: &str) -> Result<String, io::Error> {
     Ok(sum)
 }
 
-/// A text with an invariant of more than 1,000,000 nodes in its line 2, which begins so.
-fn large_text(alloc: Global, first: &str) -> Result<String, io::Error> {
+/// A term of 549,249 nodes over this number or name.
+fn large_term(alloc: Global, leaf: &str) -> Result<String, io::Error> {
     let mut item = String::new(alloc);
     for _ in 0..64 {
         item.push('-')?;
     }
-    item.push('x')?;
-    let half = sum_of(alloc, sum_of(alloc, item.as_str())?.as_str())?;
+    item.push_str(leaf)?;
+    sum_of(alloc, sum_of(alloc, item.as_str())?.as_str())
+}
+
+/// A text whose invariant, in line 2, is over 1,000,000 nodes and begins so.
+fn large_formula(alloc: Global, first: &str) -> Result<String, io::Error> {
+    let half = large_term(alloc, "x")?;
     Ok(format!(alloc; "version 1; machine M {{ invariant i():\n{first}{half}\n<= {half}; }}")?)
+}
+
+/// A text whose statement in line 3 leaves a value of over 1,000,000 nodes.
+fn large_value(alloc: Global) -> Result<String, io::Error> {
+    let key = large_term(alloc, "1")?;
+    Ok(format!(alloc;
+        "version 1; machine M {{ field m: multiset; transition t() {{\nadd m += [{key}];\nadd m += [{key}]; }} }}"
+    )?)
+}
+
+/// A text with a script whose step in line 3 adds a formula of this left side to a branch that has half of what it may have.
+fn large_branch(alloc: Global, left: &str) -> Result<String, io::Error> {
+    let half = large_term(alloc, "x")?;
+    Ok(format!(alloc;
+        "version 1; machine M {{ transition t(x) {{ require {half} <= 0; assert 0 <= 1; }} }} proofs {{\nt at 2 by {{\ncut {left} <= 0 as a {{ sum 1 denied; }}\nsum 1 denied; }} }}"
+    )?)
 }
 
 fn main(rt: HostRuntime) -> io::Result<()> {
@@ -88,8 +109,17 @@ fn main(rt: HostRuntime) -> io::Result<()> {
     }
     println!(&rt; "verdicts.txt: {right} of {all} as wanted")?;
     for first in ["", "(\nx) + ", "x + "] {
-        let text = large_text(rt.alloc(), first)?;
-        println!(&rt; "a large formula: {}", verdict(rt.alloc(), text.as_bytes())?)?;
+        let text = large_formula(rt.alloc(), first)?;
+        println!(&rt;
+            "a large formula: {}",
+            verdict(rt.alloc(), text.as_bytes())?
+        )?;
+    }
+    let text = large_value(rt.alloc())?;
+    println!(&rt; "a large value: {}", verdict(rt.alloc(), text.as_bytes())?)?;
+    for left in ["0", large_term(rt.alloc(), "x")?.as_str()] {
+        let text = large_branch(rt.alloc(), left)?;
+        println!(&rt; "a large branch: {}", verdict(rt.alloc(), text.as_bytes())?)?;
     }
     Ok(())
 }

@@ -14,6 +14,3 @@ pub use lexemes::{
     Read, begins_with, deep, first_line, goes_on, name, names, next, number, sign, strategy, wanted,
 };
 pub use naming::Named;
-
-#[cfg(test)]
-mod tests;

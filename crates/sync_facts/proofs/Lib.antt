@@ -3,4 +3,3 @@ pub mod Truths
 pub mod Making
 pub mod Drafting
 pub mod Origins
-pub mod Longer

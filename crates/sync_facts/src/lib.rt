@@ -7,6 +7,3 @@ mod lemmas;
 
 pub use laws::facts_are_true;
 pub use lemmas::{cong_fact, read_fact, size_fact, total_fact};
-
-#[cfg(test)]
-mod tests;

@@ -17,6 +17,3 @@ mod walks;
 pub use checking::inductive;
 pub use holding::Inductive;
 pub use proofs::{Proof, Proofs};
-
-#[cfg(test)]
-mod tests;

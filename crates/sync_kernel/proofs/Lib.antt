@@ -19,5 +19,3 @@ pub mod Keeping
 pub mod Parts
 pub mod LineRows
 pub mod SameSteps
-pub mod Stays
-pub mod Making

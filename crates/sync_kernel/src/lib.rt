@@ -17,6 +17,3 @@ mod sums;
 pub use provers::prove;
 pub use sequents::{Hyp, Sequent};
 pub use sync_terms::{Block, HypName, Part, Script, ScriptStep, StepKind};
-
-#[cfg(test)]
-mod tests;

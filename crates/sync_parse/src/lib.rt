@@ -13,6 +13,3 @@ pub use trees::{
     RawAct, RawActKind, RawClaim, RawField, RawInvariant, RawMachine, RawOperation, RawPattern,
     RawPlace, RawProof, RawText,
 };
-
-#[cfg(test)]
-mod tests;

@@ -7,6 +7,3 @@ mod scripts;
 mod texts;
 
 pub use texts::{Text, resolve};
-
-#[cfg(test)]
-mod tests;
