@@ -13,7 +13,7 @@ use Rattle.sync_machine.specs.States.{Value, Number, Mapped, State, strategy_at}
 use Rattle.sync_join.specs.declared.tokens.Token.{Token}
 use Rattle.sync_join.specs.Shards.{Kept}
 
--- the tokens of a field
+-- the tokens of a field, in the bag's order
 abbrev pub tokens_of : ℕ → List Token → List Token
 tokens_of f ts = filter (λ (t : Token). nat_eq t.field f) ts
 
@@ -66,13 +66,15 @@ abbrev pub is_value : Option ℤ → ℤ → Bool
 is_value (Some n) v = int_eq n v
 is_value None v = false
 
--- what a token says stands in the record: its key with its value; its key; an amount that is reached
+-- the record has the token's key with the token's value
 abbrev pub is_entry : Value → Token → Bool
 is_entry recorded t = is_value (finmap.get (entries_of recorded) t.key) t.value
 
+-- the record has the token's key
 abbrev pub is_element : Value → Token → Bool
 is_element recorded t = is_some (finmap.get (entries_of recorded) t.key)
 
+-- the token's amount is not above the record
 abbrev pub is_reached : Value → Token → Bool
 is_reached recorded t = int_le t.value (number_of recorded)
 
@@ -99,6 +101,7 @@ joined StorageMap ts recorded stored = option_map Mapped (as_map stored)
 
 -- ---- the state
 
+-- a record that is not there counts as 0
 abbrev pub record_at : Kept → ℕ → Value
 record_at kept f = slice_index_or kept.records f (Number (pos 0))
 

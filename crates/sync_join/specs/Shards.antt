@@ -11,7 +11,8 @@ use Rattle.sync_join.specs.declared.tokens.Token.{Token}
 abbrev pub perm : ℕ
 perm = 4294967295
 
--- a record for each field, and the stored permissions, each with its storage field
+-- What is kept beside the tokens: a record for each field, and the stored permissions. A stored permission has its
+-- storage field as field, the cell's number as key and the cell's content as value.
 pub record Kept : Type 0 where
   pub records : List Value
   pub stored : List Token
@@ -64,7 +65,8 @@ has_elements PersistentMap = false
 has_elements PersistentCount = false
 has_elements StorageMap = false
 
--- a token of a field of this strategy
+-- A token of a field of this strategy: the strategy has tokens; the key is 0 where it has no keys; the value of an
+-- element is 1.
 pub record IsTokenOf (s : Strategy) (t : Token) : Type 0 where
   pub tokens : has_tokens s ≡ true
   pub keys : has_keys s ≡ false → t.key ≡ pos 0
@@ -74,6 +76,7 @@ pub record IsTokenOf (s : Strategy) (t : Token) : Type 0 where
 abbrev pub IsToken : List Field → Token → Type 0
 IsToken fs t = (t.field ≡ perm) ⊎ ((t.field < length fs) × IsTokenOf (strategy_at fs t.field) t)
 
+-- a value of a sort
 abbrev pub IsOf : Sort → Value → Type 0
 IsOf Numbers (Number n) = Unit {0}
 IsOf Maps (Mapped m) = Unit {0}
@@ -88,7 +91,7 @@ AreRecords [] (v ∷ vs) = ⊥
 AreRecords (f ∷ fs) [] = ⊥
 
 -- The tokens are of fields that have tokens, or permissions; each record has its field's sort; what is stored is
--- stored in storage fields.
+-- stored in storage fields (a field that is not there is none).
 pub record IsShaped (fs : List Field) (bag : List Token) (kept : Kept) : Type 0 where
   pub tokens : AllByRecursion (IsToken fs) bag
   pub records : AreRecords fs kept.records

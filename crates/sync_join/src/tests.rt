@@ -149,7 +149,15 @@ fn a_record_bears_out_persistent_tokens(rt: HostRuntime) -> Result<(), Fail> {
     assert!(rt; entry(rt.alloc(), of, &[token(0, 5), token(0, 5)], stored, 0) == Ok(Some(5)));
     assert!(rt; entry(rt.alloc(), of, &[token(0, 6)], stored, 0) == Ok(None));
     assert!(rt; entry(rt.alloc(), of, &[token(1, 5)], stored, 0) == Ok(None));
-    assert!(rt; entry(rt.alloc(), Strategy::PersistentSet, &[token(1, 1)], stored, 0) == Ok(None));
+    assert!(rt;
+        entry(
+            rt.alloc(),
+            Strategy::PersistentSet,
+            &[token(1, 1)],
+            stored,
+            0
+        ) == Ok(None)
+    );
     assert!(rt; number(rt.alloc(), Strategy::PersistentCount, &[token(0, 1)]) == Ok(None));
     Ok(())
 }

@@ -34,7 +34,7 @@ value_slot role f t line = record { role = role; field = f; key = None; value = 
 abbrev pub read_slot : ℕ → ℕ → SlotTree
 read_slot f line = record { role = Read; field = f; key = None; value = None; line = line }
 
--- something where the test is true
+-- something where the test is true, else nothing
 abbrev pub only_if : {A : Type 0} → Bool → A → Option A
 only_if true x = Some x
 only_if false x = None
@@ -115,17 +115,18 @@ abbrev pub earliest : {A B : Type 0} → (A → Option B) → List A → Option 
 earliest g [] = None
 earliest g (x ∷ xs) = first (g x) (earliest g xs)
 
--- A variable's token is given by its first value, which an init has; else it changes where it is updated; else it
--- is read where a statement needs it.
+-- A variable's token is given by its first value, which inits alone have; else it changes where it is updated, which
+-- is once at most; else it is read where a statement needs it.
 abbrev pub variable_slot : List Field → List StepTree → ℕ → Option SlotTree
 variable_slot fs ss x = first (earliest (given_by x) ss) (first (earliest (changed_by x) ss) (earliest (read_by fs x) ss))
 
+-- the slot of a field in the list of the variables' slots; fields that are no variables have none there
 abbrev pub field_slot : List Field → List StepTree → ℕ → Option SlotTree
 field_slot fs ss x = if is_variable (strategy_at fs x) then variable_slot fs ss x else None
 
 -- ---- other fields
 
--- the tokens of these are amounts, and there is one from the first value on
+-- the tokens of these are amounts, and an init's first value gives one
 abbrev pub has_amounts : Strategy → Bool
 has_amounts Count = true
 has_amounts PersistentCount = true
@@ -141,7 +142,7 @@ has_amounts PersistentMap = false
 has_amounts PersistentSet = false
 has_amounts StorageMap = false
 
--- the slot of a statement at a line
+-- the slot of a statement at a line; a removal's token is gone afterwards, one that is read stays
 unfoldable pub act_slot : List Field → ActTree → ℕ → Option SlotTree
 act_slot fs (acts.Init f t) line = only_if (has_amounts (strategy_at fs f)) (value_slot Given f t line)
 act_slot fs (acts.Add f p) line = Some (place_slot Given f p line)
