@@ -35,11 +35,11 @@ const TEXTS: [&str; 22] = [
 /// The verdict of a text, as it is printed.
 fn verdict(alloc: Global, text: &[u8]) -> Result<String, io::Error> {
     match check(alloc, text) {
-        Ok(scripts) => Ok(format!(alloc; "accepted {scripts}")?),
+        Ok(scripts) => Ok(format!(in alloc; "accepted {scripts}")?),
         Err(Stop::Refused(Refusal { line, rule })) => {
-            Ok(format!(alloc; "refused line {line} rule {}", rule.code())?)
+            Ok(format!(in alloc; "refused line {line} rule {}", rule.code())?)
         }
-        Err(Stop::Memory) => Ok(format!(alloc; "no memory")?),
+        Err(Stop::Memory) => Ok(format!(in alloc; "no memory")?),
     }
 }
 
@@ -67,13 +67,13 @@ fn large_term(alloc: Global, leaf: &str) -> Result<String, io::Error> {
 /// A text whose invariant, in line 2, is over 1,000,000 nodes and begins so.
 fn large_formula(alloc: Global, first: &str) -> Result<String, io::Error> {
     let half = large_term(alloc, "x")?;
-    Ok(format!(alloc; "version 1; machine M {{ invariant i():\n{first}{half}\n<= {half}; }}")?)
+    Ok(format!(in alloc; "version 1; machine M {{ invariant i():\n{first}{half}\n<= {half}; }}")?)
 }
 
 /// A text whose statement in line 3 leaves a value of over 1,000,000 nodes.
 fn large_value(alloc: Global) -> Result<String, io::Error> {
     let key = large_term(alloc, "1")?;
-    Ok(format!(alloc;
+    Ok(format!(in alloc;
         "version 1; machine M {{ field m: multiset; transition t() {{\nadd m += [{key}];\nadd m += [{key}]; }} }}"
     )?)
 }
@@ -81,45 +81,66 @@ fn large_value(alloc: Global) -> Result<String, io::Error> {
 /// A text with a script whose step in line 3 adds a formula of this left side to a branch that has half of what it may have.
 fn large_branch(alloc: Global, left: &str) -> Result<String, io::Error> {
     let half = large_term(alloc, "x")?;
-    Ok(format!(alloc;
+    Ok(format!(in alloc;
         "version 1; machine M {{ transition t(x) {{ require {half} <= 0; assert 0 <= 1; }} }} proofs {{\nt at 2 by {{\ncut {left} <= 0 as a {{ sum 1 denied; }}\nsum 1 denied; }} }}"
     )?)
+}
+
+/// Prints the verdict of a text behind its title.
+fn print_verdict(rt: &HostRuntime, title: &str, text: &[u8]) -> io::Result<()> {
+    let found = verdict(rt.alloc(), text)?;
+    println!(rt; "{title}: {found}")
+}
+
+/// Whether a text gets the verdict that stands in the line before it; prints those that get another.
+fn is_as_wanted(rt: &HostRuntime, case: &str) -> io::Result<bool> {
+    let (wanted, text) = case.split_once('\n').unwrap_or((case, ""));
+    let text = text.strip_suffix('\n').unwrap_or(text);
+    let found = verdict(rt.alloc(), text.as_bytes())?;
+    if found.as_str() == wanted {
+        return Ok(true);
+    }
+    print_verdict(rt, wanted, text.as_bytes())?;
+    Ok(false)
+}
+
+/// Checks the texts of a list, each of which stands behind its verdict.
+fn print_verdicts(rt: &HostRuntime, list: &str) -> io::Result<()> {
+    let mut right = 0u32;
+    let mut all = 0u32;
+    for case in list.split("---- ").skip(1) {
+        all = all.wrapping_add(1);
+        if is_as_wanted(rt, case)? {
+            right = right.wrapping_add(1);
+        }
+    }
+    println!(rt; "verdicts.txt: {right} of {all} as wanted")
+}
+
+/// Checks texts at the limits of nodes.
+fn print_large(rt: &HostRuntime) -> io::Result<()> {
+    let alloc = rt.alloc();
+    let text = large_formula(alloc, "")?;
+    print_verdict(rt, "a large formula", text.as_bytes())?;
+    let text = large_formula(alloc, "(\nx) + ")?;
+    print_verdict(rt, "a large formula", text.as_bytes())?;
+    let text = large_formula(alloc, "x + ")?;
+    print_verdict(rt, "a large formula", text.as_bytes())?;
+    let text = large_value(alloc)?;
+    print_verdict(rt, "a large value", text.as_bytes())?;
+    let text = large_branch(alloc, "0")?;
+    print_verdict(rt, "a large branch", text.as_bytes())?;
+    let half = large_term(alloc, "x")?;
+    let text = large_branch(alloc, half.as_str())?;
+    print_verdict(rt, "a large branch", text.as_bytes())
 }
 
 fn main(rt: HostRuntime) -> io::Result<()> {
     for name in TEXTS {
         let text = fs::read(&rt, name)?;
-        println!(&rt; "{name}: {}", verdict(rt.alloc(), &text)?)?;
+        print_verdict(&rt, name, &text)?;
     }
-    let verdicts = fs::read_to_string(&rt, "verdicts.txt")?;
-    let mut right = 0;
-    let mut all = 0;
-    for case in verdicts.split("---- ").skip(1) {
-        let Some((wanted, text)) = case.split_once('\n') else {
-            continue;
-        };
-        let text = text.strip_suffix('\n').unwrap_or(text);
-        let found = verdict(rt.alloc(), text.as_bytes())?;
-        all += 1;
-        if found.as_str() == wanted {
-            right += 1;
-        } else {
-            println!(&rt; "wanted {wanted}, found {found}: {text}")?;
-        }
-    }
-    println!(&rt; "verdicts.txt: {right} of {all} as wanted")?;
-    for first in ["", "(\nx) + ", "x + "] {
-        let text = large_formula(rt.alloc(), first)?;
-        println!(&rt;
-            "a large formula: {}",
-            verdict(rt.alloc(), text.as_bytes())?
-        )?;
-    }
-    let text = large_value(rt.alloc())?;
-    println!(&rt; "a large value: {}", verdict(rt.alloc(), text.as_bytes())?)?;
-    for left in ["0", large_term(rt.alloc(), "x")?.as_str()] {
-        let text = large_branch(rt.alloc(), left)?;
-        println!(&rt; "a large branch: {}", verdict(rt.alloc(), text.as_bytes())?)?;
-    }
-    Ok(())
+    let list = fs::read_to_string(&rt, "verdicts.txt")?;
+    print_verdicts(&rt, list.as_str())?;
+    print_large(&rt)
 }
