@@ -14,7 +14,7 @@ use Rattle.sync_join.specs.declared.tokens.Token.{Token}
 use Rattle.sync_join.specs.Join.{tokens_of, only_value, has_key, are_apart, map_of, as_map, counts_of, sum_of, is_value, is_entry, is_element, is_reached, borne_out}
 use Rattle.sync_join.proofs.Maps.{same, get-put, equal, bump-put}
 use Rattle.sync_join.proofs.Bags.{unless, with_token, has_key-map_of, as_map-cons, counts_natural}
-use Rattle.sync_join.proofs.Leaving.{same_some, none_not_some, as_map-out, as_map-in, get-del, get-put_same, are_counted}
+use Rattle.sync_join.proofs.Leaving.{same_some, none_not_some, as_map-out, as_map-in, get-del, del-put, get-put_same, are_counted}
 
 -- ---- keys that are there, and keys that are free
 
@@ -130,14 +130,6 @@ put-over m k v w = same _ _ (λ q.
       over true o = refl
       over false o = refl
 
-del-over : (m : Map) (k v : ℤ) → finmap.get m k ≡ None → del (put m k v) k ≡ m
-del-over m k v free = same _ _ (λ q.
-    get-del (put m k v) k q ∙ ap (λ o. if int_eq q k then None else o) (get-put m k v q)
-    ∙ over (int_eq q k) (finmap.get m q) (λ here. ap (finmap.get m) (equal q k here) ∙ free)) where
-      over : (b : Bool) (o : Option ℤ) → (b ≡ true → o ≡ None) → (if b then None else (if b then Some v else o)) ≡ o
-      over true o h = sym (h refl)
-      over false o h = refl
-
 if-known : {X : Type 0} (b c : Bool) (x y : X) → b ≡ c → (if b then x else y) ≡ (if c then x else y)
 if-known b c x y e = ap (λ (d : Bool). if d then x else y) e
 
@@ -146,9 +138,6 @@ above n h = grind (arith, ints)
 
 not_above : (n : ℤ) → n ≤ℤ pos 0 → int_lt (pos 0) n ≡ false
 not_above n h = grind (arith, ints)
-
-one : ℤ
-one = pos 1
 
 less-one : (n : ℤ) → (n +ℤ pos 1) +ℤ (pos 0 -ℤ pos 1) ≡ n
 less-one n = omega (arith, ints)
@@ -161,7 +150,7 @@ unbump-cases m k None free h =
     let sum : maps.get w k +ℤ (pos 0 -ℤ pos 1) ≡ pos 0 = ap (λ (x : ℤ). x +ℤ (pos 0 -ℤ pos 1)) now ∙ less-one (pos 0) in
     let low : (maps.get w k +ℤ (pos 0 -ℤ pos 1)) ≤ℤ pos 0 = omega (arith, ints, sum) in
     if-known _ _ (put w k (maps.get w k +ℤ (pos 0 -ℤ pos 1))) (del w k) (not_above (maps.get w k +ℤ (pos 0 -ℤ pos 1)) low)
-    ∙ del-over m k (pos 0 +ℤ pos 1) free
+    ∙ del-put m k (pos 0 +ℤ pos 1) free
 unbump-cases m k (Some n) there h =
     let w : Map = put m k (n +ℤ pos 1) in
     let now : maps.get w k ≡ n +ℤ pos 1 = there-get w k (n +ℤ pos 1) (get-put_same m k (n +ℤ pos 1)) in
