@@ -1,5 +1,5 @@
 -- Tokens of a bag in another order: what one field's tokens make together does not depend on it.
-use Rattle.std.proofs.Common.{◌≡◌, ◌≢◌, ℕ, ◌+◌, ℤ, pos, ◌+ℤ◌, Bool, true, false, not, ◌&&◌, ◌||◌, List, [], ◌∷◌, ◌++◌, length, map, Option, Some, None, option_map, is_some, refl, sym, ap, ◌∙◌, arith, if◌then◌else◌, nat_eq, cond}
+use Rattle.std.proofs.Common.{◌≡◌, ◌≢◌, ℕ, ℤ, pos, ◌+ℤ◌, Bool, true, false, not, ◌&&◌, ◌||◌, List, [], ◌∷◌, ◌++◌, length, map, Option, Some, None, option_map, is_some, refl, sym, ap, ◌∙◌, arith, if◌then◌else◌, nat_eq, cond}
 use Rattle.std.specs.Ordering.{int_eq}
 use Rattle.std.specs.Cmp.{int_eq_equiv}
 use Rattle.std.specs.List.{list_all, range_with_len}
@@ -151,6 +151,22 @@ joined-front PersistentCount xs t ys r st = ap (λ b. borne_out b r) (all-front 
 joined-front Constant xs t ys r st = refl
 joined-front NotTokenized xs t ys r st = refl
 joined-front StorageMap xs t ys r st = refl
+
+-- neither does it depend on where a stored permission stands
+pub stored-front : (s : Strategy) (ts : List Token) (recorded : Value) (xs : List Token) (t : Token) (ys : List Token) → joined s ts recorded (xs ++ t ∷ ys) ≡ joined s ts recorded (t ∷ (xs ++ ys))
+stored-front Variable ts r xs t ys = refl
+stored-front OptionField ts r xs t ys = refl
+stored-front MapField ts r xs t ys = refl
+stored-front Set ts r xs t ys = refl
+stored-front Multiset ts r xs t ys = refl
+stored-front Count ts r xs t ys = refl
+stored-front PersistentOption ts r xs t ys = refl
+stored-front PersistentMap ts r xs t ys = refl
+stored-front PersistentSet ts r xs t ys = refl
+stored-front PersistentCount ts r xs t ys = refl
+stored-front Constant ts r xs t ys = refl
+stored-front NotTokenized ts r xs t ys = refl
+stored-front StorageMap ts r xs t ys = ap (option_map Mapped) (as_map-front xs t ys)
 
 -- a token of the field stands in front of its tokens, one of another field does not stand among them
 front-cases : (s : Strategy) (b : Bool) (xs : List Token) (t : Token) (ys : List Token) (recorded : Value) (stored : List Token) → joined s (xs ++ cond b (t ∷ ys) ys) recorded stored ≡ joined s (cond b (t ∷ (xs ++ ys)) (xs ++ ys)) recorded stored

@@ -1,5 +1,5 @@
 -- A token at the front of a field's tokens that goes out or comes: what the others make together.
-use Rattle.std.proofs.Common.{◌≡◌, ◌+◌, ◌<◌, ◌≤◌, ℤ, pos, ◌+ℤ◌, ◌-ℤ◌, ◌≤ℤ◌, ◌<ℤ◌, Bool, true, false, List, [], ◌∷◌, Option, Some, None, is_some, unwrap_or, refl, sym, ap, subst, ◌∙◌, arith, if◌then◌else◌}
+use Rattle.std.proofs.Common.{◌≡◌, ℤ, pos, ◌+ℤ◌, ◌-ℤ◌, ◌≤ℤ◌, ◌<ℤ◌, Bool, true, false, List, [], ◌∷◌, Option, Some, None, is_some, unwrap_or, refl, sym, ap, subst, ◌∙◌, arith, if◌then◌else◌}
 use Rattle.std.specs.List.{AllByRecursion}
 use Rattle.std.specs.Ordering.{int_eq, int_cmp}
 use Rattle.std.specs.Cmp.{int_cmp_total, int_eq_equiv}
@@ -15,10 +15,10 @@ use Rattle.sync_join.proofs.Bags.{unless, with_token, as_map-cons, counts_natura
 
 -- ---- variables
 
-same_some : {X : Type 0} (x y : X) → Some x ≡ Some y → x ≡ y
+pub same_some : {X : Type 0} (x y : X) → Some x ≡ Some y → x ≡ y
 same_some x y e = ap (λ o. unwrap_or o x) e
 
-none_not_some : {X : Type 0} (x : X) → None ≡ Some x → ⊥
+pub none_not_some : {X : Type 0} (x : X) → None ≡ Some x → ⊥
 none_not_some x e = cc
 
 pub only_value-out : (t : Token) (ts : List Token) (v : ℤ) → only_value (t ∷ ts) ≡ Some v → (ts ≡ []) × (t.value ≡ v)
@@ -27,7 +27,7 @@ only_value-out t (u ∷ ts) v e = absurd (none_not_some v e)
 
 -- ---- maps
 
-get-del : (m : Map) (k q : ℤ) → finmap.get (del m k) q ≡ (if int_eq q k then None else finmap.get m q)
+pub get-del : (m : Map) (k q : ℤ) → finmap.get (del m k) q ≡ (if int_eq q k then None else finmap.get m q)
 get-del m k q = get-remove int_cmp_total m k q
 
 -- a key that was free is free again
