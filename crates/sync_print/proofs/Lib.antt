@@ -1,0 +1,5 @@
+pub mod Steps
+pub mod Saying
+pub mod Blocks
+pub mod Endings
+mod Examples

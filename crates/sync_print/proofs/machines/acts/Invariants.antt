@@ -1,0 +1,11 @@
+use Rattle.std.proofs.Common.{◌≡◌, ◌++◌, drop, map}
+use Rattle.std.specs.List.{flat_map}
+use Rattle.sync_print.specs.Texts.{plain_act}
+use Rattle.sync_print.specs.ShowTexts.{show_act}
+use Rattle.sync_print.specs.Lexemes.{printed}
+use Rattle.sync_print.proofs.machines.acts.Given as goal
+
+abbrev pub invariant-loop-x : goal.invariant-loop-x
+invariant-loop-x l =
+    l.out.items ++ printed l.names (flat_map show_act (map plain_act (drop l.x-index l.list)))
+    ≡ l.initial.out.items ++ printed l.names (flat_map show_act (map plain_act l.list))

@@ -1,0 +1,7 @@
+pub mod Exprs
+pub mod Scripts
+pub mod Texts
+pub mod Lexemes
+pub mod ShowExprs
+pub mod ShowScripts
+pub mod ShowTexts
