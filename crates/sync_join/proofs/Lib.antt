@@ -6,3 +6,5 @@ pub mod Leaving
 pub mod States
 pub mod Rearranged
 pub mod Strategies
+pub mod Narrowing
+pub mod Ordered
