@@ -1,10 +1,13 @@
 //! Checks the example texts and the texts with their verdicts, which lie in the folder that it is run in.
 #![tactic(auto)]
 
+use sqlite_items::Items;
 use std::alloc::Global;
 use std::{fs, io};
 use sync_base::{Refusal, Stop};
 use sync_check::check;
+use sync_parse::parse;
+use sync_print::print;
 
 /// The examples, in the order in which they are checked.
 const TEXTS: [&str; 22] = [
@@ -92,6 +95,46 @@ fn print_verdict(rt: &HostRuntime, title: &str, text: &[u8]) -> io::Result<()> {
     println!(rt; "{title}: {found}")
 }
 
+/// The canonical form of a text that keeps the grammar.
+fn canonical(alloc: Global, text: &[u8]) -> Option<Items<u8>> {
+    let tree = parse(alloc, text).ok()?;
+    print(alloc, &tree).ok()
+}
+
+/// Whether a text has a canonical form that gets the same verdict, and is its own canonical form.
+fn stays_in_canonical_form(alloc: Global, text: &[u8]) -> io::Result<bool> {
+    let Some(once) = canonical(alloc, text) else {
+        return Ok(false);
+    };
+    let Some(twice) = canonical(alloc, once.as_slice()) else {
+        return Ok(false);
+    };
+    let first = verdict(alloc, text)?;
+    let again = verdict(alloc, once.as_slice())?;
+    Ok(first.as_str() == again.as_str() && once.as_slice() == twice.as_slice())
+}
+
+/// Prints the verdict of an example, and whether it stays the same in canonical form.
+fn print_example(rt: &HostRuntime, name: &str, text: &[u8]) -> io::Result<()> {
+    print_verdict(rt, name, text)?;
+    if stays_in_canonical_form(rt.alloc(), text)? {
+        return Ok(());
+    }
+    println!(rt; "{name}: another text in canonical form")
+}
+
+/// A text with brackets that are needed and brackets that are not.
+const BRACKETS: &[u8] =
+    b"version 1; machine M { invariant i(): (!((a = -b)) ==> ((2) * (3 * c) - (d + 007) < nil)) && !(a != b); } proofs { }";
+
+/// Prints a text in canonical form.
+fn print_canonical(rt: &HostRuntime, text: &[u8]) -> io::Result<()> {
+    match canonical(rt.alloc(), text) {
+        Some(bytes) => println!(rt; "{}", str::from_utf8(bytes.as_slice()).unwrap_or("")),
+        None => println!(rt; "no canonical form"),
+    }
+}
+
 /// Whether a text gets the verdict that stands in the line before it; prints those that get another.
 fn is_as_wanted(rt: &HostRuntime, case: &str) -> io::Result<bool> {
     let (wanted, text) = case.split_once('\n').unwrap_or((case, ""));
@@ -138,8 +181,10 @@ fn print_large(rt: &HostRuntime) -> io::Result<()> {
 fn main(rt: HostRuntime) -> io::Result<()> {
     for name in TEXTS {
         let text = fs::read(&rt, name)?;
-        print_verdict(&rt, name, &text)?;
+        print_example(&rt, name, &text)?;
     }
+    print_canonical(&rt, b"version 1;\nmachine Z { }\nproofs { }\n")?;
+    print_canonical(&rt, BRACKETS)?;
     let list = fs::read_to_string(&rt, "verdicts.txt")?;
     print_verdicts(&rt, list.as_str())?;
     print_large(&rt)

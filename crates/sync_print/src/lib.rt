@@ -7,6 +7,3 @@ mod machines;
 mod scripts;
 
 pub use machines::print;
-
-#[cfg(test)]
-mod tests;
