@@ -51,6 +51,17 @@ fn table_says_what_is_allowed(rt: HostRuntime) -> Result<(), Fail> {
     Ok(())
 }
 
+// `allowed` tells which entries are 1; the others are 0.
+#[test]
+fn every_entry_is_0_or_1(rt: HostRuntime) -> Result<(), Fail> {
+    for row in 0..9usize {
+        for column in 0..13usize {
+            assert!(rt; MATRIX.at(row, column) <= 1);
+        }
+    }
+    Ok(())
+}
+
 #[test]
 fn init_keeps_the_invariant(rt: HostRuntime) -> Result<(), Fail> {
     let m = machine(rt.alloc()).ok().ok_or("memory")?;
