@@ -2,13 +2,11 @@
 ghost use Rattle.sync_exchange.specs.Projection.{Projects, Initialises};
 
 /// An exchange of a transition or property by one holder is a declared step of the whole, whatever the others hold.
-#[tactic(auto, using(crate::proofs::Projecting::projects))]
 pub fn exchanges_are_steps()
     ensures { Projects }
 {}
 
 /// The exchange of an init by a holder of permissions alone is a declared start.
-#[tactic(auto, using(crate::proofs::Projecting::initialises))]
 pub fn exchanges_are_starts()
     ensures { Initialises }
 {}
