@@ -71,7 +71,7 @@ pub record Trust (fs : List Field) (o : OperationTree) (s whole : State) : Type 
   pub reading : AreReading test o.steps
   pub knows : (z : ℕ) → z < length fs → test z ≡ true → ((is_kept (strategy_at fs z) ≡ true) ⊎ (get_or whole z nothing ≡ get_or s z nothing)) ⊎ (is_some (field_slot fs o.steps z) ≡ true)
 
-at-hand-cases : (a b c : Bool) → a ≡ true → (not a || b || c) ≡ true → (b ≡ true) ⊎ (c ≡ true)
+pub at-hand-cases : (a b c : Bool) → a ≡ true → (not a || b || c) ≡ true → (b ≡ true) ⊎ (c ≡ true)
 at-hand-cases true true c e h = inl refl
 at-hand-cases true false c e h = inr h
 at-hand-cases false b c e h = absurd (cc)

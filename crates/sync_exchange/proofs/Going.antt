@@ -40,7 +40,7 @@ same-at z v w e = record { number = ap (λ (u : Valuation). u.number z) e; mappi
 pub same-through : (z : ℕ) (u v w : Valuation) → IsSameAt z u v → IsSameAt z v w → IsSameAt z u w
 same-through z u v w a b = record { number = a.number ∙ b.number; mapping = a.mapping ∙ b.mapping }
 
-not_equal : (z y : ℕ) → (y ≡ z → ⊥) → nat_eq z y ≡ false
+pub not_equal : (z y : ℕ) → (y ≡ z → ⊥) → nat_eq z y ≡ false
 not_equal z y h = cases (nat_eq z y) refl where
   cases : (b : Bool) → nat_eq z y ≡ b → b ≡ false
   cases true e = absurd (h (sym (eqb-true z y e)))
@@ -55,7 +55,7 @@ binding-other (Some y) n x z h =
 revaluing-names : (f : ℕ) (n : ℤ) (x : Exchanging) → x.names ≡ (revaluing f n x).names
 revaluing-names f n x = either (token_name f x.variables) (x.names ≡ (revaluing f n x).names) (λ none. rw none refl) (λ name some. rw some refl)
 
-started-names : (s : Strategy) (f : ℕ) (w : Value) (x : Exchanging) → x.names ≡ (started s f w x).names
+pub started-names : (s : Strategy) (f : ℕ) (w : Value) (x : Exchanging) → x.names ≡ (started s f w x).names
 started-names Variable f w x = revaluing-names f (number_of w) x
 started-names Constant f w x = refl
 started-names NotTokenized f w x = refl
@@ -70,7 +70,7 @@ started-names PersistentSet f w x = refl
 started-names PersistentCount f w x = refl
 started-names StorageMap f w x = refl
 
-updated-names : (s : Strategy) (f : ℕ) (w : Value) (x : Exchanging) → x.names ≡ (updated s f w x).names
+pub updated-names : (s : Strategy) (f : ℕ) (w : Value) (x : Exchanging) → x.names ≡ (updated s f w x).names
 updated-names Variable f w x = revaluing-names f (number_of w) x
 updated-names Constant f w x = refl
 updated-names NotTokenized f w x = refl

@@ -1,12 +1,11 @@
 -- An exchange of an init by a holder of permissions is a declared start.
-use Rattle.std.proofs.Common.{◌≡◌, ◌≢◌, ℕ, zero, suc, ◌+◌, ◌<◌, ◌≤◌, ℤ, pos, ◌≤ℤ◌, Bool, true, false, not, ◌&&◌, ◌||◌, List, [], ◌∷◌, ◌++◌, length, map, get_or, append_assoc, filter_map, count_by, Option, Some, None, is_some, is_none, Result, Ok, Err, inl, inr, ◌⊎◌, refl, sym, ap, subst, ◌∙◌, arith, cond, if◌then◌else◌, nat_eq, nat_lt, slice_get}
+use Rattle.std.proofs.Common.{◌≡◌, ℕ, zero, suc, ◌+◌, ◌<◌, ◌≤◌, ℤ, pos, ◌≤ℤ◌, Bool, true, false, not, ◌||◌, List, [], ◌∷◌, ◌++◌, length, get_or, Option, Some, None, is_none, Ok, inl, inr, ◌⊎◌, refl, sym, ap, subst, ◌∙◌, arith, cond, nat_eq, nat_lt, slice_get}
 use Rattle.std.specs.Prelude.{Contains}
 use Rattle.std.specs.List.{AllByRecursion, range_with_len, list_all}
 use Rattle.std.proofs.lemmas.Bool.{eqb-true, eq-eqb, le-ltb}
 use Rattle.std.proofs.lemmas.List.{length-map}
 use Rattle.std.proofs.lemmas.List.Folds.{list_any-append}
 use Rattle.sync_base.specs.Outcome.{◌>>=◌}
-use Rattle.sync_base.specs.declared.stops.Rule.{Rule}
 use Rattle.sync_base.specs.declared.stops.Rule.TheVariants.{N4}
 use Rattle.sync_terms.specs.Trees.{Tree, Nil}
 use Rattle.sync_terms.specs.Values.{Valuation}
@@ -18,7 +17,7 @@ use Rattle.sync_machine.specs.Machines.{PlaceTree, PatternTree, Bind, Term, ActT
 use Rattle.sync_machine.specs.Machines as acts
 use Rattle.sync_machine.specs.Statements.{field_of}
 use Rattle.sync_machine.specs.States.{Value, Number, Mapped, Sort, Numbers, Maps, State, IsInit, AreGiven, Starts, sort_of, strategy_at, blank, first_values, last_values, values_in, AreMet, IsKeptSafe}
-use Rattle.sync_machine.specs.Naming.{broken, bound_names, is_in, is_started, start_fault, IsTextName}
+use Rattle.sync_machine.specs.Naming.{bound_names, is_in, is_started, start_fault, IsTextName}
 use Rattle.sync_rules.specs.Order.{may_start}
 use Rattle.sync_rules.specs.Locality.{names_only, key_names_only, pattern_names_only, place_names_only, is_local, is_variable, has_local_terms}
 use Rattle.sync_join.specs.declared.tokens.Token.{Token}
@@ -27,8 +26,8 @@ use Rattle.sync_join.specs.Join.{tokens_of, record_at, value_at, joined}
 use Rattle.sync_join.proofs.States.{joined-state}
 use Rattle.sync_join.proofs.Through.{append-nothing}
 use Rattle.sync_exchange.specs.declared.hands.Held.{Held}
-use Rattle.sync_exchange.specs.Exchange.{exchange_in, Exchanged, Exchanging, tokens_in, token_name, argument, beginning, variable_slots, use_variables, does_all}
-use Rattle.sync_exchange.specs.Projection.{AreNames, ArePermissions, IsBlank, AreBlank, IsProved, Begins}
+use Rattle.sync_exchange.specs.Exchange.{Exchanging, tokens_in, token_name, argument, beginning, variable_slots, use_variables, does_all}
+use Rattle.sync_exchange.specs.Projection.{AreNames, ArePermissions, IsBlank, AreBlank, Begins, Initialises}
 use Rattle.sync_exchange.proofs.Terms.{only-more, form-only-more, and_left, and_right, and_both}
 use Rattle.sync_exchange.proofs.OneStrategy.{perm-other}
 use Rattle.sync_exchange.proofs.Passing.{bind-ok}
@@ -36,7 +35,7 @@ use Rattle.sync_exchange.proofs.Lawful.{reads_only}
 use Rattle.sync_exchange.proofs.Standing.{bag_of, Stands, IsReady}
 use Rattle.sync_exchange.proofs.Doing.{no-permission}
 use Rattle.sync_exchange.proofs.Going.{IsSameAt, AreLawful, AreUsed, AreDone, total_gives, known-in, names-kept_all, going}
-use Rattle.sync_exchange.proofs.Rules.{IsRegular, AreRuled, AreReading, regular, are-lawful}
+use Rattle.sync_exchange.proofs.Rules.{broken-none, IsRegular, AreRuled, AreReading, regular, are-lawful}
 use Rattle.sync_exchange.proofs.Whole.{values-list, params-apart, are-given}
 use Rattle.sync_exchange.proofs.Trusting.{past-end}
 use Rattle.sync_exchange.proofs.Owning.{names-once, names-enough}
@@ -102,10 +101,6 @@ module _ (fs : List Field) where
   all-inside test params before (s ∷ ss) laws = (laws.0.inside, all-inside test params (before ++ s ∷ []) ss laws.2)
 
 -- ---- each field gets its first value once
-
-broken-none : (b : Bool) (r : Rule) → broken b r ≡ None → b ≡ false
-broken-none true r e = absurd (cc)
-broken-none false r e = refl
 
 not-false : (b : Bool) → not b ≡ false → b ≡ true
 not-false true e = refl
@@ -312,15 +307,7 @@ module _ (fit : ℤ → Bool) (m : MachineTree) (o : OperationTree) (args : List
       }
 
 -- the theorem for numbers within any bound
-abbrev pub InitialisesIn : (ℤ → Bool) → Type 0
-InitialisesIn fit = (m : MachineTree) → IsProved m → (o : OperationTree) → Contains m.ops o → IsInit o
-    → (args : List ℤ) → length args ≡ length o.params
-    → (tokens given : List ℕ) (hand : List Held) → AreNames m.fields o tokens given hand
-    → ArePermissions (tokens_in hand) → (kept : Kept) → AreBlank m.fields kept.records → kept.stored ≡ []
-    → (whole : State) (x : Exchanged) → exchange_in fit m.fields o args tokens given whole hand kept ≡ Ok x
-    → Begins m o args (tokens_in x.hand) x.kept
-
-pub initialises-in : (fit : ℤ → Bool) → InitialisesIn fit
+pub initialises-in : (fit : ℤ → Bool) → Initialises fit
 initialises-in fit m proved o has init args long tokens given hand names perms kept blanks empty whole x e =
     let rules = regular m proved.symbols proved.named proved.strategies o has in
     let out = outcome-ok (use_variables (variable_slots m.fields o) (beginning m.fields o args tokens given whole hand kept) >>= does_all fit m.fields o.steps) x e in

@@ -22,3 +22,6 @@ pub mod FirstValues
 pub mod Opening
 pub mod Initialising
 pub mod Projecting
+pub mod Fitting
+pub mod Unread
+pub mod Plainness

@@ -8,6 +8,7 @@ use Rattle.sync_machine.specs.declared.fields.Field.{Field}
 use Rattle.sync_machine.specs.Machines.{ActTree, StepTree, OperationTree}
 use Rattle.sync_machine.specs.Machines as acts
 use Rattle.sync_machine.specs.States.{strategy_at}
+use Rattle.sync_join.proofs.Through.{append-nothing}
 use Rattle.sync_slots.specs.declared.slots.Role.TheVariants.{Given}
 use Rattle.sync_slots.specs.Slots.{SlotTree, only_if, value_slot, has_amounts, act_slot, statement_slot, field_slot}
 use Rattle.sync_exchange.specs.declared.hands.Held.{Held}
@@ -41,10 +42,6 @@ times-contains z (y ∷ ys) h = cases (nat_eq z y) refl h (times-contains z ys) 
   cases : (b : Bool) → nat_eq z y ≡ b → 1 ≤ (if b then 1 else 0) + times z ys → (1 ≤ times z ys → Contains ys z) → Contains (y ∷ ys) z
   cases true e k later = (zero, omega arith, sym (eqb-true z y e))
   cases false e k later = let (i, lt, is) = later (omega (arith, k)) in (suc i, omega (arith, lt), is)
-
-append-nothing : {X : Type 0} (xs : List X) → xs ++ [] ≡ xs
-append-nothing [] = refl
-append-nothing (x ∷ xs) = ap (λ ys. x ∷ ys) (append-nothing xs)
 
 pub names-once : (fs : List Field) (o : OperationTree) (tokens given : List ℕ) (hand : List Held) → AreNames fs o tokens given hand → (name : ℕ) → holds name (hand ++ []) + times name given ≤ 1
 names-once fs o tokens given hand names name =

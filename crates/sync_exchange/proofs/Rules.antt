@@ -17,13 +17,14 @@ use Rattle.sync_machine.specs.Scope.{knows}
 use Rattle.sync_machine.specs.Naming.{broken, at_line, first_fault, bound_by, bound_names, is_in, is_fields, repeated, unknown_field, key_fault, pattern_fault, on_place, on_value, value_fault, number_fault, formula_fault, act_fault, step_fault, start_fault, is_field_name, field_fault, parameter_fault, head_fault, machine_fault, IsTextName, BindsTextName, HasTextNames, AreTextNames}
 use Rattle.sync_machine.specs.Naming as naming
 use Rattle.sync_machine.proofs.Names.{at_place}
+use Rattle.sync_machine.proofs.Checks.{first_both}
 use Rattle.sync_rules.specs.declared.kinds.OpKind.{OpKind}
 use Rattle.sync_rules.specs.Strategies.{kind_of, HasKind}
 use Rattle.sync_rules.specs.Order.{may_stand_in, is_in_order, is_only_update, keeps_still}
 use Rattle.sync_rules.specs.Locality.{key_names_only, pattern_names_only, place_names_only, has_local_terms}
 use Rattle.sync_rules.specs.Shapes.{fits}
 use Rattle.sync_rules.specs.Faults.{has_kind, asks, broken_rule, refused_at, steps_fault, operation_fault, operations_fault, strategy_fault}
-use Rattle.sync_exchange.proofs.Terms.{and_left, and_right, and_both, first_both, only-both, form-only-both, number-known, formula-known, value-known}
+use Rattle.sync_exchange.proofs.Terms.{and_left, and_right, and_both, only-both, form-only-both, number-known, formula-known, value-known}
 use Rattle.sync_exchange.proofs.Lawful.{reads_only}
 use Rattle.sync_exchange.proofs.Going.{is_known_by, AreLawful}
 
@@ -39,7 +40,7 @@ at_line-none : (line : ℕ) (o : Option Rule) → at_line line o ≡ None → o 
 at_line-none line (Some r) e = absurd (cc)
 at_line-none line None e = refl
 
-broken-none : (b : Bool) (r : Rule) → broken b r ≡ None → b ≡ false
+pub broken-none : (b : Bool) (r : Rule) → broken b r ≡ None → b ≡ false
 broken-none true r e = absurd (cc)
 broken-none false r e = refl
 

@@ -15,6 +15,7 @@ use Rattle.sync_exchange.specs.declared.hands.Held.{Held}
 use Rattle.sync_exchange.specs.Exchange.{Exchanging, held_as, without, revalued, tokens_in, token_name, next_name, later_names, binding}
 use Rattle.sync_exchange.proofs.Terms.{Same}
 use Rattle.sync_exchange.proofs.Tokens.{times, names_in, names_in-revalued, holds, holds-append, holds-without, under, held_as-more, held_as-without, held_as-revalued}
+use Rattle.sync_exchange.proofs.Strategies.{some_is}
 use Rattle.sync_exchange.proofs.Making.{Makes}
 use Rattle.sync_exchange.proofs.Lawful.{IsLawful, gives}
 
@@ -93,9 +94,6 @@ later-length (g ∷ gs) h = omega arith
 
 -- ---- variables' tokens
 
-same_some : {X : Type 0} (x y : X) → Some x ≡ Some y → x ≡ y
-same_some x y e = cc
-
 -- a token of another field has another name
 pub named-without : (vars : List (ℕ × ℕ)) (gone : ℕ) (t : Token) (hand entered : List Held) → held_as gone hand ≡ Some t
     → ((g name : ℕ) → token_name g vars ≡ Some name → t.field ≡ g → ⊥)
@@ -107,7 +105,7 @@ named-without vars gone t hand entered held other named g name e =
       cases : (b : Bool) → nat_eq name gone ≡ b → held_as name (hand ++ entered) ≡ Some (named g name e).0 → held_as name (without gone hand ++ entered) ≡ Some (named g name e).0
       cases true is found =
           let here : held_as name (hand ++ entered) ≡ Some t = held_as-more name hand entered t (ap (λ m. held_as m hand) (eqb-true name gone is) ∙ held) in
-          absurd (other g name e (ap (λ (u : Token). u.field) (same_some t _ (sym here ∙ found)) ∙ (named g name e).2))
+          absurd (other g name e (ap (λ (u : Token). u.field) (some_is t _ (sym here ∙ found)) ∙ (named g name e).2))
       cases false is found = held_as-without name gone hand entered is ∙ found
 
 pub named-given : (vars : List (ℕ × ℕ)) (hand entered : List Held) (h : Held) → AreNamed vars (hand ++ entered) → AreNamed vars (hand ++ (entered ++ h ∷ []))
@@ -137,4 +135,4 @@ binding-variables (Some z) n x = refl
 
 pub binding-own : (o : Option ℕ) (n : ℤ) (x : Exchanging) (z : ℕ) → o ≡ Some z → (binding o n x).names.number z ≡ n
 binding-own None n x z e = absurd (cc)
-binding-own (Some y) n x z e = rw (eq-eqb z y (sym (same_some y z e))) refl
+binding-own (Some y) n x z e = rw (eq-eqb z y (sym (some_is y z e))) refl

@@ -10,6 +10,7 @@ use Rattle.std.proofs.lemmas.Bool.Decides.{Decides-int_eq}
 use Rattle.std.proofs.lemmas.List.Elements.{filter-append}
 use Rattle.sync_terms.specs.Maps as maps
 use Rattle.sync_join.specs.declared.tokens.Token.{Token}
+use Rattle.sync_join.proofs.Through.{append-nothing}
 use Rattle.sync_join.specs.Join.{tokens_of, has_key, are_apart, map_of, as_map}
 use Rattle.sync_join.proofs.Maps.{get-put, same, equal}
 use Rattle.sync_join.proofs.Bags.{as_map-front}
@@ -117,7 +118,7 @@ has_key-others : (k q : ℤ) (us : List Token) → has_key q us ≡ false → ha
 has_key-others k q [] e = refl
 has_key-others k q (u ∷ us) e = key-cases q k (int_eq k u.key) (int_eq q u.key) u (others_than k us) us e (has_key-others k q us) refl
 
-not-true : (b : Bool) → not b ≡ true → b ≡ false
+pub not-true : (b : Bool) → not b ≡ true → b ≡ false
 not-true true e = absurd (cc)
 not-true false e = refl
 
@@ -160,10 +161,6 @@ own-last false t e = absurd (cc)
 none-last : (b : Bool) (t : Token) → b ≡ false → cond b (t ∷ []) [] ≡ []
 none-last true t e = absurd (cc)
 none-last false t e = refl
-
-append-nothing : {X : Type 0} (xs : List X) → xs ++ [] ≡ xs
-append-nothing [] = refl
-append-nothing (x ∷ xs) = ap (λ ys. x ∷ ys) (append-nothing xs)
 
 pub tokens_of-append : (f : ℕ) (xs ys : List Token) → tokens_of f (xs ++ ys) ≡ tokens_of f xs ++ tokens_of f ys
 tokens_of-append f xs ys = filter-append (λ (t : Token). nat_eq t.field f) xs ys

@@ -8,6 +8,7 @@ use Rattle.sync_terms.specs.Values.{Valuation, num, mapped, truth}
 use Rattle.sync_machine.specs.States.{Sort, Numbers, Maps, Number, Mapped, value_in}
 use Rattle.sync_machine.specs.Scope.{Known}
 use Rattle.sync_machine.specs.Naming.{sort_fault, number_fault, map_fault, formula_fault, value_fault}
+use Rattle.sync_machine.proofs.Checks.{first_both}
 use Rattle.sync_rules.specs.Obligations.{names, form_names}
 use Rattle.sync_rules.specs.Locality.{names_only, form_names_only}
 
@@ -51,10 +52,6 @@ or_third : (a b c : Bool) → c ≡ true → (a || b || c) ≡ true
 or_third true b c e = refl
 or_third false true c e = refl
 or_third false false c e = e
-
-pub first_both : {R : Type 0} (a b : Option R) → first a b ≡ None → (a ≡ None) × (b ≡ None)
-first_both None b e = (refl, e)
-first_both (Some r) b e = absurd (cc)
 
 -- ---- agreement
 

@@ -3,6 +3,7 @@ use Rattle.std.proofs.Common.{◌≡◌, ℕ, ◌+◌, ◌≤◌, ℤ, Bool, tru
 use Rattle.std.proofs.lemmas.Bool.{eqb-true, eq-eqb}
 use Rattle.std.proofs.lemmas.List.{map-append}
 use Rattle.sync_join.specs.declared.tokens.Token.{Token}
+use Rattle.sync_join.proofs.Through.{append-nothing}
 use Rattle.sync_exchange.specs.declared.hands.Held.{Held}
 use Rattle.sync_exchange.specs.Exchange.{held_as, without, revalued, tokens_in}
 
@@ -171,10 +172,6 @@ taken-part name t hand entered others e few =
       whole_is = ap (λ hs. tokens_in (hs ++ entered) ++ others) f.is ∙ tokens-one f.before f.behind entered (under name t) others;
       rest_is = ap (λ hs. tokens_in (hs ++ entered) ++ others) (ap (without name) f.is ∙ without-split name t f.before f.behind f.none_before f.none_behind) ∙ tokens-none f.before f.behind entered others;
     }
-
-append-nothing : {X : Type 0} (xs : List X) → xs ++ [] ≡ xs
-append-nothing [] = refl
-append-nothing (x ∷ xs) = ap (λ ys. x ∷ ys) (append-nothing xs)
 
 -- a token that changes its value
 pub record IsRevalued (t : Token) (n : ℤ) (old new : List Token) : Type 0 where

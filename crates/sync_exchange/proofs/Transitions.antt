@@ -11,7 +11,7 @@ use Rattle.sync_terms.specs.Values.{Valuation}
 use Rattle.sync_machine.specs.declared.fields.Field.{Field}
 use Rattle.sync_machine.specs.Machines.{ActTree, StepTree, OperationTree, MachineTree}
 use Rattle.sync_machine.specs.Machines as acts
-use Rattle.sync_machine.specs.States.{IsReached, State, IsInit, IsAt, AreGiven, strategy_at, last_values, first_values, values_in, AreMet, IsKeptSafe}
+use Rattle.sync_machine.specs.States.{State, IsInit, IsAt, AreGiven, strategy_at, last_values, first_values, values_in, AreMet, IsKeptSafe}
 use Rattle.sync_machine.specs.Naming.{bound_names, is_in, IsTextName}
 use Rattle.sync_machine.proofs.Names.{at_place}
 use Rattle.sync_rules.specs.Strategies.{kind_of}
@@ -21,9 +21,9 @@ use Rattle.sync_join.specs.Join.{join_of, value_at}
 use Rattle.sync_join.proofs.States.{joined-state}
 use Rattle.sync_slots.specs.Slots.{field_slot}
 use Rattle.sync_exchange.specs.declared.hands.Held.{Held}
-use Rattle.sync_exchange.specs.Exchange.{exchange_in, Exchanging, Exchanged, Answer, outcome, tokens_in, token_name, argument, beginning, variable_slots, use_variables, does_all}
+use Rattle.sync_exchange.specs.Exchange.{Exchanging, Exchanged, Answer, outcome, tokens_in, token_name, argument, beginning, variable_slots, use_variables, does_all}
 use Rattle.sync_exchange.specs.Plain.{is_plain}
-use Rattle.sync_exchange.specs.Projection.{AreNames, IsProved, LeadsOn}
+use Rattle.sync_exchange.specs.Projection.{AreNames, LeadsOn, Projects}
 use Rattle.sync_exchange.proofs.Terms.{Same}
 use Rattle.sync_exchange.proofs.Passing.{bind-ok}
 use Rattle.sync_exchange.proofs.Standing.{bag_of, Moves}
@@ -164,17 +164,7 @@ module _ (fit : ℤ → Bool) (m : MachineTree) (o : OperationTree) (args : List
       }
 
 -- the theorem for numbers within any bound
-abbrev pub ProjectsIn : (ℤ → Bool) → Type 0
-ProjectsIn fit = (m : MachineTree) → IsProved m → (o : OperationTree) → Contains m.ops o → (IsInit o → ⊥)
-    → (args : List ℤ) → length args ≡ length o.params
-    → (tokens given : List ℕ) (hand : List Held) → AreNames m.fields o tokens given hand
-    → (others : List Token) (kept : Kept) → AreSoundShards m.fields (tokens_in hand ++ others) kept
-    → (s : State) → join_of m.fields (tokens_in hand ++ others) kept ≡ Some s → IsReached m s
-    → (whole : State) → (whole ≡ s) ⊎ (is_plain m.fields o ≡ true)
-    → (x : Exchanged) → exchange_in fit m.fields o args tokens given whole hand kept ≡ Ok x
-    → LeadsOn m s o args (tokens_in x.hand ++ others) x.kept
-
-pub projects-in : (fit : ℤ → Bool) → ProjectsIn fit
+pub projects-in : (fit : ℤ → Bool) → Projects fit
 projects-in fit m proved o has other args long tokens given hand names others kept sound s joined reached whole either x e =
     let rules = regular m proved.symbols proved.named proved.strategies o has in
     let out = outcome-ok (use_variables (variable_slots m.fields o) (beginning m.fields o args tokens given whole hand kept) >>= does_all fit m.fields o.steps) x e in

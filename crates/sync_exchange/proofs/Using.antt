@@ -1,5 +1,5 @@
 -- The slots of variables in a transition or property: their tokens are read, and their values are those of the state.
-use Rattle.std.proofs.Common.{◌≡◌, ℕ, ◌<◌, ℤ, pos, Bool, true, false, not, List, [], ◌∷◌, ◌++◌, length, get_or, filter_map, Option, Some, None, is_some, Ok, refl, sym, ap, subst, ◌∙◌, if◌then◌else◌, nat_eq, nat_lt}
+use Rattle.std.proofs.Common.{◌≡◌, ℕ, ◌<◌, ℤ, pos, Bool, true, false, List, [], ◌∷◌, ◌++◌, length, get_or, filter_map, Option, Some, None, is_some, Ok, refl, sym, ap, subst, ◌∙◌, if◌then◌else◌, nat_eq, nat_lt}
 use Rattle.std.specs.List.{AllByRecursion, cons_option}
 use Rattle.std.proofs.lemmas.Bool.{eqb-true, eq-eqb, lt-ltb}
 use Rattle.sync_base.specs.Outcome.{first}
@@ -28,6 +28,7 @@ use Rattle.sync_exchange.proofs.Terms.{and_left}
 use Rattle.sync_exchange.proofs.Tokens.{held_as-more, taken-part}
 use Rattle.sync_exchange.proofs.Making.{part-own}
 use Rattle.sync_exchange.proofs.Strategies.{some_is}
+use Rattle.sync_exchange.proofs.Storing.{not-true}
 use Rattle.sync_exchange.proofs.Passing.{unless-ok, ok_is, bind-ok, named-ok}
 use Rattle.sync_exchange.proofs.Standing.{bag_of, Stands, few-held}
 use Rattle.sync_exchange.proofs.OneStrategy.{variable-only, only-variable}
@@ -76,10 +77,6 @@ field-slot fs ss x sl e = if-some (is_variable (strategy_at fs x)) (variable_slo
 
 abbrev pub HasNoInit : List StepTree → Type 0
 HasNoInit ss = AllByRecursion (λ (s : StepTree). is_first_value (kind_of s.act) ≡ false) ss
-
-not-true : (b : Bool) → not b ≡ true → b ≡ false
-not-true true e = absurd (cc)
-not-true false e = refl
 
 still-no-init : (a : ActTree) → keeps_still mode.Property a ≡ true → is_first_value (kind_of a) ≡ false
 unfolding kind_of statements.changed_by

@@ -14,16 +14,16 @@ use Rattle.sync_machine.specs.declared.fields.Strategy.TheVariants.{Variable, Co
 use Rattle.sync_machine.specs.declared.fields.OpMode.{OpMode}
 use Rattle.sync_machine.specs.declared.fields.OpMode.TheVariants as mode
 use Rattle.sync_machine.specs.States.{Value, Number, Mapped, Sort, Numbers, Maps, State, StandsFor, IsAtFrom, AreGiven, sort_of, strategy_at, value_in, values_in, first_values}
-use Rattle.sync_machine.specs.Naming.{broken, first_fault, is_in, is_fields, repeated, parameter_fault}
-use Rattle.sync_base.specs.declared.stops.Rule.{Rule}
+use Rattle.sync_machine.specs.Naming.{first_fault, is_in, is_fields, repeated, parameter_fault}
 use Rattle.sync_base.specs.declared.stops.Rule.TheVariants.{N2}
+use Rattle.sync_machine.proofs.Checks.{first_both}
 use Rattle.sync_join.specs.declared.tokens.Token.{Token}
 use Rattle.sync_join.specs.Shards.{Kept, IsOf}
 use Rattle.sync_join.specs.Join.{tokens_of, joined, value_at, join_of, record_at, map_of, entries_of, number_of, only_value, as_map, counts_of, sum_of, borne_out}
 use Rattle.sync_join.proofs.States.{state-joined}
 use Rattle.sync_exchange.specs.Exchange.{seen, argument}
 use Rattle.sync_exchange.specs.Plain.{is_kept}
-use Rattle.sync_exchange.proofs.Terms.{first_both}
+use Rattle.sync_exchange.proofs.Rules.{broken-none}
 use Rattle.sync_exchange.proofs.Strategies.{some_is, borne_is}
 use Rattle.sync_exchange.proofs.Storing.{as_map-parts}
 
@@ -170,10 +170,6 @@ values-list v g n (f ∷ fs) (t ∷ ts) long h =
 abbrev pub AreApart : List ℕ → Type 0
 AreApart [] = Unit {0}
 AreApart (p ∷ ps) = AllByRecursion (λ (r : ℕ). nat_eq r p ≡ false) ps × AreApart ps
-
-broken-none : (b : Bool) (r : Rule) → broken b r ≡ None → b ≡ false
-broken-none true r e = absurd (cc)
-broken-none false r e = refl
 
 or-false : (a b : Bool) → (a || b) ≡ false → (a ≡ false) × (b ≡ false)
 or-false true b e = absurd (cc)

@@ -5,11 +5,11 @@
 -- statements say. Nobody looks at whether an added place is free: that is the machine's proof.
 --
 -- `fits` says which numbers are within the bound. With no bound the exchange never ends by `Width`.
-use Rattle.std.specs.Prelude.{◌≡◌, ℕ, suc, ℤ, pos, List, [], ◌∷◌, ◌++◌, length, map, Bool, true, false, not, ◌&&◌, nat_eq, nat_lt, if◌then◌else◌, Option, Some, None, Result, Ok, Err, slice_index_or, slice_set, filter_map}
-use Rattle.std.specs.List.{filter, list_any, range_with_len}
+use Rattle.std.specs.Prelude.{ℕ, suc, ℤ, pos, List, [], ◌∷◌, ◌++◌, length, map, Bool, true, false, not, ◌&&◌, nat_eq, nat_lt, if◌then◌else◌, Option, Some, None, Result, Ok, Err, slice_index_or, slice_set, filter_map}
+use Rattle.std.specs.List.{filter, range_with_len}
 use Rattle.std.specs.Ordering.{int_eq}
 use Rattle.sync_base.specs.Outcome.{◌>>=◌}
-use Rattle.sync_terms.specs.Trees.{Tree, Formula, Nil}
+use Rattle.sync_terms.specs.Trees.{Tree}
 use Rattle.sync_terms.specs.Maps as maps
 use Rattle.sync_terms.specs.Values.{Valuation, num, truth, with_value}
 use Rattle.sync_machine.specs.declared.fields.Field.{Field}

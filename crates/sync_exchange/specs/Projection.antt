@@ -1,5 +1,5 @@
 -- That a local exchange is a declared step of the whole, whatever the other holders have.
-use Rattle.std.specs.Prelude.{◌≡◌, ℕ, ℤ, pos, List, [], ◌∷◌, ◌++◌, length, map, Bool, true, false, ◌⊎◌, Option, Some, None, Ok, count_by, nat_eq}
+use Rattle.std.specs.Prelude.{◌≡◌, ℕ, ℤ, pos, List, [], ◌∷◌, ◌++◌, length, map, Bool, true, false, ◌⊎◌, Some, None, Ok, count_by, nat_eq}
 use Rattle.std.specs.List.{AllByRecursion, Contains, IsDistinct}
 use Rattle.std.specs.Ordering.{int_eq}
 use Rattle.sync_machine.specs.declared.fields.Field.{Field}
@@ -15,7 +15,7 @@ use Rattle.sync_slots.specs.declared.slots.Role.{Role}
 use Rattle.sync_slots.specs.declared.slots.Role.TheVariants.{Change, Taken, Read, Given, In, Out, Seen}
 use Rattle.sync_slots.specs.Slots.{SlotTree, slots_of}
 use Rattle.sync_exchange.specs.declared.hands.Held.{Held}
-use Rattle.sync_exchange.specs.Exchange.{Exchanged, exchange_of, tokens_in}
+use Rattle.sync_exchange.specs.Exchange.{Exchanged, exchange_in, tokens_in}
 use Rattle.sync_exchange.specs.Plain.{is_plain}
 
 -- ---- names
@@ -67,15 +67,15 @@ pub record LeadsOn (m : MachineTree) (s : State) (o : OperationTree) (args : Lis
   pub step : Steps m s o args state
 
 -- Whatever the others hold: where the hand with their tokens makes a reached state, an exchange of a transition or
--- property that does not fail is a declared step of the whole.
-abbrev pub Projects : Type 0
-Projects = (m : MachineTree) → IsProved m → (o : OperationTree) → Contains m.ops o → (IsInit o → ⊥)
+-- property that does not fail is a declared step of the whole, whatever the bound of numbers.
+abbrev pub Projects : (ℤ → Bool) → Type 0
+Projects fits = (m : MachineTree) → IsProved m → (o : OperationTree) → Contains m.ops o → (IsInit o → ⊥)
     → (args : List ℤ) → length args ≡ length o.params
     → (tokens given : List ℕ) (hand : List Held) → AreNames m.fields o tokens given hand
     → (others : List Token) (kept : Kept) → AreSoundShards m.fields (tokens_in hand ++ others) kept
     → (s : State) → join_of m.fields (tokens_in hand ++ others) kept ≡ Some s → IsReached m s
     → (whole : State) → (whole ≡ s) ⊎ (is_plain m.fields o ≡ true)
-    → (x : Exchanged) → exchange_of m.fields o args tokens given whole hand kept ≡ Ok x
+    → (x : Exchanged) → exchange_in fits m.fields o args tokens given whole hand kept ≡ Ok x
     → LeadsOn m s o args (tokens_in x.hand ++ others) x.kept
 
 -- ---- starts
@@ -103,10 +103,18 @@ pub record Begins (m : MachineTree) (o : OperationTree) (args : List ℤ) (bag :
   pub start : Starts m o args state
 
 -- The exchange of an init by a holder of permissions alone, where nothing is recorded or stored, is a declared start.
-abbrev pub Initialises : Type 0
-Initialises = (m : MachineTree) → IsProved m → (o : OperationTree) → Contains m.ops o → IsInit o
+abbrev pub Initialises : (ℤ → Bool) → Type 0
+Initialises fits = (m : MachineTree) → IsProved m → (o : OperationTree) → Contains m.ops o → IsInit o
     → (args : List ℤ) → length args ≡ length o.params
     → (tokens given : List ℕ) (hand : List Held) → AreNames m.fields o tokens given hand
     → ArePermissions (tokens_in hand) → (kept : Kept) → AreBlank m.fields kept.records → kept.stored ≡ []
-    → (whole : State) (x : Exchanged) → exchange_of m.fields o args tokens given whole hand kept ≡ Ok x
+    → (whole : State) (x : Exchanged) → exchange_in fits m.fields o args tokens given whole hand kept ≡ Ok x
     → Begins m o args (tokens_in x.hand) x.kept
+
+-- ---- plain operations
+
+-- the exchange of a plain operation does not depend on the whole state
+abbrev pub ReadsNoState : (ℤ → Bool) → Type 0
+ReadsNoState fits = (m : MachineTree) → AreTextNames m → machine_fault m ≡ None → strategy_fault m ≡ None → (o : OperationTree) → Contains m.ops o → is_plain m.fields o ≡ true
+    → (args : List ℤ) (tokens given : List ℕ) (hand : List Held) (kept : Kept) (one other : State)
+    → exchange_in fits m.fields o args tokens given one hand kept ≡ exchange_in fits m.fields o args tokens given other hand kept

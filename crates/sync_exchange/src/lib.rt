@@ -5,4 +5,4 @@ mod hands;
 mod laws;
 
 pub use hands::{Bound, Hand, Held, Names, XStop};
-pub use laws::{exchanges_are_starts, exchanges_are_steps};
+pub use laws::{exchanges_are_starts, exchanges_are_steps, plain_operations_read_no_state};
