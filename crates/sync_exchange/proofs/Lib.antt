@@ -25,3 +25,14 @@ pub mod Projecting
 pub mod Fitting
 pub mod Unread
 pub mod Plainness
+pub mod Walks
+pub mod Asking
+pub mod Running
+pub mod Laying
+pub mod Widening
+pub mod Keeping
+pub mod Acting
+pub mod Finishing
+pub mod Raising
+pub mod Placing
+pub mod Passages

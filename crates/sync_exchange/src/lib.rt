@@ -1,8 +1,22 @@
 //! Operations of a machine done locally, on the tokens that one holder has.
 #![tactic(auto)]
 
+mod cases;
+mod changes;
+mod evaluation;
+mod exchanging;
 mod hands;
 mod laws;
+mod scopes;
+mod splitting;
+mod statements;
+mod stores;
+mod works;
 
+pub use exchanging::exchange;
 pub use hands::{Bound, Hand, Held, Names, XStop};
-pub use laws::{exchanges_are_starts, exchanges_are_steps, plain_operations_read_no_state};
+pub use laws::{
+    bound_alone, copy_keeps, exchanges_are_starts, exchanges_are_steps, merge_keeps,
+    plain_operations_read_no_state, split_keeps,
+};
+pub use splitting::{copy_token, merge_tokens, split_token};
