@@ -125,7 +125,7 @@ fn print_example(rt: &HostRuntime, name: &str, text: &[u8]) -> io::Result<()> {
 
 /// A text with brackets that are needed and brackets that are not.
 const BRACKETS: &[u8] =
-    b"version 1; machine M { invariant i(): (!((a = -b)) ==> ((2) * (3 * c) - (d + 007) < nil)) && !(a != b); } proofs { }";
+    b"version 1; machine M { invariant i(): (!((a = -b)) ==> (2 * ((3 * c)) - (d + 007) < nil)) && !(a != b); } proofs { }";
 
 /// Prints a text in canonical form.
 fn print_canonical(rt: &HostRuntime, text: &[u8]) -> io::Result<()> {
