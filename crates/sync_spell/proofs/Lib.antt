@@ -1,0 +1,11 @@
+mod Words
+mod Levels
+mod Operands
+mod Expressions
+mod Lists
+mod Hyps
+mod Steps
+mod Scripts
+mod Acts
+mod Machines
+mod Texts
