@@ -36,3 +36,4 @@ pub mod Finishing
 pub mod Raising
 pub mod Placing
 pub mod Passages
+pub mod Meaning

@@ -66,6 +66,14 @@ pub record LeadsOn (m : MachineTree) (s : State) (o : OperationTree) (args : Lis
   pub joined : join_of m.fields bag kept ≡ Some state
   pub step : Steps m s o args state
 
+-- An exchange that leaves this hand and these records is a declared step of the whole, whatever the others hold, where the
+-- machine is proved, the names are as many as are wanted and apart, and hand, others and records make a reached state.
+abbrev pub IsStep : MachineTree → OperationTree → List ℤ → List ℕ → List ℕ → State → List Held → Kept → List Held → Kept → Type 0
+IsStep m o args tokens given whole hand kept left rest = IsProved m → Contains m.ops o → (IsInit o → ⊥) → length args ≡ length o.params → AreNames m.fields o tokens given hand
+    → (others : List Token) → AreSoundShards m.fields (tokens_in hand ++ others) kept
+    → (s : State) → join_of m.fields (tokens_in hand ++ others) kept ≡ Some s → IsReached m s → (whole ≡ s) ⊎ (is_plain m.fields o ≡ true)
+    → LeadsOn m s o args (tokens_in left ++ others) rest
+
 -- Whatever the others hold: where the hand with their tokens makes a reached state, an exchange of a transition or
 -- property that does not fail is a declared step of the whole, whatever the bound of numbers.
 abbrev pub Projects : (ℤ → Bool) → Type 0
@@ -101,6 +109,13 @@ pub record Begins (m : MachineTree) (o : OperationTree) (args : List ℤ) (bag :
   pub state : State
   pub joined : join_of m.fields bag kept ≡ Some state
   pub start : Starts m o args state
+
+-- The exchange of an init that leaves this hand and these records is a declared start, where the machine is proved, the
+-- names are as many as are wanted and apart, and the hand had permissions alone, and nothing was recorded or stored.
+abbrev pub IsStart : MachineTree → OperationTree → List ℤ → List ℕ → List ℕ → List Held → Kept → List Held → Kept → Type 0
+IsStart m o args tokens given hand kept left rest = IsProved m → Contains m.ops o → IsInit o → length args ≡ length o.params → AreNames m.fields o tokens given hand
+    → ArePermissions (tokens_in hand) → AreBlank m.fields kept.records → kept.stored ≡ []
+    → Begins m o args (tokens_in left) rest
 
 -- The exchange of an init by a holder of permissions alone, where nothing is recorded or stored, is a declared start.
 abbrev pub Initialises : (ℤ → Bool) → Type 0

@@ -10,6 +10,7 @@ ghost use Rattle.sync_join.specs.Views.{value_tree, state_tree, kept_of};
 ghost use Rattle.sync_slots.specs.Slots.{field_slot};
 ghost use Rattle.sync_exchange.specs.Exchange as exchanges;
 ghost use Rattle.sync_exchange.specs.Exchange.{exchange_in};
+ghost use Rattle.sync_exchange.specs.Projection.{IsStep, IsStart};
 ghost use Rattle.sync_exchange.specs.Outcomes.{Gives, Leaves, Exchanges};
 ghost use Rattle.sync_exchange.specs.Works.{now_of, recorded, finished, goes_through};
 
@@ -37,6 +38,27 @@ use sync_slots::variable_slots;
 /// What it costs goes with the statements, each times the tokens of the hand and the stored objects, with the terms,
 /// and with the records that change, which are copied.
 pub fn exchange(
+    alloc: Global,
+    m: &Machine,
+    op: u32,
+    args: &[i128],
+    names: &Names,
+    whole: Option<&State>,
+    hand: &mut Hand,
+    rest: &mut Rest,
+) -> Result<Bound, XStop>
+    requires ids { HasOwnIds m.now }
+    requires op { op < length m.now.ops }
+    ensures exact { (o : OperationTree) → slice_get (machine_tree m.now).ops op ≡ Some o → Exchanges result hand.new.held (kept_of rest.new) (exchange_in is_narrow m.now.fields o args.now names.now.tokens names.now.given (unwrap_or (option_map (λ s. state_tree s.now) whole.entry) []) hand.old.held (kept_of rest.old)) }
+    ensures unchanged { OnErr result ((hand.new ≡ hand.old) × (rest.new ≡ rest.old)) }
+    ensures steps { IfOk result (λ b. (o : OperationTree) → slice_get (machine_tree m.now).ops op ≡ Some o → IsStep (machine_tree m.now) o args.now names.now.tokens names.now.given (unwrap_or (option_map (λ s. state_tree s.now) whole.entry) []) hand.old.held (kept_of rest.old) hand.new.held (kept_of rest.new)) }
+    ensures starts { IfOk result (λ b. (o : OperationTree) → slice_get (machine_tree m.now).ops op ≡ Some o → IsStart (machine_tree m.now) o args.now names.now.tokens names.now.given hand.old.held (kept_of rest.old) hand.new.held (kept_of rest.new)) }
+{
+    exchange_exactly(alloc, m, op, args, names, whole, hand, rest)
+}
+
+/// The same, without what it means for the whole.
+fn exchange_exactly(
     alloc: Global,
     m: &Machine,
     op: u32,
