@@ -1,0 +1,2 @@
+-- Values of terms within a bound.
+pub mod Fitting

@@ -1,0 +1,2 @@
+//! Values of terms and formulas, with exact width.
+#![tactic(auto)]

@@ -1,0 +1,6 @@
+pub mod Maps
+pub mod Lookups
+pub mod Bags
+pub mod Through
+pub mod Leaving
+pub mod States

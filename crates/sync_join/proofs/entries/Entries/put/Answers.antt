@@ -1,0 +1,17 @@
+use Rattle.std.proofs.Common.{◌≡◌, ℤ, ap, ◌∙◌, to_z, of_z}
+use Rattle.std.proofs.lemmas.Int.{to_z-of_z}
+use Rattle.std.specs.Int.{w128}
+use Rattle.sync_terms.specs.Maps.{Map, put}
+use Rattle.sync_join.proofs.Lookups.{map_in-put}
+use Rattle.sync_join.proofs.entries.Entries.put.Goals as goal
+
+pub returns-clause-ok : goal.returns-clause-ok
+returns-clause-ok c =
+    let key = to_z w128 (of_z w128 c.args.key) in
+    let value = to_z w128 (of_z w128 c.args.value) in
+    let k : key ≡ c.args.key = to_z-of_z w128 c.args.key c.ranges.key in
+    let v : value ≡ c.args.value = to_z-of_z w128 c.args.value c.ranges.value in
+    map_in-put c.self.inside.map.entries c.insert.new.self.entries key value (λ q. c.in_ok-insert.ensures.updates.0 q)
+    ∙ ap (λ (m : Map). put m key value) c.self.view_is
+    ∙ ap (λ (q : ℤ). put c.args.self.now q value) k
+    ∙ ap (λ (w : ℤ). put c.args.self.now c.args.key w) v

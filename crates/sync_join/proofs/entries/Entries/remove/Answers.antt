@@ -1,0 +1,26 @@
+use Rattle.std.proofs.Common.{◌≡◌, ℤ, sym, ap, ◌∙◌, to_z, of_z}
+use Rattle.std.proofs.lemmas.Int.{to_z-of_z}
+use Rattle.std.specs.Int.{w128}
+use Rattle.std.specs.FinMap as finmap
+use Rattle.std.specs.Map.{lookup}
+use Rattle.std.specs.Ordering.{int_eq}
+use Rattle.sync_terms.specs.Maps.{Map, del}
+use Rattle.sync_join.proofs.Lookups.{get-map_in, map_in-del}
+use Rattle.sync_join.proofs.entries.Entries.remove.Goals as goal
+
+pub returns-clause-value : goal.returns-clause-value
+returns-clause-value c =
+    let es = c.self.inside.map.entries in
+    let k : to_z w128 (of_z w128 c.args.key) ≡ c.args.key = to_z-of_z w128 c.args.key c.ranges.key in
+    c.remove.ensures.value
+    ∙ ap (λ (q : ℤ). lookup (int_eq q) es) k
+    ∙ sym (get-map_in es c.args.key)
+    ∙ ap (λ (m : Map). finmap.get m c.args.key) c.self.view_is
+
+pub returns-clause-gone : goal.returns-clause-gone
+returns-clause-gone c =
+    let key = to_z w128 (of_z w128 c.args.key) in
+    let k : key ≡ c.args.key = to_z-of_z w128 c.args.key c.ranges.key in
+    map_in-del c.self.inside.map.entries c.remove.new.self.entries key (λ q. c.remove.ensures.updates.0 q)
+    ∙ ap (λ (m : Map). del m key) c.self.view_is
+    ∙ ap (λ (q : ℤ). del c.args.self.now q) k

@@ -1,0 +1,9 @@
+use Rattle.std.proofs.Common.{sym, ap, ◌∙◌}
+use Rattle.sync_join.specs.declared.values.Value.{Value}
+use Rattle.sync_join.specs.Join.{is_element}
+use Rattle.sync_join.specs.Views.{value_tree}
+use Rattle.sync_join.proofs.Lookups.{nil-element}
+use Rattle.sync_join.proofs.parts.is_element.Goals as goal
+
+pub returns-in-Number : goal.returns-in-Number
+returns-in-Number c = sym (ap (λ (r : Value). is_element (value_tree r) c.args.token.now) c.in-Number.is ∙ nil-element c.args.token.now.key)

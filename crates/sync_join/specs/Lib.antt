@@ -1,0 +1,5 @@
+pub mod Shards
+pub mod Join
+pub mod Widths
+pub mod Views
+pub mod Laws
