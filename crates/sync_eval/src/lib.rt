@@ -1,2 +1,12 @@
 //! Values of terms and formulas, with exact width.
 #![tactic(auto)]
+
+mod evaluation;
+mod meanings;
+mod questions;
+mod stops;
+mod values;
+
+pub use meanings::Meanings;
+pub use stops::EvalStop;
+pub use values::{map_of, number_of, truth_of};
