@@ -4,3 +4,5 @@ pub mod Bags
 pub mod Through
 pub mod Leaving
 pub mod States
+pub mod Narrowing
+pub mod Ordered

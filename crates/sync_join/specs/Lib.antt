@@ -3,3 +3,5 @@ pub mod Join
 pub mod Widths
 pub mod Views
 pub mod Laws
+pub mod Totals
+pub mod Narrow

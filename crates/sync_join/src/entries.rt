@@ -1,8 +1,11 @@
 //! Finite maps from numbers to numbers.
-ghost use Rattle.std.specs.Prelude.{◌≡◌, IfOk, OnOk, OnErr};
+ghost use Rattle.std.specs.Prelude.{◌≡◌, IfOk, OnOk, OnErr, SomeIff, FitsSigned};
 ghost use Rattle.std.specs.FinMap as finmap;
+ghost use Rattle.std.specs.Int.{w128};
+ghost use Rattle.sync_join.specs.Narrow.{HasNarrowValues};
 ghost use Rattle.sync_terms.specs.Maps as maps;
 
+use crate::totals::Total;
 use std::alloc::Global;
 use std::collections::BTreeMap;
 use std::marker::Model;
@@ -24,6 +27,10 @@ impl Model for Entries {
     ghost coded = { code coded_ℤ coded_ℤ };
 
     ghost view = { λ e. from_entries e.map.entries };
+
+    ghost use Rattle.sync_join.specs.Narrow.{HasNarrowValues};
+
+    ghost invariant = { λ e. HasNarrowValues (from_entries e.map.entries) };
 }
 
 impl Entries {
@@ -38,9 +45,30 @@ impl Entries {
 
     /// The value at a key, if it is there.
     pub fn get(&self, key: i128) -> Option<i128>
-        ensures { result ≡ finmap.get self.now key }
+        ensures value { result ≡ finmap.get self.now key }
+        ensures narrow { HasNarrowValues self.now }
     {
         self.map.get(&key).copied()
+    }
+
+    /// The number of keys.
+    pub fn len(&self) -> usize
+        ensures len { result ≡ finmap.len self.now }
+        ensures narrow { HasNarrowValues self.now }
+    {
+        self.map.len()
+    }
+
+    /// The sum of the values, none exactly where it leaves signed 128 bits. Partial sums may leave them.
+    pub fn sum(&self) -> Option<i128>
+        ensures sum { SomeIff result (FitsSigned w128 (maps.sum self.now)) (maps.sum self.now) }
+        ensures narrow { HasNarrowValues self.now }
+    {
+        let mut total = Total::zero();
+        for value in self.map.values() {
+            total = total.plus(*value);
+        }
+        total.narrow()
     }
 
     /// Puts a value at a key, in the place of the one that was there. After want of memory the map is as it was.
@@ -62,10 +90,18 @@ impl Entries {
 
     /// The same map once more.
     pub fn copy(&self) -> Result<Entries, NoMemory>
-        ensures { IfOk result (λ e. e ≡ self.now) }
+        ensures same { IfOk result (λ e. e ≡ self.now) }
+        ensures narrow { HasNarrowValues self.now }
     {
         Ok(Entries {
-            map: self.map.clone()?,
+            map: copied(&self.map)?,
         })
     }
+}
+
+/// The same entries once more.
+fn copied(map: &BTreeMap<i128, i128>) -> Result<BTreeMap<i128, i128>, NoMemory>
+    ensures { IfOk result (λ m. m.entries ≡ map.now.entries) }
+{
+    Ok(map.clone()?)
 }

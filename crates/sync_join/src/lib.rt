@@ -7,6 +7,7 @@ mod laws;
 mod parts;
 mod sums;
 mod tokens;
+mod totals;
 mod values;
 
 pub use entries::Entries;

@@ -17,7 +17,7 @@ returns-then-is_some c =
     let fits : SFits w128 t.key = search rules in
     let k : to_z w128 (of_z w128 t.key) ≡ t.key = to_z-of_z w128 t.key fits in
     let there : is_some (finmap.get c.loop-token.map t.key) ≡ true =
-    ap (λ (q : ℤ). is_some (finmap.get c.loop-token.map q)) (sym k) ∙ ap is_some (sym c.get.ensures) ∙ sym c.is_some.ensures ∙ c.if-is_some.true in
+    ap (λ (q : ℤ). is_some (finmap.get c.loop-token.map q)) (sym k) ∙ ap is_some (sym c.get.ensures.value) ∙ sym c.is_some.ensures ∙ c.if-is_some.true in
     sym (map-twice c.args.field i c.args.tokens.now d c.loop-token.map c.loop-token-test.true (is_same t.field c.args.field c.if-token-field.true) c.loop-token.invariant there)
 
 pub loop-token-preserved : goal.loop-token-preserved
@@ -33,7 +33,7 @@ loop-token-preserved c =
           let k : to_z w128 (of_z w128 t.key) ≡ t.key = to_z-of_z w128 t.key key_fits in
           let v : to_z w128 (of_z w128 t.value) ≡ t.value = to_z-of_z w128 t.value value_fits in
           let free : is_some (finmap.get m t.key) ≡ false =
-          ap (λ (q : ℤ). is_some (finmap.get m q)) (sym k) ∙ ap is_some (sym w.get.ensures) ∙ sym w.is_some.ensures ∙ w.if-is_some.false in
+          ap (λ (q : ℤ). is_some (finmap.get m q)) (sym k) ∙ ap is_some (sym w.get.ensures.value) ∙ sym w.is_some.ensures ∙ w.if-is_some.false in
           map-more c.args.field i c.args.tokens.now d m c.loop-token-test.true (is_same t.field c.args.field w.if-token-field.true) c.loop-token.invariant free
           ∙ ap Some (sym (w.map-is ∙ w.in_ok-put.ensures.ok
           ∙ ap (λ (q : ℤ). put m q (to_z w128 (of_z w128 t.value))) k ∙ ap (λ (q : ℤ). put m t.key q) v)))

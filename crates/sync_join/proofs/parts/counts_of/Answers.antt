@@ -15,7 +15,7 @@ overflow_add-before c =
     let n = c.unwrap_or-before.result in
     let long : Fits w64 (length c.args.tokens.now) = search rules in
     let within = counted-within c.args.field i c.args.tokens.now c.loop-token.counts key n c.loop-token.invariant
-    (c.unwrap_or-before.ensures ∙ ap (λ (o : Option ℤ). unwrap_or o (pos 0)) c.get.ensures) in
+    (c.unwrap_or-before.ensures ∙ ap (λ (o : Option ℤ). unwrap_or o (pos 0)) c.get.ensures.value) in
     let low : pos 0 ≤ℤ n = within.0 in
     let high : n ≤ℤ pos i = within.1 in
     let fits : SFits w128 n = omega (arith, ints) in
@@ -35,7 +35,7 @@ loop-token-preserved c =
           (let key_fits : SFits w128 t.key = search rules in
           let k : key ≡ t.key = to_z-of_z w128 t.key key_fits in
           let n = w.unwrap_or-before.result in
-          let now = w.unwrap_or-before.ensures ∙ ap (λ (o : Option ℤ). unwrap_or o (pos 0)) w.get.ensures in
+          let now = w.unwrap_or-before.ensures ∙ ap (λ (o : Option ℤ). unwrap_or o (pos 0)) w.get.ensures.value in
           let within = counted-within c.args.field i c.args.tokens.now c.loop-token.counts key n c.loop-token.invariant now in
           let low : pos 0 ≤ℤ n = within.0 in
           let high : n ≤ℤ pos i = within.1 in

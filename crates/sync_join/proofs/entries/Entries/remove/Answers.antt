@@ -1,11 +1,13 @@
-use Rattle.std.proofs.Common.{◌≡◌, ℤ, sym, ap, ◌∙◌, to_z, of_z}
+use Rattle.std.proofs.Common.{◌≡◌, ℤ, sym, ap, subst, ◌∙◌, to_z, of_z}
 use Rattle.std.proofs.lemmas.Int.{to_z-of_z}
 use Rattle.std.specs.Int.{w128}
 use Rattle.std.specs.FinMap as finmap
 use Rattle.std.specs.Map.{lookup}
 use Rattle.std.specs.Ordering.{int_eq}
 use Rattle.sync_terms.specs.Maps.{Map, del}
-use Rattle.sync_join.proofs.Lookups.{get-map_in, map_in-del}
+use Rattle.sync_join.specs.Narrow.{HasNarrowValues}
+use Rattle.sync_join.proofs.Lookups.{map_in, get-map_in, map_in-del}
+use Rattle.sync_join.proofs.Narrowing.{narrow-del}
 use Rattle.sync_join.proofs.entries.Entries.remove.Goals as goal
 
 pub returns-clause-value : goal.returns-clause-value
@@ -24,3 +26,9 @@ returns-clause-gone c =
     map_in-del c.self.inside.map.entries c.remove.new.self.entries key (λ q. c.remove.ensures.updates.0 q)
     ∙ ap (λ (m : Map). del m key) c.self.view_is
     ∙ ap (λ (q : ℤ). del c.args.self.now q) k
+
+pub invariant_of-self : goal.invariant_of-self
+invariant_of-self c =
+    let key = to_z w128 (of_z w128 c.args.key) in
+    subst HasNarrowValues (sym (map_in-del c.self.inside.map.entries c.remove.new.self.entries key (λ q. c.remove.ensures.updates.0 q)))
+    (narrow-del (map_in c.self.inside.map.entries) key c.self.invariant)
