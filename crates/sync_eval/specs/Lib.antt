@@ -1,3 +1,4 @@
 -- Values of terms within a bound.
 pub mod Fitting
 pub mod Narrow
+pub mod Steps

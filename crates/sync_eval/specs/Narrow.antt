@@ -1,5 +1,7 @@
 -- Numbers within signed 128 bits, as a test.
-use Rattle.std.specs.Prelude.{ℤ, pos, negsuc, ◌+◌, ◌-◌, ◌^◌, Bool, ◌&&◌, int_lt}
+use Rattle.std.specs.Prelude.{ℤ, pos, negsuc, ◌^◌, Bool, nat_lt}
 
+-- `negsuc n` is -(n + 1)
 abbrev pub is_narrow : ℤ → Bool
-is_narrow n = int_lt (negsuc (2 ^ 127)) n && int_lt n (pos (2 ^ 127))
+is_narrow (pos n) = nat_lt n (2 ^ 127)
+is_narrow (negsuc n) = nat_lt n (2 ^ 127)

@@ -1,8 +1,10 @@
 //! Values of terms and formulas, with exact width.
 #![tactic(auto)]
 
+mod changes;
 mod evaluation;
 mod meanings;
+mod operators;
 mod questions;
 mod stops;
 mod values;
