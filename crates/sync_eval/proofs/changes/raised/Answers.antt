@@ -65,5 +65,5 @@ returns-else-count-gt0 c =
     let old : c.unwrap_or-old.result ≡ maps.get m c.args.key = c.unwrap_or-old.ensures ∙ ap (λ (o : Option ℤ). unwrap_or o (pos 0)) c.get.ensures.value ∙ ap (λ (q : ℤ). maps.get m q) k in
     let sum : (to_z w128 (of_z w128 c.unwrap_or-old.result) +ℤ to_z w128 (of_z w128 c.args.count)) ≡ maps.get m c.args.key +ℤ c.args.count = ap (λ (z : ℤ). z +ℤ to_z w128 (of_z w128 c.args.count)) (o ∙ old) ∙ ap (λ (z : ℤ). maps.get m c.args.key +ℤ z) n in
     let low = c.if-count-gt0.false in
-    gone_ok m c.remove.new.self c.args.key c.args.count c.get.ensures.narrow (subst (FitsSigned w128) old fits) c.ranges.count (λ w. c.in-None.ensures (subst (FitsSigned w128) (sym sum) w)) (omega (arith, ints, low, n))
-    (c.remove.ensures.gone ∙ ap (λ (q : ℤ). maps.del m q) k)
+    gone_ok m c.remove-else-count-gt0.new.self c.args.key c.args.count c.get.ensures.narrow (subst (FitsSigned w128) old fits) c.ranges.count (λ w. c.in-None.ensures (subst (FitsSigned w128) (sym sum) w)) (omega (arith, ints, low, n))
+    (c.remove-else-count-gt0.ensures.gone ∙ ap (λ (q : ℤ). maps.del m q) k)

@@ -19,7 +19,8 @@ number-returns-in-Name g t c =
     let v = g.M.Meanings.meaning c.args.self.now.names.now in
     let s = c.args.self.now.terms.now in
     let f : FitsSigned w128 c.number.result = search rules in
-    name_at v s c.args.t c.term.result c.in-Name.x c.number.result c.in-Name.is c.term.ensures.value f c.number.ensures
+    let z = to_z-of_z w128 c.number.result f in
+    name_at v s c.args.t c.term.result c.in-Name.x (to_z w128 (of_z w128 c.number.result)) c.in-Name.is c.term.ensures.value (subst (FitsSigned w128) (sym z) f) (z ∙ c.number.ensures)
 
 pub number-returns-in-Add : goal.number-returns-in-Add
 number-returns-in-Add g t c =

@@ -17,8 +17,9 @@ returns-in-Get-clause-answer c =
     let m = c.args.map.now in
     let key : FitsSigned w128 c.in-Get.key = search rules in
     let fits : FitsSigned w128 c.unwrap_or.result = search rules in
-    at_question c.args.self (question.Get c.in-Get.key) m c.unwrap_or.result c.in-Get.is fits
-    (c.unwrap_or.ensures ∙ ap (λ (o : Option ℤ). unwrap_or o (pos 0)) c.get.ensures.value ∙ ap (λ (q : ℤ). maps.get m q) (to_z-of_z w128 c.in-Get.key key))
+    let same = to_z-of_z w128 c.unwrap_or.result fits in
+    at_question c.args.self (question.Get c.in-Get.key) m (to_z w128 (of_z w128 c.unwrap_or.result)) c.in-Get.is (subst (FitsSigned w128) (sym same) fits)
+    (same ∙ c.unwrap_or.ensures ∙ ap (λ (o : Option ℤ). unwrap_or o (pos 0)) c.get.ensures.value ∙ ap (λ (q : ℤ). maps.get m q) (to_z-of_z w128 c.in-Get.key key))
 
 pub returns-in-Get-clause-narrow : goal.returns-in-Get-clause-narrow
 returns-in-Get-clause-narrow c = values_narrow c.args.map.now c.get.ensures.narrow
