@@ -180,18 +180,18 @@ pub empty_at : (v : Valuation) (s : Stored) (t : TermId) (n : Node) (e : Map) �
     → MapAt v s t (Ok e)
 empty_at v s t n e value is h =
     subst (λ x. Evaluates (Ok e) (mapped v x) (map_fits is_narrow v x)) value (no_map v s n e (none n h) is) where
-  none : (n : Node)
-    → (n ≡ node.Nil) ⊎ (((k : ℤ) × (n ≡ node.Lit k)) ⊎ (((a : TermId) × (b : TermId) × (n ≡ node.Add a b)) ⊎ (((a : TermId) × (b : TermId) × (n ≡ node.Sub a b)) ⊎ (((k : ℤ) × (a : TermId) × (n ≡ node.Scale k a)) ⊎ (((m : TermId) × (k : TermId) × (n ≡ node.Get m k)) ⊎ (((m : TermId) × (k : TermId) × (n ≡ node.Has m k)) ⊎ (((m : TermId) × (n ≡ node.Size m)) ⊎ ((m : TermId) × (n ≡ node.Sum m)))))))))
-    → IsNoMap n
-  none n (inl e) = subst IsNoMap (sym e) tt
-  none n (inr (inl e)) = subst IsNoMap (sym e.1) tt
-  none n (inr (inr (inl e))) = subst IsNoMap (sym e.2) tt
-  none n (inr (inr (inr (inl e)))) = subst IsNoMap (sym e.2) tt
-  none n (inr (inr (inr (inr (inl e))))) = subst IsNoMap (sym e.2) tt
-  none n (inr (inr (inr (inr (inr (inl e)))))) = subst IsNoMap (sym e.2) tt
-  none n (inr (inr (inr (inr (inr (inr (inl e))))))) = subst IsNoMap (sym e.2) tt
-  none n (inr (inr (inr (inr (inr (inr (inr (inl e)))))))) = subst IsNoMap (sym e.1) tt
-  none n (inr (inr (inr (inr (inr (inr (inr (inr e)))))))) = subst IsNoMap (sym e.1) tt
+      none : (n : Node)
+          → (n ≡ node.Nil) ⊎ (((k : ℤ) × (n ≡ node.Lit k)) ⊎ (((a : TermId) × (b : TermId) × (n ≡ node.Add a b)) ⊎ (((a : TermId) × (b : TermId) × (n ≡ node.Sub a b)) ⊎ (((k : ℤ) × (a : TermId) × (n ≡ node.Scale k a)) ⊎ (((m : TermId) × (k : TermId) × (n ≡ node.Get m k)) ⊎ (((m : TermId) × (k : TermId) × (n ≡ node.Has m k)) ⊎ (((m : TermId) × (n ≡ node.Size m)) ⊎ ((m : TermId) × (n ≡ node.Sum m)))))))))
+          → IsNoMap n
+      none n (inl e) = subst IsNoMap (sym e) tt
+      none n (inr (inl e)) = subst IsNoMap (sym e.1) tt
+      none n (inr (inr (inl e))) = subst IsNoMap (sym e.2) tt
+      none n (inr (inr (inr (inl e)))) = subst IsNoMap (sym e.2) tt
+      none n (inr (inr (inr (inr (inl e))))) = subst IsNoMap (sym e.2) tt
+      none n (inr (inr (inr (inr (inr (inl e)))))) = subst IsNoMap (sym e.2) tt
+      none n (inr (inr (inr (inr (inr (inr (inl e))))))) = subst IsNoMap (sym e.2) tt
+      none n (inr (inr (inr (inr (inr (inr (inr (inl e)))))))) = subst IsNoMap (sym e.1) tt
+      none n (inr (inr (inr (inr (inr (inr (inr (inr e)))))))) = subst IsNoMap (sym e.1) tt
 
 -- ---- questions
 

@@ -29,7 +29,12 @@ pub fn number_of<M: Meanings>(
     ensures fits { OnOk result (number_fits is_narrow (M.meaning names.now) (tree terms.now t) ≡ true) }
     ensures width { result ≡ Err Width → number_fits is_narrow (M.meaning names.now) (tree terms.now t) ≡ false }
 {
-    Evaluation { alloc, terms, names }.number(t)
+    Evaluation {
+        alloc,
+        terms,
+        names,
+    }
+    .number(t)
 }
 
 /// The map that a stored term is. It stops as `number_of` does.
@@ -44,7 +49,12 @@ pub fn map_of<M: Meanings>(
     ensures fits { OnOk result (map_fits is_narrow (M.meaning names.now) (tree terms.now t) ≡ true) }
     ensures width { result ≡ Err Width → map_fits is_narrow (M.meaning names.now) (tree terms.now t) ≡ false }
 {
-    Evaluation { alloc, terms, names }.map(t)
+    Evaluation {
+        alloc,
+        terms,
+        names,
+    }
+    .map(t)
 }
 
 /// Whether a stored formula is true. All of its terms are evaluated, and it stops as `number_of` does.
@@ -59,5 +69,10 @@ pub fn truth_of<M: Meanings>(
     ensures fits { OnOk result (form_fits is_narrow (M.meaning names.now) (formula terms.now f) ≡ true) }
     ensures width { result ≡ Err Width → form_fits is_narrow (M.meaning names.now) (formula terms.now f) ≡ false }
 {
-    Evaluation { alloc, terms, names }.truth(f)
+    Evaluation {
+        alloc,
+        terms,
+        names,
+    }
+    .truth(f)
 }
