@@ -3,3 +3,4 @@ pub mod Evaluating
 pub mod Building
 pub mod Nodes
 pub mod Formulas
+pub mod Stays

@@ -12,3 +12,6 @@ mod values;
 pub use meanings::Meanings;
 pub use stops::EvalStop;
 pub use values::{map_of, number_of, truth_of};
+
+#[cfg(test)]
+mod tests;
