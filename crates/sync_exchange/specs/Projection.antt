@@ -4,7 +4,7 @@ use Rattle.std.specs.List.{AllByRecursion, Contains, IsDistinct}
 use Rattle.std.specs.Ordering.{int_eq}
 use Rattle.sync_machine.specs.declared.fields.Field.{Field}
 use Rattle.sync_machine.specs.Machines.{OperationTree, MachineTree}
-use Rattle.sync_machine.specs.Naming.{machine_fault}
+use Rattle.sync_machine.specs.Naming.{machine_fault, AreTextNames}
 use Rattle.sync_machine.specs.States.{Value, Number, Mapped, State, Sort, Numbers, Maps, sort_of, IsInit, Steps, Starts, IsReached, HoldsAlways}
 use Rattle.sync_terms.specs.Maps as maps
 use Rattle.sync_rules.specs.Faults.{strategy_fault}
@@ -50,8 +50,9 @@ pub record AreNames (fs : List Field) (o : OperationTree) (tokens given : List �
   pub given_apart : IsDistinct nat_eq given
   pub given_new : (name : ℕ) → Contains given name → is_among name hand → ⊥
 
--- a machine that keeps the rules of names and of strategies, and always holds
+-- a machine whose parameters and bound names are symbols of names, which keeps the rules of names and of strategies, and always holds
 pub record IsProved (m : MachineTree) : Type 0 where
+  pub symbols : AreTextNames m
   pub named : machine_fault m ≡ None
   pub strategies : strategy_fault m ≡ None
   pub holds : HoldsAlways m
