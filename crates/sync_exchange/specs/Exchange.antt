@@ -180,12 +180,14 @@ recording f v x = record { names = x.names; slot = x.slot; tokens = x.tokens; gi
 abbrev pub storing : List Token → Exchanging → Exchanging
 storing ts x = record { names = x.names; slot = x.slot; tokens = x.tokens; given = x.given; variables = x.variables; hand = x.hand; entered = x.entered; kept = record { records = x.kept.records; stored = ts }; bound = x.bound }
 
+-- the name of a variable's token
+unfoldable pub token_name : ℕ → List (ℕ × ℕ) → Option ℕ
+token_name f [] = None
+token_name f ((g, name) ∷ vs) = if nat_eq f g then Some name else token_name f vs
+
 -- a variable's token has another value, be it held or new
 abbrev pub revaluing : ℕ → ℤ → Exchanging → Exchanging
-revaluing f n x = set (name_of x.variables) where
-  name_of : List (ℕ × ℕ) → Option ℕ
-  name_of [] = None
-  name_of ((g, name) ∷ vs) = if nat_eq f g then Some name else name_of vs
+revaluing f n x = set (token_name f x.variables) where
   set : Option ℕ → Exchanging
   set None = x
   set (Some name) = record { names = x.names; slot = x.slot; tokens = x.tokens; given = x.given; variables = x.variables; hand = revalued name n x.hand; entered = revalued name n x.entered; kept = x.kept; bound = x.bound }
