@@ -2,3 +2,7 @@
 pub mod Exchange
 pub mod Plain
 pub mod Projection
+pub mod Outcomes
+pub mod Works
+pub mod Splitting
+pub mod Laws

@@ -7,7 +7,7 @@ mod slots;
 mod statements;
 mod variables;
 
-pub use signing::signature;
+pub use signing::{signature, variable_slots};
 pub use slots::{Role, Slot};
 
 #[cfg(test)]

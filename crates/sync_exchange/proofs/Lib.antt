@@ -1,0 +1,10 @@
+pub mod Walks
+pub mod Asking
+pub mod Running
+pub mod Laying
+pub mod Widening
+pub mod Keeping
+pub mod Acting
+pub mod Finishing
+pub mod Raising
+pub mod Placing

@@ -1,0 +1,166 @@
+//! What symbols stand for in an exchange.
+ghost use Rattle.std.specs.Prelude.{◌≡◌, pos, map, slice_index_or, IfSome, IfNone};
+ghost use Rattle.sync_terms.specs.Maps as maps;
+ghost use Rattle.sync_machine.specs.States as states;
+ghost use Rattle.sync_machine.specs.Views.{symbols_of};
+ghost use Rattle.sync_join.specs.Join as shards;
+ghost use Rattle.sync_join.specs.Views.{value_tree};
+ghost use Rattle.sync_exchange.specs.Exchange as exchanges;
+ghost use Rattle.sync_exchange.specs.Works.{outer_meaning, outer_number, outer_value, known_over, last_known, value_in_list};
+
+use sync_eval::Meanings;
+use sync_join::{Entries, Value};
+use sync_machine::{Field, Strategy};
+use sync_terms::Sym;
+
+/// A symbol that has come to stand for a number.
+#[derive(Clone, Copy, PartialEq, Eq, Debug)]
+pub(crate) struct Known {
+    pub symbol: u32,
+    pub number: i128,
+}
+
+/// What symbols stand for before the first slot: records, stored objects and the whole state for the fields, and the
+/// arguments for the parameters.
+#[derive(Clone, Copy)]
+pub(crate) struct Outer<'a> {
+    pub fields: &'a [Field],
+    pub params: &'a [Sym],
+    pub args: &'a [i128],
+    pub records: &'a [Value],
+    /// The stored objects of each field as a map.
+    pub stores: &'a [Entries],
+    pub whole: &'a [Value],
+}
+
+/// What symbols stand for in the course of an exchange. A later number hides an earlier one.
+#[derive(Clone, Copy)]
+pub(crate) struct Scope<'a> {
+    pub outer: &'a Outer<'a>,
+    pub known: &'a [Known],
+}
+
+/// The strategy of a field. A number that is no field's has none, which counts as one without tokens.
+pub(crate) fn strategy_at(fields: &[Field], field: u32) -> Strategy
+    ensures { result ≡ states.strategy_at fields.now field }
+{
+    match fields.get(field as usize) {
+        Some(f) => f.strategy,
+        None => Strategy::NotTokenized,
+    }
+}
+
+/// The number at a place of a list of values, 0 where there is none.
+fn number_in(values: &[Value], at: u32) -> i128
+    ensures { result ≡ shards.number_of (value_in_list (map value_tree values.now) at) }
+{
+    match values.get(at as usize) {
+        Some(Value::Number(n)) => *n,
+        _ => 0,
+    }
+}
+
+/// The map at a place of a list of values, if there is one.
+fn map_in(values: &[Value], at: u32) -> Option<&Entries>
+    ensures map { IfSome result (λ m. m.now ≡ shards.entries_of (value_in_list (map value_tree values.now) at)) }
+    ensures none { IfNone result (shards.entries_of (value_in_list (map value_tree values.now) at) ≡ maps.nil) }
+{
+    match values.get(at as usize) {
+        Some(Value::Map(entries)) => Some(entries),
+        _ => None,
+    }
+}
+
+/// The argument of a parameter, 0 where there is none.
+fn argument(params: &[Sym], args: &[i128], x: u32) -> i128
+    ensures { result ≡ exchanges.argument (symbols_of params.now) args.now x }
+{
+    for i in 0..params.len() {
+        if i >= args.len() {
+            return 0;
+        }
+        if x == params[i].0 {
+            return args[i];
+        }
+    }
+    0
+}
+
+impl Outer<'_> {
+    /// The number that a symbol stands for.
+    fn number(&self, x: u32) -> i128
+        ensures { result ≡ outer_number self.now x }
+    {
+        if x as usize >= self.fields.len() {
+            return argument(self.params, self.args, x);
+        }
+        match strategy_at(self.fields, x) {
+            Strategy::Constant
+            | Strategy::NotTokenized
+            | Strategy::PersistentOption
+            | Strategy::PersistentMap
+            | Strategy::PersistentSet
+            | Strategy::PersistentCount => number_in(self.records, x),
+            Strategy::StorageMap => 0,
+            Strategy::Variable
+            | Strategy::Option
+            | Strategy::Map
+            | Strategy::Set
+            | Strategy::Multiset
+            | Strategy::Count => number_in(self.whole, x),
+        }
+    }
+
+    /// The map that a symbol stands for. None is the map without a key.
+    fn map(&self, x: u32) -> Option<&Entries>
+        ensures map { IfSome result (λ m. m.now ≡ shards.entries_of (outer_value self.now x)) }
+        ensures none { IfNone result (shards.entries_of (outer_value self.now x) ≡ maps.nil) }
+    {
+        match strategy_at(self.fields, x) {
+            Strategy::Constant
+            | Strategy::NotTokenized
+            | Strategy::PersistentOption
+            | Strategy::PersistentMap
+            | Strategy::PersistentSet
+            | Strategy::PersistentCount => map_in(self.records, x),
+            Strategy::StorageMap => self.stores.get(x as usize),
+            Strategy::Variable
+            | Strategy::Option
+            | Strategy::Map
+            | Strategy::Set
+            | Strategy::Multiset
+            | Strategy::Count => map_in(self.whole, x),
+        }
+    }
+}
+
+/// The number that a symbol has come to stand for last, if it has.
+fn known_as(known: &[Known], x: u32) -> Option<i128>
+    ensures { result ≡ last_known x known.now }
+{
+    let mut found = None;
+    for k in known {
+        if x == k.symbol {
+            found = Some(k.number);
+        }
+    }
+    found
+}
+
+impl Meanings for Scope<'_> {
+    ghost meaning = { λ s. known_over s.known.now (outer_meaning s.outer.now) };
+
+    fn number(&self, x: Sym) -> i128 {
+        match known_as(self.known, x.0) {
+            Some(n) => n,
+            None => self.outer.number(x.0),
+        }
+    }
+
+    fn map(&self, x: Sym) -> Option<&Entries> {
+        match known_as(self.known, x.0) {
+            Some(_) => None,
+            None => self.outer.map(x.0),
+        }
+    }
+}
