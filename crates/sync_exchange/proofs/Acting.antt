@@ -38,13 +38,13 @@ variable-missing f x stop h = stops-bind stop (named x) (using f x) h
 
 pub variable-differs : (f : ℕ) (x : Exchanging) (t : Token) → named x ≡ Ok t → is_token f (pos 0) t ≡ false → use_variable f Read x ≡ Err (Differs x.slot)
 unfolding using
-variable-differs f x t e no = variable-is f x ∙ ap (λ r. r >>= using f x) e ∙ ap (λ b. unless (Differs x.slot) b (Ok (knowing f (next_name x.tokens) t.value (after_reading x)))) no
+variable-differs f x t e other = variable-is f x ∙ ap (λ r. r >>= using f x) e ∙ ap (λ b. unless (Differs x.slot) b (Ok (knowing f (next_name x.tokens) t.value (after_reading x)))) other
 
 pub variable-read : (f : ℕ) (x y z : Exchanging) (t : Token) → named x ≡ Ok t → is_token f (pos 0) t ≡ true → z ≡ after_reading x → y ≡ knowing f (next_name x.tokens) t.value z → use_variable f Read x ≡ Ok y
 unfolding using
-variable-read f x y z t e yes ez ey =
+variable-read f x y z t e same ez ey =
     variable-is f x ∙ ap (λ r. r >>= using f x) e
-    ∙ ap (λ b. unless (Differs x.slot) b (Ok (knowing f (next_name x.tokens) t.value (after_reading x)))) yes
+    ∙ ap (λ b. unless (Differs x.slot) b (Ok (knowing f (next_name x.tokens) t.value (after_reading x)))) same
     ∙ ap Ok (sym (ey ∙ ap (knowing f (next_name x.tokens) t.value) ez))
 
 module _ (fits : ℤ → Bool) (fs : List Field) (line : ℕ) (x : Exchanging) where
@@ -56,11 +56,11 @@ module _ (fits : ℤ → Bool) (fs : List Field) (line : ℕ) (x : Exchanging) w
 
   pub require-false : (form : Formula) → form_fits fits x.names form ≡ true → truth x.names form ≡ false → does fits fs (record { act = acts.Require form; line = line }) x ≡ Err (RequireFalse line)
   unfolding does
-  require-false form w no = ap (λ b. unless Width b (unless (RequireFalse line) (truth x.names form) (Ok x))) w ∙ ap (λ b. unless (RequireFalse line) b (Ok x)) no
+  require-false form w other = ap (λ b. unless Width b (unless (RequireFalse line) (truth x.names form) (Ok x))) w ∙ ap (λ b. unless (RequireFalse line) b (Ok x)) other
 
   pub require-true : (form : Formula) → form_fits fits x.names form ≡ true → truth x.names form ≡ true → does fits fs (record { act = acts.Require form; line = line }) x ≡ Ok x
   unfolding does
-  require-true form w yes = ap (λ b. unless Width b (unless (RequireFalse line) (truth x.names form) (Ok x))) w ∙ ap (λ b. unless (RequireFalse line) b (Ok x)) yes
+  require-true form w same = ap (λ b. unless Width b (unless (RequireFalse line) (truth x.names form) (Ok x))) w ∙ ap (λ b. unless (RequireFalse line) b (Ok x)) same
 
   -- ---- first values and new values
 

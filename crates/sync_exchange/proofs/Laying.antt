@@ -82,7 +82,7 @@ at-any (x ∷ xs) zero d e h = refl
 at-any (x ∷ xs) (suc i) d e h = at-any xs i d e (omega arith)
 
 pub length-last : {A : Type 0} (xs : List A) (x : A) (n : ℕ) → length xs ≡ n → length (xs ++ x ∷ []) ≡ n + 1
-length-last xs x n h = omega (arith, length-append {A = A})
+length-last xs x n h = let e = length-append xs (x ∷ []) in omega arith
 
 pub shorter : {A B : Type 0} (ns : List A) (vs : List B) (n : A) (left : List A) → left ≡ ns ++ n ∷ [] → length left ≤ length vs → length ns ≤ length vs
 shorter ns vs n left e h = let k : length left ≡ length ns + 1 = ap length e ∙ length-last ns n (length ns) refl in omega arith

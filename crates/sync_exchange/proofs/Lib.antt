@@ -8,3 +8,4 @@ pub mod Acting
 pub mod Finishing
 pub mod Raising
 pub mod Placing
+pub mod Passages

@@ -2,6 +2,7 @@
 use Rattle.std.specs.Prelude.{◌≡◌, ℕ, ℤ, pos, Bool, true, false, List, [], ◌∷◌, ◌++◌, length, map, drop, slice_index_or, slice_set, nat_lt, nat_eq, if◌then◌else◌, Option, Some, None}
 use Rattle.std.specs.Ordering.{int_eq}
 use Rattle.sync_base.specs.Outcome.{first, ◌>>=◌}
+use Rattle.sync_terms.specs.declared.nodes.Sym.{Sym}
 use Rattle.sync_terms.specs.Maps as maps
 use Rattle.sync_terms.specs.Values.{Valuation, with_value}
 use Rattle.sync_machine.specs.declared.fields.Field.{Field}
@@ -158,3 +159,10 @@ finished vs x = record { hand = x.hand; kept = record { records = map value_tree
 
 abbrev pub goes_through : (ℤ → Bool) → List Field → List SlotTree → List StepTree → Exchanging → Answer
 goes_through fits fs slots steps x = use_variables slots x >>= does_all fits fs steps
+
+-- what symbols stand for before the first slot, from plain lists
+abbrev pub meaning_of : List Field → List Sym → List ℤ → List StoredValue → List maps.Map → List StoredValue → Valuation
+meaning_of fs ps args rs stores whole = record {
+  number = λ x. if nat_lt x (length fs) then number_of (seen_with (strategy_at fs x) stores (record { records = map value_tree rs; stored = [] }) (map value_tree whole) x) else argument (symbols_of ps) args x;
+  mapping = λ x. entries_of (seen_with (strategy_at fs x) stores (record { records = map value_tree rs; stored = [] }) (map value_tree whole) x);
+}
