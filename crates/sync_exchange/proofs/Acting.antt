@@ -107,9 +107,9 @@ module _ (fits : ℤ → Bool) (fs : List Field) (line : ℕ) (x : Exchanging) w
   deposit-done f p n a y z h ea ez ey =
       h (λ k. storing (x.kept.stored ++ record { field = f; key = key_at p x; value = amount_at p x } ∷ []) (after_taking x))
       ∙ ap Ok (sym (
-        ey
-        ∙ ap (λ (q : Exchanging). storing (q.kept.stored ++ record { field = f; key = a.key; value = a.value } ∷ []) q) ez
-        ∙ ap (λ (b : Asked). storing (x.kept.stored ++ record { field = f; key = b.key; value = b.value } ∷ []) (after_taking x)) ea
+      ey
+      ∙ ap (λ (q : Exchanging). storing (q.kept.stored ++ record { field = f; key = a.key; value = a.value } ∷ []) q) ez
+      ∙ ap (λ (b : Asked). storing (x.kept.stored ++ record { field = f; key = b.key; value = b.value } ∷ []) (after_taking x)) ea
       ))
 
   -- ---- additions
@@ -138,12 +138,12 @@ module _ (fits : ℤ → Bool) (fs : List Field) (line : ℕ) (x : Exchanging) w
   withdraw-done f p n a y u z h ea ez eu ey =
       h (λ k. binding (binds p) k (storing (withdrawn f (key_at p x) x.kept.stored) (after_giving (record { field = perm; key = key_at p x; value = k }) x)))
       ∙ ap Ok (sym (
-        ey
-        ∙ ap (binding (binds p) n) (
-          eu
-          ∙ ap (λ (q : Exchanging). storing (withdrawn f a.key q.kept.stored) q) ez
-          ∙ ap (λ (b : Asked). storing (withdrawn f b.key x.kept.stored) (after_giving (record { field = perm; key = b.key; value = n }) x)) ea
-        )
+      ey
+      ∙ ap (binding (binds p) n) (
+      eu
+      ∙ ap (λ (q : Exchanging). storing (withdrawn f a.key q.kept.stored) q) ez
+      ∙ ap (λ (b : Asked). storing (withdrawn f b.key x.kept.stored) (after_giving (record { field = perm; key = b.key; value = n }) x)) ea
+      )
       ))
 
   pub guard-stop : (f : ℕ) (p : PlaceTree) (stop : XStop) → ((next : ℤ → Exchanging) → Stops stop (asked_object fits f p x next)) → Stops stop (does fits fs (record { act = acts.Guard f p; line = line }) x)

@@ -271,12 +271,12 @@ merge-keeps fs hs a b t u ne ea eb same count into others kept sound =
     let is = amount-token fs t (t.value +ℤ u.value) count (sound-token fs ps t (qs ++ others) kept later) in (
       subst (λ (ts : List Token). AreSoundShards fs ts kept) (sym new) (sound-in fs ps m (qs ++ others) kept is (λ _. sum_natural t.value u.value low_t low_u) (sound-out fs ps t (qs ++ others) kept later)),
       ap (λ ts. join_of fs ts kept) new
-      ∙ join_of-front fs ps m (qs ++ others) kept
-      ∙ sym (two-one fs t u m (ps ++ (qs ++ others)) kept refl same refl count)
-      ∙ sym (join_of-front fs (u ∷ ps) t (qs ++ others) kept)
-      ∙ ap (λ ts. join_of fs (u ∷ ts) kept) (sym mid)
-      ∙ sym (join_of-front fs xs u (ys ++ others) kept)
-      ∙ ap (λ ts. join_of fs ts kept) (sym old),
+          ∙ join_of-front fs ps m (qs ++ others) kept
+          ∙ sym (two-one fs t u m (ps ++ (qs ++ others)) kept refl same refl count)
+          ∙ sym (join_of-front fs (u ∷ ps) t (qs ++ others) kept)
+          ∙ ap (λ ts. join_of fs (u ∷ ts) kept) (sym mid)
+          ∙ sym (join_of-front fs xs u (ys ++ others) kept)
+          ∙ ap (λ ts. join_of fs ts kept) (sym old),
     )
 
 -- ---- copies
@@ -292,12 +292,12 @@ copy-keeps fs hs name t e persistent new others kept sound =
     ap (λ ts. ts ++ others) (tokens-append hs (held new t t.value ∷ [])) ∙ append_assoc (tokens_in hs) (t ∷ []) others in
     let first = subst (λ (ts : List Token). AreSoundShards fs ts kept) old sound in (
       subst (λ (ts : List Token). AreSoundShards fs ts kept) (sym more)
-      (sound-in fs (tokens_in hs) t others kept (sound-token fs xs t (ys ++ others) kept first) (sound-natural fs xs t (ys ++ others) kept first) sound),
+          (sound-in fs (tokens_in hs) t others kept (sound-token fs xs t (ys ++ others) kept first) (sound-natural fs xs t (ys ++ others) kept first) sound),
       ap (λ ts. join_of fs ts kept) more
-      ∙ join_of-front fs (tokens_in hs) t others kept
-      ∙ ap (λ ts. join_of fs (t ∷ ts) kept) old
-      ∙ join_of-front fs (t ∷ xs) t (ys ++ others) kept
-      ∙ twice-once fs t (xs ++ (ys ++ others)) kept persistent
-      ∙ sym (join_of-front fs xs t (ys ++ others) kept)
-      ∙ ap (λ ts. join_of fs ts kept) (sym old),
+          ∙ join_of-front fs (tokens_in hs) t others kept
+          ∙ ap (λ ts. join_of fs (t ∷ ts) kept) old
+          ∙ join_of-front fs (t ∷ xs) t (ys ++ others) kept
+          ∙ twice-once fs t (xs ++ (ys ++ others)) kept persistent
+          ∙ sym (join_of-front fs xs t (ys ++ others) kept)
+          ∙ ap (λ ts. join_of fs ts kept) (sym old),
     )

@@ -74,11 +74,11 @@ seen-same Count stores records stored whole f h = refl
 
 pub names-same : (fs : List Field) (o : OperationTree) (args : List ℤ) (stores : List maps.Map) (records : List Value) (stored : List Token) (whole : State) → AreStores fs stored stores
     → ◌≡◌ {A = Valuation}
-      (record {
-        number = λ x. if nat_lt x (length fs) then number_of (seen_with (strategy_at fs x) stores (record { records = records; stored = [] }) whole x) else argument o.params args x;
-        mapping = λ x. entries_of (seen_with (strategy_at fs x) stores (record { records = records; stored = [] }) whole x);
-      })
-      (names_before fs o args (record { records = records; stored = stored }) whole)
+    (record {
+      number = λ x. if nat_lt x (length fs) then number_of (seen_with (strategy_at fs x) stores (record { records = records; stored = [] }) whole x) else argument o.params args x;
+      mapping = λ x. entries_of (seen_with (strategy_at fs x) stores (record { records = records; stored = [] }) whole x);
+    })
+    (names_before fs o args (record { records = records; stored = stored }) whole)
 names-same fs o args stores records stored whole h i = record {
   number = λ x. if nat_lt x (length fs) then number_of (seen-same (strategy_at fs x) stores records stored whole x (h x) i) else argument o.params args x;
   mapping = λ x. entries_of (seen-same (strategy_at fs x) stores records stored whole x (h x) i);

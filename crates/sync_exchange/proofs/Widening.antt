@@ -53,8 +53,8 @@ both-fit v (Del m k) = (refl, both-true (map_fits free v m) (number_fits free v 
 both-fit v (Bump m k n) = (
   refl,
   both-true ((map_fits free v m && number_fits free v k) && number_fits free v n) (values_fit free (mapped v (Bump m k n)))
-  (both-true (map_fits free v m && number_fits free v k) (number_fits free v n) (both-true (map_fits free v m) (number_fits free v k) (both-fit v m).1 (both-fit v k).0) (both-fit v n).0)
-  (values-free (mapped v (Bump m k n))),
+      (both-true (map_fits free v m && number_fits free v k) (number_fits free v n) (both-true (map_fits free v m) (number_fits free v k) (both-fit v m).1 (both-fit v k).0) (both-fit v n).0)
+      (values-free (mapped v (Bump m k n))),
 )
 
 form-fit : (v : Valuation) (f : Formula) → form_fits free v f ≡ true

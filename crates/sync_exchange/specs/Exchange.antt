@@ -208,6 +208,7 @@ use_variable f role x = if gives role then Ok (knowing f (next_name x.given) (po
   gives In = false
   gives Out = false
   gives Seen = false
+
   used : Token → Answer
   used t = unless (Differs x.slot) (is_token f (pos 0) t) (Ok (knowing f (next_name x.tokens) t.value (after_reading x)))
 

@@ -181,12 +181,7 @@ impl Work {
     }
 
     /// The key and the value that a place asks for.
-    pub(crate) fn asked(
-        &self,
-        alloc: Global,
-        case: &Case<'_>,
-        place: Place,
-    ) -> Result<Asked, XStop>
+    pub(crate) fn asked(&self, alloc: Global, case: &Case<'_>, place: Place) -> Result<Asked, XStop>
         requires { HasPlaceIds case.now.m.now.terms place }
         ensures { Measures (λ (a : Wanted). a) result (exchanges.place_fits is_narrow (place_tree case.now.m.now.terms place) (now_of case.now self.now)) (record { key = exchanges.key_at (place_tree case.now.m.now.terms place) (now_of case.now self.now); value = exchanges.amount_at (place_tree case.now.m.now.terms place) (now_of case.now self.now) }) }
     {

@@ -124,10 +124,7 @@ impl Held {
     pub(crate) fn new(name: u32, token: Token, value: i128) -> Held
         ensures { result ≡ splitting.held name token value }
     {
-        let token = Token {
-            value,
-            ..token
-        };
+        let token = Token { value, ..token };
         Held { name, token }
     }
 

@@ -59,7 +59,6 @@ fn becomes(value: Value) -> Change
     }
 }
 
-
 impl Work {
     /// The slot of a variable.
     fn use_variable(&mut self, case: &Case<'_>, slot: &Slot) -> Result<(), XStop>
@@ -187,13 +186,7 @@ impl Work {
     }
 
     /// The first value of a field.
-    fn init(
-        &mut self,
-        alloc: Global,
-        case: &Case<'_>,
-        field: u32,
-        t: TermId,
-    ) -> Result<(), XStop>
+    fn init(&mut self, alloc: Global, case: &Case<'_>, field: u32, t: TermId) -> Result<(), XStop>
         requires { IsTerm case.now.m.now.terms t }
         ensures { (line : ℕ) → Leaves result (now_of case.now self.new) (does is_narrow case.now.outer.fields.now (record { act = acts.Init field (tree case.now.m.now.terms t); line = line }) (now_of case.now self.old)) }
     {
@@ -203,13 +196,7 @@ impl Work {
     }
 
     /// A new value of a variable or of a field without tokens.
-    fn update(
-        &mut self,
-        alloc: Global,
-        case: &Case<'_>,
-        field: u32,
-        t: TermId,
-    ) -> Result<(), XStop>
+    fn update(&mut self, alloc: Global, case: &Case<'_>, field: u32, t: TermId) -> Result<(), XStop>
         requires { IsTerm case.now.m.now.terms t }
         ensures { (line : ℕ) → Leaves result (now_of case.now self.new) (does is_narrow case.now.outer.fields.now (record { act = acts.Update field (tree case.now.m.now.terms t); line = line }) (now_of case.now self.old)) }
     {
@@ -275,13 +262,7 @@ impl Work {
     }
 
     /// A token is given.
-    fn add(
-        &mut self,
-        alloc: Global,
-        case: &Case<'_>,
-        field: u32,
-        place: Place,
-    ) -> Result<(), XStop>
+    fn add(&mut self, alloc: Global, case: &Case<'_>, field: u32, place: Place) -> Result<(), XStop>
         requires { HasPlaceIds case.now.m.now.terms place }
         ensures { (line : ℕ) → Leaves result (now_of case.now self.new) (does is_narrow case.now.outer.fields.now (record { act = acts.Add field (place_tree case.now.m.now.terms place); line = line }) (now_of case.now self.old)) }
     {

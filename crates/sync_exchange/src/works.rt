@@ -207,7 +207,12 @@ impl Work {
     }
 
     /// A variable's token has another value, be it held or new.
-    pub(crate) fn revalue(&mut self, alloc: Global, field: u32, number: i128) -> Result<(), NoMemory>
+    pub(crate) fn revalue(
+        &mut self,
+        alloc: Global,
+        field: u32,
+        number: i128,
+    ) -> Result<(), NoMemory>
         ensures { (b : Base) → OnOk result (under_way b self.new ≡ revaluing field number (under_way b self.old)) }
     {
         if let Some(name) = token_name(self.variables.as_slice(), field) {

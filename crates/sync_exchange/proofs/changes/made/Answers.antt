@@ -20,6 +20,6 @@ loop-r-preserved c =
     let v = c.in_ok-value.value in
     let is : c.latest.result.now ≡ slice_index_or (laid_over ns rs) r.field v = c.latest.ensures v ∙ ap (λ (ms : List (Option Value)). slice_index_or (laid_over ms rs) r.field v) c.as_slice.ensures in (
       ap (λ (ms : List (Option Value)). map value_tree (laid_over ms rs)) c.set.ensures
-      ∙ made-near c.args.changes.now c.loop-r.r-index r c.r-item.is ns rs c.loop-r-test.true c.loop-r.invariant.0 v c.latest.result.now c.loop-r.invariant.1 c.if-at-records.false is c.in_ok-value.ensures,
+          ∙ made-near c.args.changes.now c.loop-r.r-index r c.r-item.is ns rs c.loop-r-test.true c.loop-r.invariant.0 v c.latest.result.now c.loop-r.invariant.1 c.if-at-records.false is c.in_ok-value.ensures,
       ap length c.set.ensures ∙ length-set ns r.field (Some v) ∙ c.loop-r.invariant.1,
     )
