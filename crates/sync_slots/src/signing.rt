@@ -32,17 +32,13 @@ pub fn signature(alloc: Global, m: &Machine, op: u32) -> Result<Vec<Slot>, NoMem
 }
 
 /// The slots of the variables that statements use, in the order of declaration.
-pub fn variable_slots(
-    alloc: Global,
-    m: &Machine,
-    steps: &[Step],
-) -> Result<Vec<Slot>, NoMemory>
+pub fn variable_slots(alloc: Global, m: &Machine, steps: &[Step]) -> Result<Vec<Slot>, NoMemory>
     requires { AllByRecursion (λ (s : Statement). HasActIds m.now.terms s.act) steps.now }
     ensures { IfOk result (λ v. slots_tree m.now.terms v.items ≡ filter_map (slots.field_slot m.now.fields (steps_tree m.now.terms steps.now)) (range_with_len 0 (length m.now.fields))) }
 {
-    let mut list = Vec::new(alloc);
-    add_variables(&mut list, m, steps)?;
-    Ok(list)
+    let mut slots = Vec::new(alloc);
+    add_variables(&mut slots, m, steps)?;
+    Ok(slots)
 }
 
 /// Adds the slots of the variables that statements use.
