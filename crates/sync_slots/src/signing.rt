@@ -36,9 +36,9 @@ pub fn variable_slots(alloc: Global, m: &Machine, steps: &[Step]) -> Result<Vec<
     requires { AllByRecursion (λ (s : Statement). HasActIds m.now.terms s.act) steps.now }
     ensures { IfOk result (λ v. slots_tree m.now.terms v.items ≡ filter_map (slots.field_slot m.now.fields (steps_tree m.now.terms steps.now)) (range_with_len 0 (length m.now.fields))) }
 {
-    let mut slots = Vec::new(alloc);
-    add_variables(&mut slots, m, steps)?;
-    Ok(slots)
+    let mut found = Vec::new(alloc);
+    add_variables(&mut found, m, steps)?;
+    Ok(found)
 }
 
 /// Adds the slots of the variables that statements use.
