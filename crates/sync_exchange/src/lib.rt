@@ -17,3 +17,6 @@ pub use exchanging::exchange;
 pub use hands::{Bound, Hand, Held, Names, XStop};
 pub use laws::{bound_alone, copy_keeps, merge_keeps, split_keeps};
 pub use splitting::{copy_token, merge_tokens, split_token};
+
+#[cfg(test)]
+mod tests;
