@@ -1,9 +1,9 @@
 -- Words that say runs of lexemes, and productions put together.
-use Rattle.std.proofs.Common.{ℕ, List, [], ◌∷◌, ◌++◌, refl}
+use Rattle.std.proofs.Common.{◌≡◌, Option, Some, ℕ, List, [], ◌∷◌, ◌++◌, refl}
 use Rattle.sync_tokens.specs.declared.signs.Sign.{Sign}
 use Rattle.sync_tokens.specs.declared.words.Word.{Word}
 use Rattle.sync_exprs.specs.declared.expressions.ExprKind.{ExprKind}
-use Rattle.sync_grammar.specs.Relations.{Spelled, The, AName, ANumber, Yields, Here, Then}
+use Rattle.sync_grammar.specs.Relations.{Spelled, The, AName, ANumber, OneOf, Yields, Here, Then}
 use Rattle.sync_grammar.specs.Expressions.{placed_at, Whole}
 use Rattle.sync_print.specs.Lexemes.{Lexeme, one, one_name, one_number}
 use Rattle.sync_spell.specs.Says.{Says, no_more, one_more}
@@ -26,6 +26,11 @@ the_number (one_more {w = w} is no_more) = record { word = w; stands = refl; is 
 pub the_name : {x : ℕ} {ts rest : List Word} → Says (one_name x) ts rest → (line : ℕ) × AName ts rest (record { name = x; line = line })
 unfolding one_name
 the_name {x} (one_more {w = w} is no_more) = (w.line, record { word = w; number = x; strategy = is.0; stands = refl; is = is.1; name_is = refl })
+
+-- a sign that a table has
+pub one_of : {A : Type 0} {s : Sign} {ts rest : List Word} (table : Sign → Option A) (x : A) → table s ≡ Some x → Says (one s) ts rest → (line : ℕ) × OneOf table ts rest (x, line)
+unfolding one
+one_of {s = s} table x found (one_more {w = w} is no_more) = (w.line, record { word = w; sign = s; stands = refl; is = is; found = found; line_is = refl })
 
 -- ---- productions, put together
 

@@ -1,5 +1,6 @@
-use Rattle.sync_spell.proofs.Expressions.{expr_spelled}
+use Rattle.sync_spell.proofs.Expressions.{exprs}
+use Rattle.sync_spell.proofs.Scripts.{blocks}
 use Rattle.sync_spell.proofs.show_spells.Goals as goal
 
 pub returns : goal.returns
-returns c = record { exprs = expr_spelled }
+returns c = record { exprs = exprs; blocks = blocks }

@@ -1,0 +1,71 @@
+-- What a text can hold: numbers up to 2 ^ 127 - 1, statements with numbers up to 4,294,967,295, and no sum of nothing.
+use Rattle.std.specs.Prelude.{ℕ, ◌≤◌, length, unsigned_abs}
+use Rattle.std.specs.List.{All}
+use Rattle.sync_tokens.specs.Words.{largest}
+use Rattle.sync_exprs.specs.declared.expressions.Special.{Special}
+use Rattle.sync_exprs.specs.declared.expressions.Special.TheVariants as word
+use Rattle.sync_print.specs.Exprs.{Plain, number, name, param, nil, special, call, negation, times, two, Plains, none, more}
+use Rattle.sync_print.specs.Scripts.{PlainSubject, name as subject_name, special as subject_word, PlainHyp, denied, label, at, low, high, PlainPart, PlainStep, same, sum, inst, parts, split, cut, read, size, total, cong, PlainBlock, done, first}
+
+-- ---- expressions
+
+abbrev mutual
+  pub Fits : Plain → Type 0
+  Fits (number n) = n ≤ largest
+  Fits (name x) = Unit {0}
+  Fits (param x) = Unit {0}
+  Fits nil = Unit {0}
+  Fits (special w) = Unit {0}
+  Fits (call f es) = AllFit es
+  Fits (negation e) = Fits e
+  Fits (times n e) = (n ≤ largest) × Fits e
+  Fits (two o a b) = Fits a × Fits b
+
+  pub AllFit : Plains → Type 0
+  AllFit none = Unit {0}
+  AllFit (more e es) = Fits e × AllFit es
+
+-- ---- scripts
+
+-- the number of a statement, as a text can name it
+abbrev pub last_place : ℕ
+last_place = 4294967295
+
+-- the words that a bound may stand on
+abbrev pub IsBounded : Special → Type 0
+IsBounded word.Value = ⊥
+IsBounded word.Index = ⊥
+IsBounded word.Old = Unit {0}
+IsBounded word.New = Unit {0}
+IsBounded word.Wrap = Unit {0}
+
+abbrev pub SubjectFits : PlainSubject → Type 0
+SubjectFits (subject_name x) = Unit {0}
+SubjectFits (subject_word w) = IsBounded w
+
+abbrev pub HypFits : PlainHyp → Type 0
+HypFits denied = Unit {0}
+HypFits (label x) = Unit {0}
+HypFits (at n) = n ≤ last_place
+HypFits (low s) = SubjectFits s
+HypFits (high s) = SubjectFits s
+
+abbrev pub PartFits : PlainPart → Type 0
+PartFits p = (unsigned_abs p.times ≤ largest) × HypFits p.hyp
+
+abbrev mutual
+  pub StepFits : PlainStep → Type 0
+  StepFits same = Unit {0}
+  StepFits (sum ps) = (1 ≤ length ps) × All PartFits ps
+  StepFits (inst h es x) = HypFits h × All Fits es
+  StepFits (parts h x y) = HypFits h
+  StepFits (split h x b c) = HypFits h × BlockFits b × BlockFits c
+  StepFits (cut e x b) = Fits e × BlockFits b
+  StepFits (read m k x) = Fits m × Fits k
+  StepFits (size m k x) = Fits m × Fits k
+  StepFits (total m k x) = Fits m × Fits k
+  StepFits (cong m j k x) = Fits m × Fits j × Fits k
+
+  pub BlockFits : PlainBlock → Type 0
+  BlockFits done = Unit {0}
+  BlockFits (first s b) = StepFits s × BlockFits b
