@@ -39,11 +39,8 @@ subject_spelled (special w) fits ts rest h =
     let s = one_of bounded_of w (bounded_found w fits) h in
     record { raw = raw_subject.Special w s.0; spelled = the_other (seq (w, s.0) rest s.1 (yields _)); is = refl }
 
-within_place : (n : ℕ) → n ≤ last_place → place_of n ≡ n
+pub within_place : (n : ℕ) → n ≤ last_place → place_of n ≡ n
 within_place n fits = omega arith
-
-pub at_place : (n : ℕ) → n ≤ last_place → (what : ℕ → PlainHyp) → what (place_of n) ≡ what n
-at_place n fits what = ap what (within_place n fits)
 
 hyp_spelled : (p : PlainHyp) → HypFits p → (ts rest : List Word) → Says (show_hyp p) ts rest → Spells Hyp plain_hyp p ts rest
 unfolding Hyp

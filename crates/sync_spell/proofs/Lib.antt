@@ -6,3 +6,6 @@ mod Lists
 mod Hyps
 mod Steps
 mod Scripts
+mod Acts
+mod Machines
+mod Texts

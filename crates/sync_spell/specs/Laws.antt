@@ -1,17 +1,23 @@
 -- What is shown of a plain tree spells it: by the productions of the grammar, words that say its canonical lexemes are a raw
 -- tree that says just this.
-use Rattle.std.specs.Prelude.{◌≡◌, List}
+use Rattle.std.specs.Prelude.{◌≡◌, ℕ, List, [], Ok}
 use Rattle.sync_tokens.specs.declared.words.Word.{Word}
+use Rattle.sync_tokens.specs.declared.words.Words.{Words}
+use Rattle.sync_tokens.specs.Words.{worded}
+use Rattle.sync_parse.specs.declared.trees.RawText.{RawText}
 use Rattle.sync_grammar.specs.Relations.{Spelled}
 use Rattle.sync_grammar.specs.Expressions.{AnExpr}
 use Rattle.sync_grammar.specs.Scripts.{Block}
+use Rattle.sync_grammar.specs.Texts.{Spells as TextSpells}
 use Rattle.sync_print.specs.Exprs.{plain}
 use Rattle.sync_print.specs.Scripts.{plain_block}
+use Rattle.sync_print.specs.Texts.{PlainText, plain_text}
 use Rattle.sync_print.specs.Lexemes.{Lexeme}
 use Rattle.sync_print.specs.ShowExprs.{show_expr}
 use Rattle.sync_print.specs.ShowScripts.{show_block}
+use Rattle.sync_print.specs.ShowTexts.{show}
 use Rattle.sync_spell.specs.Says.{Says}
-use Rattle.sync_spell.specs.Limits.{Fits, BlockFits}
+use Rattle.sync_spell.specs.Limits.{Fits, BlockFits, TextFits}
 
 -- these words spell, by a production, a raw tree that says this
 pub record Spells {A B : Type 0} (production : Spelled A) (says : A → B) (said : B) (ts rest : List Word) : Type 0 where
@@ -20,9 +26,18 @@ pub record Spells {A B : Type 0} (production : Spelled A) (says : A → B) (said
   pub is : says raw ≡ said
 
 -- words that say what is shown of something, within the limits, spell it by a production
-pub record IsSpelled {A B : Type 0} (production : Spelled A) (says : A → B) (show : B → List Lexeme) (Fits : B → Type 0) : Type 0 where
-  pub holds : (x : B) → Fits x → (ts rest : List Word) → Says (show x) ts rest → Spells production says x ts rest
+pub record IsSpelled {A B : Type 0} (production : Spelled A) (says : A → B) (shown : B → List Lexeme) (limits : B → Type 0) : Type 0 where
+  pub holds : (x : B) → limits x → (ts rest : List Word) → Says (shown x) ts rest → Spells production says x ts rest
+
+-- these bytes spell a raw tree that says this, and no other
+pub record SaysText (t : PlainText) (text : List ℕ) : Type 0 where
+  pub tree : RawText
+  pub spelled : TextSpells text tree
+  pub is : plain_text tree ≡ t
+  pub only : (other : RawText) → TextSpells text other → plain_text other ≡ t
 
 pub record ShowSpells : Type 0 where
   pub exprs : IsSpelled AnExpr plain show_expr Fits
   pub blocks : IsSpelled Block plain_block show_block BlockFits
+  -- of a text, all of whose words say what is shown
+  pub texts : (t : PlainText) → TextFits t → (text : List ℕ) (ws : Words) → worded text ≡ Ok ws → Says (show t) ws.list [] → SaysText t text

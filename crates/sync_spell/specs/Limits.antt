@@ -6,6 +6,7 @@ use Rattle.sync_exprs.specs.declared.expressions.Special.{Special}
 use Rattle.sync_exprs.specs.declared.expressions.Special.TheVariants as word
 use Rattle.sync_print.specs.Exprs.{Plain, number, name, param, nil, special, call, negation, times, two, Plains, none, more}
 use Rattle.sync_print.specs.Scripts.{PlainSubject, name as subject_name, special as subject_word, PlainHyp, denied, label, at, low, high, PlainPart, PlainStep, same, sum, inst, parts, split, cut, read, size, total, cong, PlainBlock, done, first}
+use Rattle.sync_print.specs.Texts.{PlainPattern, bind, term, PlainPlace, value, key, entry, PlainAct, init, require, assert, update, have_variable, have, guard, add, deposit, remove, withdraw, PlainOperation, PlainInvariant, PlainMachine, PlainClaim, keeps, at as claim_at, PlainProof, PlainText}
 
 -- ---- expressions
 
@@ -69,3 +70,46 @@ abbrev mutual
   pub BlockFits : PlainBlock → Type 0
   BlockFits done = Unit {0}
   BlockFits (first s b) = StepFits s × BlockFits b
+
+-- ---- texts
+
+abbrev pub PatternFits : PlainPattern → Type 0
+PatternFits (bind x) = Unit {0}
+PatternFits (term e) = Fits e
+
+abbrev pub PlaceFits : PlainPlace → Type 0
+PlaceFits (value p) = PatternFits p
+PlaceFits (key e) = Fits e
+PlaceFits (entry e p) = Fits e × PatternFits p
+
+abbrev pub ActFits : PlainAct → Type 0
+ActFits (init x e) = Fits e
+ActFits (require e) = Fits e
+ActFits (assert e) = Fits e
+ActFits (update x e) = Fits e
+ActFits (have_variable x) = Unit {0}
+ActFits (have x p) = PlaceFits p
+ActFits (guard x p) = PlaceFits p
+ActFits (add x p) = PlaceFits p
+ActFits (deposit x p) = PlaceFits p
+ActFits (remove x p) = PlaceFits p
+ActFits (withdraw x p) = PlaceFits p
+
+abbrev pub OperationFits : PlainOperation → Type 0
+OperationFits o = All ActFits o.acts
+
+abbrev pub InvariantFits : PlainInvariant → Type 0
+InvariantFits i = Fits i.form
+
+abbrev pub MachineFits : PlainMachine → Type 0
+MachineFits m = All OperationFits m.operations × All InvariantFits m.invariants
+
+abbrev pub ClaimFits : PlainClaim → Type 0
+ClaimFits (keeps x) = Unit {0}
+ClaimFits (claim_at n) = n ≤ last_place
+
+abbrev pub ProofFits : PlainProof → Type 0
+ProofFits p = ClaimFits p.claim × BlockFits p.block
+
+abbrev pub TextFits : PlainText → Type 0
+TextFits t = MachineFits t.machine × All ProofFits t.proofs
