@@ -9,3 +9,5 @@ mod Scripts
 mod Acts
 mod Machines
 mod Texts
+mod Lexing
+mod LexingRuns
