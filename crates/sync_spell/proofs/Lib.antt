@@ -11,3 +11,4 @@ mod Machines
 mod Texts
 mod Lexing
 mod LexingRuns
+mod LexingNumbers
