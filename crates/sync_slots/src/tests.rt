@@ -86,7 +86,7 @@ fn begin(alloc: Global) -> Result<Machine, TermStop>
     machine(alloc, known.terms, steps)
 }
 
-/// `remove m -= [k => ?v]; require c <= k; update d = k;` in lines 12 to 14.
+/// `remove m -= [k => ?v]; have m >= [k => ?w]; require c <= k; update d = k;` in lines 11 to 14.
 fn look(alloc: Global) -> Result<Machine, TermStop>
     ensures own { IfOk result HasOwnIds }
     ensures one { IfOk result (λ m. length m.ops ≡ 1) }
@@ -96,8 +96,16 @@ fn look(alloc: Global) -> Result<Machine, TermStop>
         key: Some(known.k),
         value: Some(Pattern::Bind(Sym(68))),
     };
+    let other = Place {
+        key: Some(known.k),
+        value: Some(Pattern::Bind(Sym(72))),
+    };
     let remove = Step {
         act: Act::Remove(3, place),
+        line: 11,
+    };
+    let have = Step {
+        act: Act::Have(3, other),
         line: 12,
     };
     let require = Step {
@@ -108,7 +116,7 @@ fn look(alloc: Global) -> Result<Machine, TermStop>
         act: Act::Update(1, known.k),
         line: 14,
     };
-    let steps = Items::from_slice(alloc, &[remove, require, update])?;
+    let steps = Items::from_slice(alloc, &[remove, have, require, update])?;
     machine(alloc, known.terms, steps)
 }
 
@@ -135,7 +143,7 @@ fn an_init_gives_variables_first_and_then_amounts(rt: HostRuntime) -> Result<(),
 }
 
 #[test]
-fn variables_are_read_or_changed_and_a_token_is_taken(rt: HostRuntime) -> Result<(), Fail> {
+fn variables_come_first_and_then_a_token_taken_and_one_read(rt: HostRuntime) -> Result<(), Fail> {
     let m = look(rt.alloc()).ok().ok_or("memory")?;
     let slots = signature(rt.alloc(), &m, 0).ok().ok_or("memory")?;
     let c = slot(Role::Read, 0, None, 13);
@@ -145,8 +153,15 @@ fn variables_are_read_or_changed_and_a_token_is_taken(rt: HostRuntime) -> Result
         field: 3,
         key: Some(TermId(0)),
         value: Some(Pattern::Bind(Sym(68))),
+        line: 11,
+    };
+    let read = Slot {
+        role: Role::Read,
+        field: 3,
+        key: Some(TermId(0)),
+        value: Some(Pattern::Bind(Sym(72))),
         line: 12,
     };
-    assert!(rt; slots.as_slice() == [c, d, taken].as_slice());
+    assert!(rt; slots.as_slice() == [c, d, taken, read].as_slice());
     Ok(())
 }
