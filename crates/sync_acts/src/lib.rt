@@ -9,6 +9,3 @@ mod values;
 
 pub use statements::{condition, enabling, safety};
 pub use values::after;
-
-#[cfg(test)]
-mod tests;

@@ -20,12 +20,12 @@ ghost use Rattle.sync_exchange.specs.Works.{now_of, amount_fits, is_wanted, is_n
 
 use crate::cases::{Asked, Case};
 use crate::hands::{XStop, stored_at};
-use crate::scopes::{Scope, strategy_at};
+use crate::scopes::Scope;
 use crate::works::Work;
 use std::alloc::Global;
 use sync_eval::{EvalStop, Meanings, map_of, number_of, truth_of};
 use sync_join::{Entries, Token, Value};
-use sync_machine::{Pattern, Place, Strategy};
+use sync_machine::{Pattern, Place, Strategy, strategy_at};
 use sync_terms::{FormId, Sym, TermId};
 
 /// A token or an object that is as its place asks.

@@ -1,7 +1,6 @@
 //! What symbols stand for in an exchange.
 ghost use Rattle.std.specs.Prelude.{◌≡◌, pos, map, slice_index_or, IfSome, IfNone};
 ghost use Rattle.sync_terms.specs.Maps as maps;
-ghost use Rattle.sync_machine.specs.States as states;
 ghost use Rattle.sync_machine.specs.Views.{symbols_of};
 ghost use Rattle.sync_join.specs.Join as shards;
 ghost use Rattle.sync_join.specs.Views.{value_tree};
@@ -10,7 +9,7 @@ ghost use Rattle.sync_exchange.specs.Works.{outer_meaning, outer_number, outer_v
 
 use sync_eval::Meanings;
 use sync_join::{Entries, Value};
-use sync_machine::{Field, Strategy};
+use sync_machine::{Field, Strategy, strategy_at};
 use sync_terms::Sym;
 
 /// A symbol that has come to stand for a number.
@@ -38,16 +37,6 @@ pub(crate) struct Outer<'a> {
 pub(crate) struct Scope<'a> {
     pub outer: &'a Outer<'a>,
     pub known: &'a [Known],
-}
-
-/// The strategy of a field. A number that is no field's has none, which counts as one without tokens.
-pub(crate) fn strategy_at(fields: &[Field], field: u32) -> Strategy
-    ensures { result ≡ states.strategy_at fields.now field }
-{
-    match fields.get(field as usize) {
-        Some(f) => f.strategy,
-        None => Strategy::NotTokenized,
-    }
 }
 
 /// The number at a place of a list of values, 0 where there is none.

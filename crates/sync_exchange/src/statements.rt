@@ -19,12 +19,11 @@ use crate::cases::{Asked, Case};
 use crate::changes::Change;
 use crate::evaluation::{binds, is_of_variable};
 use crate::hands::XStop;
-use crate::scopes::strategy_at;
 use crate::works::Work;
 use std::alloc::Global;
 use sync_base::NoMemory;
 use sync_join::{PERM, Token, Value};
-use sync_machine::{Act, Place, Step, Strategy};
+use sync_machine::{Act, Place, Step, Strategy, strategy_at};
 use sync_slots::{Role, Slot};
 use sync_terms::{FormId, TermId};
 

@@ -5,12 +5,11 @@ ghost use Rattle.sync_machine.specs.declared.fields.Strategy.TheVariants.{Storag
 ghost use Rattle.sync_join.specs.Join as shards;
 ghost use Rattle.sync_exchange.specs.Works.{AreStores};
 
-use crate::scopes::strategy_at;
 use sqlite_items::Items;
 use std::alloc::Global;
 use sync_base::NoMemory;
 use sync_join::{Entries, Token};
-use sync_machine::{Field, Strategy};
+use sync_machine::{Field, Strategy, strategy_at};
 
 /// The stored objects of each field as a map; an empty one for other fields than those of a store.
 pub(crate) fn stores_of(

@@ -20,10 +20,9 @@ ghost use Rattle.sync_induct.specs.Walks.{IsWalk, known_of, values_of};
 
 use crate::index::{Book, Title};
 use crate::judges::{judge, too_large};
-use crate::numbers::number;
 use crate::walks::Walk;
 use std::alloc::Global;
-use sync_base::{NoMemory, Stop};
+use sync_base::{NoMemory, Stop, place_number};
 use sync_machine::{Invariant, Operation};
 use sync_rules::{Claim, Obligation};
 use sync_terms::{FormId, Node, Sym, TermId, TermStop, Terms};
@@ -37,7 +36,7 @@ fn field_pairs(alloc: Global, values: &[TermId]) -> Result<Vec<Pair>, NoMemory>
 {
     let mut pairs = Vec::new(alloc);
     for (i, value) in values.iter().enumerate() {
-        pairs.push((Sym(number(i)?), *value))?;
+        pairs.push((Sym(place_number(i)?), *value))?;
     }
     Ok(pairs)
 }
@@ -144,7 +143,7 @@ impl Walk {
         ensures keeps { Extends terms.old terms.new }
     {
         for (j, invariant) in invariants.iter().enumerate() {
-            let claim = Claim::Keeps(number(j)?);
+            let claim = Claim::Keeps(place_number(j)?);
             if book.wanted.contains(&Title::new(op, claim)) {
                 let obligation = Obligation {
                     op,

@@ -6,7 +6,6 @@ mod closing;
 mod holding;
 mod index;
 mod judges;
-mod numbers;
 mod operations;
 mod proofs;
 mod sizes;

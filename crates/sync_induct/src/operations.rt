@@ -14,10 +14,9 @@ ghost use Rattle.sync_induct.specs.Checklist.{AreShown, operation_checks, checks
 ghost use Rattle.sync_induct.specs.Titles.{same_title, first_at};
 
 use crate::index::Book;
-use crate::numbers::number;
 use crate::walks::Walk;
 use std::alloc::Global;
-use sync_base::Stop;
+use sync_base::{Stop, place_number};
 use sync_machine::{Field, Invariant, Operation};
 use sync_terms::Terms;
 
@@ -74,7 +73,7 @@ pub fn check_operations(
     ensures keeps { Extends terms.old terms.new }
 {
     for (i, operation) in operations.iter().enumerate() {
-        let number = number(i)?;
+        let number = place_number(i)?;
         check_operation(alloc, terms, fields, invariants, number, operation, book)?;
     }
     Ok(())

@@ -9,11 +9,10 @@ ghost use Rattle.sync_induct.specs.Duties.{base_facts, invariant_facts};
 ghost use Rattle.sync_induct.specs.Starts as starts;
 ghost use Rattle.sync_induct.specs.Walks.{HaveTrees, HasCome, IsWalk, known_of, values_of};
 
-use crate::numbers::number;
 use crate::walks::Walk;
 use sqlite_items::Items;
 use std::alloc::Global;
-use sync_base::NoMemory;
+use sync_base::{NoMemory, place_number};
 use sync_kernel::{Hyp, Sequent};
 use sync_machine::{Field, Invariant, OpMode, Strategy};
 use sync_terms::{FormId, HypName, Node, Sym, TermId, Terms};
@@ -65,7 +64,7 @@ fn first_values(
 {
     let mut values = Vec::new(alloc);
     for (i, field) in fields.iter().enumerate() {
-        let node = first_node(mode, number(i)?, field.strategy);
+        let node = first_node(mode, place_number(i)?, field.strategy);
         let Ok(value) = terms.add_term(node) else {
             return Err(NoMemory);
         };

@@ -13,9 +13,8 @@ ghost use Rattle.sync_machine.specs.Views.{steps_tree, HasActIds};
 ghost use Rattle.sync_induct.specs.Titles.{same_title, first_at};
 
 use crate::index::Book;
-use crate::numbers::number;
 use std::alloc::Global;
-use sync_base::{NoMemory, Stop};
+use sync_base::{NoMemory, Stop, place_number};
 use sync_kernel::{Hyp, Sequent};
 use sync_machine::{Field, Step};
 use sync_terms::{TermId, Terms};
@@ -65,7 +64,7 @@ impl Walk {
         ensures keeps { Extends terms.old terms.new }
     {
         for (i, step) in steps.iter().enumerate() {
-            let number = number(i + 1)?;
+            let number = place_number(i + 1)?;
             self.pass(alloc, terms, fields, op, number, *step, book)?;
         }
         Ok(())

@@ -12,8 +12,8 @@ use crate::tokens::{Bag, Rest, Token};
 use crate::values::{State, Value};
 use sqlite_items::Items;
 use std::alloc::Global;
-use sync_base::NoMemory;
-use sync_machine::{Field, Machine, Strategy};
+use sync_base::place_number;
+use sync_machine::{Machine, Strategy, strategy_at};
 
 /// The state of which the bag and the rest are the shards.
 ///
@@ -35,7 +35,7 @@ pub fn join(alloc: Global, m: &Machine, bag: &Bag, rest: &Rest) -> Result<Option
     check_sums(m, bag)?;
     let mut values = Items::new(alloc);
     for f in 0..m.fields.len() {
-        match value_at(alloc, m, bag, rest, number(f)?)? {
+        match value_at(alloc, m, bag, rest, place_number(f)?)? {
             Some(value) => values.push(value)?,
             None => return Ok(None),
         }
@@ -49,7 +49,7 @@ fn check_sums(m: &Machine, bag: &Bag) -> Result<(), JoinStop>
     ensures width { result ≡ Err Width → AreNarrow m.now.fields bag.now.tokens → ⊥ }
 {
     for f in 0..m.fields.len() {
-        let field = number(f)?;
+        let field = place_number(f)?;
         if strategy_at(m.fields.as_slice(), field) == Strategy::Count
             && sum_of(bag.tokens.as_slice(), field).is_none()
         {
@@ -110,21 +110,4 @@ fn borne_out(is_borne_out: bool, recorded: &Value) -> Result<Option<Value>, Join
     } else {
         Ok(None)
     }
-}
-
-/// The strategy of a field. A number that is no field's has none, which counts as one without tokens.
-fn strategy_at(fields: &[Field], field: u32) -> Strategy
-    ensures { result ≡ states.strategy_at fields.now field }
-{
-    match fields.get(field as usize) {
-        Some(f) => f.strategy,
-        None => Strategy::NotTokenized,
-    }
-}
-
-/// A place in a list as a number of 32 bits.
-fn number(place: usize) -> Result<u32, NoMemory>
-    ensures { IfOk result (λ n. n ≡ place) }
-{
-    u32::try_from(place).map_err(|_| NoMemory)
 }

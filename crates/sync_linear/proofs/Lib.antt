@@ -5,4 +5,3 @@ pub mod Trees
 pub mod Joins
 pub mod Leaves
 pub mod Spines
-pub mod Stays

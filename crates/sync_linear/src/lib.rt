@@ -10,6 +10,3 @@ mod terms;
 pub use changes::Change;
 pub use lines::Linear;
 pub use stops::LinearStop;
-
-#[cfg(test)]
-mod tests;

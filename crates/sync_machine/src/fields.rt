@@ -1,4 +1,6 @@
 //! Fields with their sharding strategies, and the kinds of operations.
+ghost use Rattle.std.specs.Prelude.{◌≡◌};
+ghost use Rattle.sync_machine.specs.States as states;
 
 /// How a field is sharded into tokens.
 #[derive(Clone, Copy, PartialEq, Eq, Hash, Debug)]
@@ -37,6 +39,16 @@ pub struct Field {
     pub name: u32,
     pub strategy: Strategy,
     pub line: u32,
+}
+
+/// The strategy of a field. A number that is no field's has none, which counts as one without tokens.
+pub fn strategy_at(fields: &[Field], field: u32) -> Strategy
+    ensures { result ≡ states.strategy_at fields.now field }
+{
+    match fields.get(field as usize) {
+        Some(f) => f.strategy,
+        None => Strategy::NotTokenized,
+    }
 }
 
 /// The kind of an operation.

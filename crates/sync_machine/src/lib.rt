@@ -6,7 +6,7 @@ mod machine;
 mod naming;
 mod scope;
 
-pub use fields::{Field, OpMode, Strategy};
+pub use fields::{Field, OpMode, Strategy, strategy_at};
 pub use machine::{Act, Invariant, Machine, Operation, Pattern, Place, Step};
 pub use naming::well_formed;
 

@@ -9,7 +9,7 @@ ghost use Rattle.sync_machine.specs.States as states;
 ghost use Rattle.sync_rules.specs.Strategies as strategies;
 
 use crate::kinds::OpKind;
-use sync_machine::{Act, Field, Strategy};
+use sync_machine::{Act, Field, Strategy, strategy_at};
 
 /// The field that a statement operates on, if it operates on one.
 #[tactic(auto, unfolding(sync_machine::specs::Statements::field_of))]
@@ -63,16 +63,6 @@ pub(crate) fn changed_by(act: &Act) -> Option<u32>
         | Act::Withdraw(f, _) => Some(f),
         Act::HaveVariable(_) | Act::Have(..) | Act::Guard(..) | Act::Require(_) | Act::Assert(_) =>
             None,
-    }
-}
-
-/// The strategy of a field. A number that is no field's has none, which counts as one without tokens.
-pub(crate) fn strategy_at(fields: &[Field], field: u32) -> Strategy
-    ensures { result ≡ states.strategy_at fields.now field }
-{
-    match fields.get(field as usize) {
-        Some(f) => f.strategy,
-        None => Strategy::NotTokenized,
     }
 }
 

@@ -11,7 +11,7 @@ use crate::acts::{changed_by, has_safety, strategy_of};
 use crate::claims::{Claim, Obligation};
 use crate::field_sets::{FieldSet, fields_of};
 use std::alloc::Global;
-use sync_base::NoMemory;
+use sync_base::{NoMemory, place_number};
 use sync_machine::{Act, Machine, OpMode, Operation};
 
 /// What has to be proved of a machine: of each operation in order its safety conditions, then the invariants that
@@ -27,7 +27,7 @@ pub fn obligations(alloc: Global, m: &Machine) -> Result<Vec<Obligation>, NoMemo
     let named = named_fields(alloc, m)?;
     let mut list = Vec::new(alloc);
     for (i, op) in m.ops.as_slice().iter().enumerate() {
-        let number = number(i)?;
+        let number = place_number(i)?;
         add_safety(&mut list, m, number, op)?;
         add_keeps(&mut list, m, named.as_slice(), number, op)?;
     }
@@ -59,7 +59,7 @@ fn add_safety(
         if has_safety(strategy_of(m.fields.as_slice(), &step.act), &step.act) {
             list.push(Obligation {
                 op,
-                claim: Claim::At(number(i + 1)?),
+                claim: Claim::At(place_number(i + 1)?),
                 line: step.line,
             })?;
         }
@@ -81,7 +81,7 @@ fn add_keeps(
         if has_to_keep(operation, set) {
             list.push(Obligation {
                 op,
-                claim: Claim::Keeps(number(j)?),
+                claim: Claim::Keeps(place_number(j)?),
                 line: operation.line,
             })?;
         }
@@ -112,11 +112,4 @@ fn is_changed_by(named: &FieldSet, act: &Act) -> bool
         Some(field) => named.has(field),
         None => false,
     }
-}
-
-/// A place in a list as a number of 32 bits.
-fn number(place: usize) -> Result<u32, NoMemory>
-    ensures { IfOk result (λ n. n ≡ place) }
-{
-    u32::try_from(place).map_err(|_| NoMemory)
 }

@@ -4,8 +4,7 @@ ghost use Rattle.sync_terms.specs.Stored.{tree, formula, IsTerm, IsForm};
 ghost use Rattle.sync_machine.specs.Views.{act_tree, place_tree, key_tree, pattern_tree, HasActIds, HasPlaceIds, HasKeyId, HasPatternId};
 ghost use Rattle.sync_rules.specs.Locality as locality;
 
-use crate::acts::strategy_at;
-use sync_machine::{Act, Field, Machine, OpMode, Pattern, Place, Strategy};
+use sync_machine::{Act, Field, Machine, OpMode, Pattern, Place, Strategy, strategy_at};
 use sync_terms::{FormId, FormNode, Node, Sym, TermId};
 
 /// Whether a local term of an operation of this mode may name a symbol.

@@ -1,24 +1,13 @@
 //! Which terms name a symbol, and which statements need a variable's value.
 ghost use Rattle.std.specs.Prelude.{◌≡◌};
 ghost use Rattle.sync_terms.specs.Stored.{tree, formula, IsTerm, IsForm};
-ghost use Rattle.sync_machine.specs.States as states;
 ghost use Rattle.sync_machine.specs.Views.{act_tree, place_tree, key_tree, pattern_tree, HasActIds, HasPlaceIds, HasKeyId, HasPatternId};
 ghost use Rattle.sync_rules.specs.Obligations as obligations;
 ghost use Rattle.sync_rules.specs.Locality as locality;
 ghost use Rattle.sync_slots.specs.Slots as slots;
 
-use sync_machine::{Act, Field, Machine, Pattern, Place, Strategy};
+use sync_machine::{Act, Machine, Pattern, Place, Strategy, strategy_at};
 use sync_terms::{FormId, FormNode, Node, TermId, Terms};
-
-/// The strategy of a field. A number that is no field's has none, which counts as one without tokens.
-pub(crate) fn strategy_at(fields: &[Field], field: u32) -> Strategy
-    ensures { result ≡ states.strategy_at fields.now field }
-{
-    match fields.get(field as usize) {
-        Some(f) => f.strategy,
-        None => Strategy::NotTokenized,
-    }
-}
 
 /// Whether a field is a variable.
 pub(crate) fn is_variable(strategy: Strategy) -> bool

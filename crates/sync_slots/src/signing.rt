@@ -10,7 +10,7 @@ use crate::slots::Slot;
 use crate::statements::statement_slot;
 use crate::variables::field_slot;
 use std::alloc::Global;
-use sync_base::NoMemory;
+use sync_base::{NoMemory, place_number};
 use sync_machine::{Machine, Step};
 
 /// The slots of the operation with this number: first those of the variables that it uses, then those of its
@@ -48,7 +48,7 @@ fn add_variables(list: &mut Vec<Slot>, m: &Machine, steps: &[Step]) -> Result<()
     ensures own { OnOk result (HaveSlotIds m.now.terms list.old.items → HaveSlotIds m.now.terms list.new.items) }
 {
     for f in 0..m.fields.len() {
-        let field = number(f)?;
+        let field = place_number(f)?;
         if let Some(slot) = field_slot(m, steps, field) {
             list.push(slot)?;
         }
@@ -68,11 +68,4 @@ fn add_statements(list: &mut Vec<Slot>, m: &Machine, steps: &[Step]) -> Result<(
         }
     }
     Ok(())
-}
-
-/// A place in a list as a number of 32 bits.
-fn number(place: usize) -> Result<u32, NoMemory>
-    ensures { IfOk result (λ n. n ≡ place) }
-{
-    u32::try_from(place).map_err(|_| NoMemory)
 }

@@ -4,9 +4,8 @@ ghost use Rattle.sync_machine.specs.Views.{step_tree, HasActIds};
 ghost use Rattle.sync_slots.specs.Slots as slots;
 ghost use Rattle.sync_slots.specs.Views.{slot_tree, HasSlotIds};
 
-use crate::mentions::strategy_at;
 use crate::slots::{Role, Slot};
-use sync_machine::{Act, Field, Machine, Step, Strategy};
+use sync_machine::{Act, Machine, Step, Strategy, strategy_at};
 
 /// Whether the tokens of a field are amounts, of which its first value gives one.
 fn has_amounts(strategy: Strategy) -> bool

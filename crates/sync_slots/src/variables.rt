@@ -7,9 +7,9 @@ ghost use Rattle.sync_machine.specs.declared.machine.Step.{Step as Statement};
 ghost use Rattle.sync_slots.specs.Slots as slots;
 ghost use Rattle.sync_slots.specs.Views.{slot_tree, HasSlotIds};
 
-use crate::mentions::{is_variable, needs, strategy_at};
+use crate::mentions::{is_variable, needs};
 use crate::slots::{Role, Slot};
-use sync_machine::{Act, Machine, Step};
+use sync_machine::{Act, Machine, Step, strategy_at};
 use sync_terms::TermId;
 
 /// The first value that a statement gives a field.
