@@ -43,8 +43,24 @@ pub meant : {A : Type 0} (bytes : List ℕ) (raw : RawText) (f : A → TextTree)
 meant bytes raw f (Ok x) spells scripts gives = (raw, spells, gives, subst (HasScripts bytes) (sym (all-counted raw (f x) gives)) scripts)
 meant bytes raw f (Err stop) spells scripts gives = tt
 
-pub accepted : (bytes : List ℕ) (t : TextTree) (r : Result ℕ Stop) → Means bytes t → OnOk r (HoldsAlways t.machine) → IfOk r (λ n. n ≡ length t.proofs)
-    → IfOk r (λ n. IsAccepted bytes n)
+pub accepted : (bytes : List ℕ) (t : TextTree) (n : ℕ) → Means bytes t → HoldsAlways t.machine → n ≡ length t.proofs → IsAccepted bytes n
 unfolding IsAccepted
-accepted bytes t (Ok n) means holds is = (t, means, holds, subst (HasScripts bytes) (sym is) means.3)
-accepted bytes t (Err e) means holds is = tt
+accepted bytes t n means holds is = (t, means, holds, subst (HasScripts bytes) (sym is) means.3)
+
+-- a machine that was checked is the one that is meant
+pub is_meant : {A : Type 0} (bytes : List ℕ) (t : TextTree) (f : A → MachineTree) (r : Result A Stop) → Means bytes t → IfOk r (λ x. f x ≡ t.machine) → IfOk r (λ x. IsMeant bytes (f x))
+is_meant bytes t f (Ok x) means same = (t, means, sym same)
+is_meant bytes t f (Err stop) means same = tt
+
+-- a machine of its own ids stays so while its store grows
+own : (old new : Machine) → HasOwnIds old → HasGrown old new → HasOwnIds new
+own old new ids grown = rw (grown.ops, grown.invariants) (machine_stays new.terms old grown.terms ids)
+
+pub are_own : (old : Machine) (r : Result Machine Stop) → HasOwnIds old → IfOk r (HasGrown old) → IfOk r HasOwnIds
+are_own old (Ok new) ids grown = own old new ids grown
+are_own old (Err stop) ids grown = tt
+
+-- what is said of a machine is said of an equal one
+pub said_again : {A : Type 0} (P : MachineTree → Type 0) (m : MachineTree) (f : A → MachineTree) (r : Result A Stop) → OnOk r (P m) → IfOk r (λ x. f x ≡ m) → IfOk r (λ x. P (f x))
+said_again P m f (Ok x) holds same = subst P (sym same) holds
+said_again P m f (Err stop) holds same = tt

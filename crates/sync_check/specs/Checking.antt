@@ -34,17 +34,29 @@ abbrev pub unless : {A : Type 0} → Option Refusal → A → Result A Refusal
 unless None answer = Ok answer
 unless (Some refusal) answer = Err refusal
 
+-- the first rule of names, of strategies or of proofs that a text breaks
+abbrev pub fault_of : TextTree → Option Refusal
+fault_of t = first (form_fault t.machine) (proof_fault t.machine t.proofs)
+
 -- the number of a text's scripts, or the first rule that it breaks
 abbrev pub judged : TextTree → Result ℕ Refusal
-judged t = unless (first (form_fault t.machine) (proof_fault t.machine t.proofs)) (length t.proofs)
+judged t = unless (fault_of t) (length t.proofs)
 
 unfoldable pub verdict_of : List ℕ → Result ℕ Refusal
 verdict_of bytes = spelled bytes >>= judged
+
+-- the machine of a text, or the first rule that the text breaks
+unfoldable pub machine_of : List ℕ → Result MachineTree Refusal
+machine_of bytes = spelled bytes >>= λ t. unless (fault_of t) t.machine
 
 -- The bytes spell a raw tree by the productions of the grammar, the tree means this machine with these proofs, and the
 -- word `by` stands once for each proof.
 abbrev pub Means : List ℕ → TextTree → Type 0
 Means bytes t = (raw : RawText) × Spells bytes raw × (resolved raw ≡ Ok t) × HasScripts bytes (length t.proofs)
+
+-- the bytes mean this machine with some proofs
+abbrev pub IsMeant : List ℕ → MachineTree → Type 0
+IsMeant bytes m = (t : TextTree) × Means bytes t × (t.machine ≡ m)
 
 -- The bytes spell a machine, so often `by` stands in them, and the machine holds always: each state that it reaches by
 -- declared steps meets all its invariants, and no safety condition and no assertion fails at one.

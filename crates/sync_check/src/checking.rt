@@ -1,5 +1,5 @@
 //! Checks one text.
-ghost use Rattle.std.specs.Prelude.{◌≡◌, length, IfOk, OnOk};
+ghost use Rattle.std.specs.Prelude.{◌≡◌, None, IfOk, OnOk};
 ghost use Rattle.std.specs.List.{AllByRecursion};
 ghost use Rattle.sync_base.specs.Outcome.{Gives, Passes};
 ghost use Rattle.sync_machine.specs.Machines.{OperationTree};
@@ -9,14 +9,15 @@ ghost use Rattle.sync_machine.specs.States.{HoldsAlways};
 ghost use Rattle.sync_machine.specs.Views.{HasOwnIds, machine_tree};
 ghost use Rattle.sync_rules.specs.Strategies.{AreAllowed};
 ghost use Rattle.sync_induct.specs.Checks.{AreScriptsOf};
+ghost use Rattle.sync_induct.specs.Grown.{HasGrown};
 ghost use Rattle.sync_read.specs.Texts.{text_tree};
 ghost use Rattle.sync_read.specs.declared.texts.Text.{Text};
-ghost use Rattle.sync_check.specs.Checking.{spelled, form_fault, judged, verdict_of, Means, IsAccepted};
+ghost use Rattle.sync_check.specs.Checking.{spelled, fault_of, form_fault, machine_of, verdict_of, IsAccepted, IsMeant, Means};
 
 use std::alloc::Global;
 use sync_base::Stop;
 use sync_grammar::read_tree;
-use sync_induct::inductive;
+use sync_induct::{Inductive, inductive};
 use sync_machine::{Machine, well_formed};
 use sync_read::{Text, resolve};
 use sync_rules::check_ops;
@@ -52,19 +53,19 @@ pub(crate) fn has_form(m: &Machine) -> Result<(), Stop>
     }
 }
 
-/// The number of a text's scripts, where its machine and its proofs break no rule.
-fn judge(alloc: Global, text: Text) -> Result<u64, Stop>
+/// The machine of a text that has been read, where it and its proofs break no rule.
+fn judge(alloc: Global, text: Text) -> Result<Inductive, Stop>
     requires ids { HasOwnIds text.machine }
     requires names { AreTextNames (machine_tree text.machine) }
     requires scripts { AreScriptsOf text.machine.terms text.proofs.list }
-    ensures exact { Gives (λ scripts. scripts) result (judged (text_tree text)) }
+    ensures exact { Passes result (fault_of (text_tree text)) }
     ensures holds { OnOk result (HoldsAlways (machine_tree text.machine)) }
-    ensures scripts { IfOk result (λ scripts. scripts ≡ length (text_tree text).proofs) }
+    ensures form { OnOk result (form_fault (machine_tree text.machine) ≡ None) }
+    ensures same { IfOk result (λ i. machine_tree i ≡ machine_tree text.machine) }
+    ensures grown { IfOk result (HasGrown text.machine) }
 {
     has_form(&text.machine)?;
-    let scripts = text.proofs.list.len() as u64;
-    inductive(alloc, text.machine, text.proofs)?;
-    Ok(scripts)
+    inductive(alloc, text.machine, text.proofs)
 }
 
 /// The number of scripts of a text that keeps all rules, or its first broken rule.
@@ -75,6 +76,24 @@ fn judge(alloc: Global, text: Text) -> Result<u64, Stop>
 pub fn check(alloc: Global, text: &[u8]) -> Result<u64, Stop>
     ensures exact { Gives (λ scripts. scripts) result (verdict_of text.now) }
     ensures sound { IfOk result (λ scripts. IsAccepted text.now scripts) }
+{
+    let text = read(alloc, text)?;
+    let scripts = text.proofs.list.len() as u64;
+    judge(alloc, text)?;
+    Ok(scripts)
+}
+
+/// The machine of a text that keeps all rules, or the text's first broken rule, which is the one that `check` tells.
+///
+/// It is the machine that the bytes spell, it keeps the rules of names and of strategies, and it holds always.
+#[tactic(auto, unfolding(crate::specs::Checking::machine_of))]
+pub fn accepted_machine(alloc: Global, text: &[u8]) -> Result<Inductive, Stop>
+    ensures exact { Gives machine_tree result (machine_of text.now) }
+    ensures means { IfOk result (λ i. IsMeant text.now (machine_tree i)) }
+    ensures ids { IfOk result HasOwnIds }
+    ensures names { IfOk result (λ i. AreTextNames (machine_tree i)) }
+    ensures form { IfOk result (λ i. form_fault (machine_tree i) ≡ None) }
+    ensures holds { IfOk result (λ i. HoldsAlways (machine_tree i)) }
 {
     let text = read(alloc, text)?;
     judge(alloc, text)

@@ -32,14 +32,6 @@ variable-is : (f : ℕ) (x : Exchanging) → use_variable f Read x ≡ (named x 
 unfolding using
 variable-is f x = refl
 
-pub variable-missing : (f : ℕ) (x : Exchanging) (stop : XStop) → Stops stop (named x) → Stops stop (use_variable f Read x)
-unfolding using
-variable-missing f x stop h = stops-bind stop (named x) (using f x) h
-
-pub variable-differs : (f : ℕ) (x : Exchanging) (t : Token) → named x ≡ Ok t → is_token f (pos 0) t ≡ false → use_variable f Read x ≡ Err (Differs x.slot)
-unfolding using
-variable-differs f x t e other = variable-is f x ∙ ap (λ r. r >>= using f x) e ∙ ap (λ b. unless (Differs x.slot) b (Ok (knowing f (next_name x.tokens) t.value (after_reading x)))) other
-
 pub variable-read : (f : ℕ) (x y z : Exchanging) (t : Token) → named x ≡ Ok t → is_token f (pos 0) t ≡ true → z ≡ after_reading x → y ≡ knowing f (next_name x.tokens) t.value z → use_variable f Read x ≡ Ok y
 unfolding using
 variable-read f x y z t e same ez ey =

@@ -37,14 +37,6 @@ first-stop (Differs n) a b h = absurd h
 first-stop (RequireFalse n) a b h = absurd h
 first-stop (StoreEmpty n) a b h = absurd h
 
-pub second-stop : (stop : XStop) (a b : Bool) → a ≡ true → Stopped stop b → Stopped stop (a && b)
-second-stop Width a b p h = ap (λ c. c && b) p ∙ h
-second-stop Memory a b p h = tt
-second-stop (Missing n) a b p h = absurd h
-second-stop (Differs n) a b p h = absurd h
-second-stop (RequireFalse n) a b p h = absurd h
-second-stop (StoreEmpty n) a b p h = absurd h
-
 pub wide-stop : (stop : XStop) (fits : Bool) (answer : Answer) → Stopped stop fits → Stops stop (unless Width fits answer)
 wide-stop Width fits answer h = ap (λ b. unless Width b answer) h
 wide-stop Memory fits answer h = tt

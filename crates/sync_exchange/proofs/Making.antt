@@ -153,11 +153,6 @@ change-one fs v bag more kept now cur f t h lt own other sound = record {
 pub same-field : (fs : List Field) (v : Valuation) (bag : List Token) (kept : Kept) (cur : List Tree) (f : ℕ) → Makes fs v bag kept cur → Makes fs v bag kept (set cur f (get_or cur f Nil))
 same-field fs v bag kept cur f h = subst (Makes fs v bag kept) (sym (set-get_or cur f Nil)) h
 
--- all fields do
-pub same-values : (fs : List Field) (v : Valuation) (bag more : List Token) (kept now : Kept) (cur : List Tree) → Makes fs v bag kept cur
-    → ((g : ℕ) → g < length fs → value_at fs more now g ≡ value_at fs bag kept g) → AreSoundShards fs more now → Makes fs v more now cur
-same-values fs v bag more kept now cur h same sound = record { values = λ g below. same g below ∙ h.values g below; sound = sound; many = h.many }
-
 pub kept-value : (fs : List Field) (bag : List Token) (kept now : Kept) (g : ℕ) → record_at now g ≡ record_at kept g → tokens_of g now.stored ≡ tokens_of g kept.stored
     → value_at fs bag now g ≡ value_at fs bag kept g
 kept-value fs bag kept now g r s =

@@ -33,9 +33,6 @@ module _ {S : Type 0} (view : S → SlotTree) (xs : List S) (i : ℕ) (d : S) (x
       stops-is stop (use_variable (view (get_or xs i d)).field (view (get_or xs i d)).role x >>= use_variables (map view (drop (i + 1) xs))) whole (sym here-slot ∙ inv)
       (stops-bind stop (use_variable (view (get_or xs i d)).field (view (get_or xs i d)).role x) (use_variables (map view (drop (i + 1) xs))) s)
 
-pub slots-end : {S : Type 0} (view : S → SlotTree) (xs : List S) (i : ℕ) (x : Exchanging) (whole : Answer) → length xs ≤ i → use_variables (map view (drop i xs)) x ≡ whole → whole ≡ Ok x
-slots-end view xs i x whole h inv = sym inv ∙ at_drop_all (λ ss. use_variables (map view ss) x) xs i h
-
 -- ---- statements
 
 module _ {S : Type 0} (fits : ℤ → Bool) (fs : List Field) (view : S → StepTree) (xs : List S) (i : ℕ) (d : S) (x : Exchanging) (h : i < length xs) where
@@ -49,9 +46,6 @@ module _ {S : Type 0} (fits : ℤ → Bool) (fs : List Field) (view : S → Step
   steps-stop stop whole s inv =
       stops-is stop (does fits fs (view (get_or xs i d)) x >>= does_all fits fs (map view (drop (i + 1) xs))) whole (sym here-step ∙ inv)
       (stops-bind stop (does fits fs (view (get_or xs i d)) x) (does_all fits fs (map view (drop (i + 1) xs))) s)
-
-pub steps-end : {S : Type 0} (fits : ℤ → Bool) (fs : List Field) (view : S → StepTree) (xs : List S) (i : ℕ) (x : Exchanging) (whole : Answer) → length xs ≤ i → does_all fits fs (map view (drop i xs)) x ≡ whole → whole ≡ Ok x
-steps-end fits fs view xs i x whole h inv = sym inv ∙ at_drop_all (λ ss. does_all fits fs (map view ss) x) xs i h
 
 -- ---- what symbols stand for before the first slot
 

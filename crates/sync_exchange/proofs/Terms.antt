@@ -60,9 +60,6 @@ pub record Same (q : ℕ → Bool) (v w : Valuation) : Type 0 where
   pub number : (x : ℕ) → q x ≡ true → v.number x ≡ w.number x
   pub mapping : (x : ℕ) → q x ≡ true → v.mapping x ≡ w.mapping x
 
-pub Same-part : (p q : ℕ → Bool) (v w : Valuation) → ((x : ℕ) → p x ≡ true → q x ≡ true) → Same q v w → Same p v w
-Same-part p q v w h a = record { number = λ x e. a.number x (h x e); mapping = λ x e. a.mapping x (h x e) }
-
 module _ (q : ℕ → Bool) (v w : Valuation) (a : Same q v w) where
   mutual
     unfolding names_only

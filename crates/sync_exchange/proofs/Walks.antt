@@ -47,17 +47,6 @@ stored-none f k ts i h = at_drop_all (stored_at f k) ts i h
 
 -- ---- what passes a test, up to a place
 
-pub filter-in : {A : Type 0} (p : A → Bool) (xs : List A) (i : ℕ) (d : A) → i < length xs → p (get_or xs i d) ≡ true → filter p (take (i + 1) xs) ≡ filter p (take i xs) ++ get_or xs i d ∷ []
-filter-in p xs i d h e =
-    ap (filter p) (take_more xs i d h) ∙ filter-append p (take i xs) (get_or xs i d ∷ [])
-    ∙ ap (λ ys. filter p (take i xs) ++ ys) (cond-true (p (get_or xs i d)) (get_or xs i d ∷ []) [] e)
-
-pub filter-out : {A : Type 0} (p : A → Bool) (xs : List A) (i : ℕ) (d : A) → i < length xs → p (get_or xs i d) ≡ false → filter p (take (i + 1) xs) ≡ filter p (take i xs)
-filter-out p xs i d h e =
-    ap (filter p) (take_more xs i d h) ∙ filter-append p (take i xs) (get_or xs i d ∷ [])
-    ∙ ap (λ ys. filter p (take i xs) ++ ys) (cond-false (p (get_or xs i d)) (get_or xs i d ∷ []) [] e)
-    ∙ append-nothing (filter p (take i xs))
-
 -- ---- what symbols stand for
 
 pub known-push : (ks : List Known) (k : Known) (v : Valuation) → known_over (ks ++ k ∷ []) v ≡ with_value k.symbol k.number maps.nil (known_over ks v)

@@ -61,22 +61,6 @@ withdrawn f k ts = filter (λ (t : Token). not (is_stored_at f k t)) ts
 
 -- ---- what symbols stand for before the first statement
 
--- The fields whose values are kept beside the tokens.
-abbrev pub is_recorded : Strategy → Bool
-is_recorded Constant = true
-is_recorded NotTokenized = true
-is_recorded PersistentOption = true
-is_recorded PersistentMap = true
-is_recorded PersistentSet = true
-is_recorded PersistentCount = true
-is_recorded Variable = false
-is_recorded OptionField = false
-is_recorded Map = false
-is_recorded Set = false
-is_recorded Multiset = false
-is_recorded Count = false
-is_recorded StorageMap = false
-
 -- A field as the exchange sees it: what is kept, from what is kept; all else from the whole state.
 abbrev pub seen : Strategy → Kept → State → ℕ → Value
 seen StorageMap kept whole f = Mapped (map_of (tokens_of f kept.stored))

@@ -76,8 +76,8 @@ IsStep m o args tokens given whole hand kept left rest = IsProved m → Contains
 
 -- Whatever the others hold: where the hand with their tokens makes a reached state, an exchange of a transition or
 -- property that does not fail is a declared step of the whole, whatever the bound of numbers.
-abbrev pub Projects : (ℤ → Bool) → Type 0
-Projects fits = (m : MachineTree) → IsProved m → (o : OperationTree) → Contains m.ops o → (IsInit o → ⊥)
+abbrev pub ProjectsOf : (ℤ → Bool) → MachineTree → Type 0
+ProjectsOf fits m = (o : OperationTree) → Contains m.ops o → (IsInit o → ⊥)
     → (args : List ℤ) → length args ≡ length o.params
     → (tokens given : List ℕ) (hand : List Held) → AreNames m.fields o tokens given hand
     → (others : List Token) (kept : Kept) → AreSoundShards m.fields (tokens_in hand ++ others) kept
@@ -85,6 +85,10 @@ Projects fits = (m : MachineTree) → IsProved m → (o : OperationTree) → Con
     → (whole : State) → (whole ≡ s) ⊎ (is_plain m.fields o ≡ true)
     → (x : Exchanged) → exchange_in fits m.fields o args tokens given whole hand kept ≡ Ok x
     → LeadsOn m s o args (tokens_in x.hand ++ others) x.kept
+
+-- so of every proved machine
+abbrev pub Projects : (ℤ → Bool) → Type 0
+Projects fits = (m : MachineTree) → IsProved m → ProjectsOf fits m
 
 -- ---- starts
 
@@ -118,13 +122,17 @@ IsStart m o args tokens given hand kept left rest = IsProved m → Contains m.op
     → Begins m o args (tokens_in left) rest
 
 -- The exchange of an init by a holder of permissions alone, where nothing is recorded or stored, is a declared start.
-abbrev pub Initialises : (ℤ → Bool) → Type 0
-Initialises fits = (m : MachineTree) → IsProved m → (o : OperationTree) → Contains m.ops o → IsInit o
+abbrev pub InitialisesOf : (ℤ → Bool) → MachineTree → Type 0
+InitialisesOf fits m = (o : OperationTree) → Contains m.ops o → IsInit o
     → (args : List ℤ) → length args ≡ length o.params
     → (tokens given : List ℕ) (hand : List Held) → AreNames m.fields o tokens given hand
     → ArePermissions (tokens_in hand) → (kept : Kept) → AreBlank m.fields kept.records → kept.stored ≡ []
     → (whole : State) (x : Exchanged) → exchange_in fits m.fields o args tokens given whole hand kept ≡ Ok x
     → Begins m o args (tokens_in x.hand) x.kept
+
+-- so of every proved machine
+abbrev pub Initialises : (ℤ → Bool) → Type 0
+Initialises fits = (m : MachineTree) → IsProved m → InitialisesOf fits m
 
 -- ---- plain operations
 

@@ -23,7 +23,7 @@ use crate::hands::{XStop, stored_at};
 use crate::scopes::Scope;
 use crate::works::Work;
 use std::alloc::Global;
-use sync_eval::{EvalStop, Meanings, map_of, number_of, truth_of};
+use sync_eval::{Meanings, map_of, number_of, truth_of};
 use sync_join::{Entries, Token, Value};
 use sync_machine::{Pattern, Place, Strategy, strategy_at};
 use sync_terms::{FormId, Sym, TermId};
@@ -85,7 +85,7 @@ pub(crate) fn is_of_variable(token: Token, field: u32) -> bool
 }
 
 impl Work {
-    /// What symbols stand for now.
+    /// What symbols stand for at this statement.
     fn scope<'a>(&'a self, case: &'a Case<'a>) -> Scope<'a>
         ensures known { result.known.now ≡ self.now.known }
         ensures outer { result.outer.now ≡ case.now.outer }
@@ -101,11 +101,7 @@ impl Work {
         requires { IsTerm case.now.m.now.terms t }
         ensures { Measures (λ (n : ℤ). n) result (number_fits is_narrow (now_of case.now self.now).names (tree case.now.m.now.terms t)) (num (now_of case.now self.now).names (tree case.now.m.now.terms t)) }
     {
-        match number_of(alloc, &case.m.terms, &self.scope(case), t) {
-            Ok(n) => Ok(n),
-            Err(EvalStop::Width) => Err(XStop::Width),
-            Err(EvalStop::Memory) => Err(XStop::Memory),
-        }
+        Ok(number_of(alloc, &case.m.terms, &self.scope(case), t)?)
     }
 
     /// The map that a term is.
@@ -113,11 +109,7 @@ impl Work {
         requires { IsTerm case.now.m.now.terms t }
         ensures { Measures (λ (m : maps.Map). m) result (map_fits is_narrow (now_of case.now self.now).names (tree case.now.m.now.terms t)) (mapped (now_of case.now self.now).names (tree case.now.m.now.terms t)) }
     {
-        match map_of(alloc, &case.m.terms, &self.scope(case), t) {
-            Ok(m) => Ok(m),
-            Err(EvalStop::Width) => Err(XStop::Width),
-            Err(EvalStop::Memory) => Err(XStop::Memory),
-        }
+        Ok(map_of(alloc, &case.m.terms, &self.scope(case), t)?)
     }
 
     /// Whether a formula is true.
@@ -125,11 +117,7 @@ impl Work {
         requires { IsForm case.now.m.now.terms form }
         ensures { Measures (λ (b : Bool). b) result (form_fits is_narrow (now_of case.now self.now).names (formula case.now.m.now.terms form)) (truth (now_of case.now self.now).names (formula case.now.m.now.terms form)) }
     {
-        match truth_of(alloc, &case.m.terms, &self.scope(case), form) {
-            Ok(b) => Ok(b),
-            Err(EvalStop::Width) => Err(XStop::Width),
-            Err(EvalStop::Memory) => Err(XStop::Memory),
-        }
+        Ok(truth_of(alloc, &case.m.terms, &self.scope(case), form)?)
     }
 
     /// The value that a term gives a field, of the field's sort.
