@@ -14,5 +14,5 @@ loop-i-preserved c =
     let i = c.loop-i.i in
     let d : TermId = record { 0 = 0 } in
     c.in_ok-push.ensures.items
-    ∙ (ap (λ (ps : List (Sym × TermId)). ps ++ (record { 0 = c.in_ok-number.field-0 }, get_or ts i d) ∷ []) c.loop-i.invariant
-    ∙ (ap (λ (k : ℕ). field_pairs 0 (take i ts) ++ (record { 0 = k }, get_or ts i d) ∷ []) c.in_ok-number.ensures ∙ pairs-more ts i d c.loop-i-test.true))
+    ∙ (ap (λ (ps : List (Sym × TermId)). ps ++ (record { 0 = c.in_ok-place_number.field-0 }, get_or ts i d) ∷ []) c.loop-i.invariant
+    ∙ (ap (λ (k : ℕ). field_pairs 0 (take i ts) ++ (record { 0 = k }, get_or ts i d) ∷ []) c.in_ok-place_number.ensures ∙ pairs-more ts i d c.loop-i-test.true))

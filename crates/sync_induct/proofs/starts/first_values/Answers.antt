@@ -26,7 +26,7 @@ loop-i-preserved c =
     let t = c.add_term.new.self in
     let x = first_value c.args.mode c.loop-i.i (get_or fs c.loop-i.i d).strategy in
     let e = c.in-Ok.ensures in
-    let pushed = trees-push s t c.loop-i.values.items (values_from c.args.mode 0 (take c.loop-i.i fs)) c.in-Ok.value x e.keeps c.loop-i.invariant.have e.id.0 (e.id.1 ∙ (c.first_node-node.ensures.tree s ∙ ap (λ k. first_value c.args.mode k (get_or fs c.loop-i.i d).strategy) c.in_ok-number.ensures)) in
+    let pushed = trees-push s t c.loop-i.values.items (values_from c.args.mode 0 (take c.loop-i.i fs)) c.in-Ok.value x e.keeps c.loop-i.invariant.have e.id.0 (e.id.1 ∙ (c.first_node-node.ensures.tree s ∙ ap (λ k. first_value c.args.mode k (get_or fs c.loop-i.i d).strategy) c.in_ok-place_number.ensures)) in
     record {
       keeps = Extends-trans c.loop-i.invariant.keeps e.keeps;
       have = subst (λ (ids : List TermId). HaveTrees t ids (values_from c.args.mode 0 (take (c.loop-i.i + 1) fs))) (sym c.in_ok-push.ensures.items)

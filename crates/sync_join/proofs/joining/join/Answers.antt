@@ -12,7 +12,7 @@ returns-in-None-clause-state c =
     let bag = c.args.bag.now.tokens in
     let kept = kept_of c.args.rest.now in
     let inside : c.loop-f.f < length fs = subst (λ (n : ℕ). c.loop-f.f < n) c.len-f-end.ensures c.loop-f-test.true in
-    let none : value_at fs bag kept c.loop-f.f ≡ None = ap (value_at fs bag kept) (sym c.in_ok-number.ensures) ∙ sym c.in_ok-value.ensures.value ∙ ap (option_map value_tree) c.in-None.is in
+    let none : value_at fs bag kept c.loop-f.f ≡ None = ap (value_at fs bag kept) (sym c.in_ok-place_number.ensures) ∙ sym c.in_ok-value.ensures.value ∙ ap (option_map value_tree) c.in-None.is in
     sym (no-state fs bag kept c.loop-f.f inside none)
 
 pub loop-f-preserved : goal.loop-f-preserved
@@ -21,7 +21,7 @@ loop-f-preserved c =
     let bag = c.args.bag.now.tokens in
     let kept = kept_of c.args.rest.now in
     let value = c.in-Some.value in
-    let is : value_at fs bag kept c.loop-f.f ≡ Some (value_tree value) = ap (value_at fs bag kept) (sym c.in_ok-number.ensures) ∙ sym c.in_ok-value.ensures.value ∙ ap (option_map value_tree) c.in-Some.is in
+    let is : value_at fs bag kept c.loop-f.f ≡ Some (value_tree value) = ap (value_at fs bag kept) (sym c.in_ok-place_number.ensures) ∙ sym c.in_ok-value.ensures.value ∙ ap (option_map value_tree) c.in-Some.is in
     let pushed : c.push.new.self ≡ c.loop-f.values ++ value ∷ [] = c.in_ok-push-in-Some.ensures.ok in
     values-more fs bag kept c.loop-f.f (map value_tree c.loop-f.values) (value_tree value) c.loop-f.invariant is
     ∙ ap (map Some) (sym (ap (map value_tree) pushed ∙ map_push value_tree c.loop-f.values value))

@@ -31,12 +31,12 @@ returns-in_err-keep_one-clause-exact c =
     let x = c.index-invariants-j.result in
     let lt = c.loop-j-test.true in
     let is = c.index-invariants-j.is in
-    let n = c.in_ok-number.ensures in
-    let wanted = wanted-is s o c.args.op (known_of s w) (values_of s w) xs j x lt is (contains same_title c.args.book.wanted.now) c.in_ok-number.field-0 c.new.result c.contains.result true c.requires.wanted n c.new.ensures c.contains.ensures c.if-contains.true in
-    let h = keeping-refused s c.loop-j.terms w c.loop-j.self o c.args.op xs (proofs_in c.args.terms.now c.args.book.proofs.now) j c.in_ok-number.field-0 x lt is n c.requires.walk c.requires.invariants c.loop-j.invariant
+    let n = c.in_ok-place_number.ensures in
+    let wanted = wanted-is s o c.args.op (known_of s w) (values_of s w) xs j x lt is (contains same_title c.args.book.wanted.now) c.in_ok-place_number.field-0 c.new.result c.contains.result true c.requires.wanted n c.new.ensures c.contains.ensures c.if-contains.true in
+    let h = keeping-refused s c.loop-j.terms w c.loop-j.self o c.args.op xs (proofs_in c.args.terms.now c.args.book.proofs.now) j c.in_ok-place_number.field-0 x lt is n c.requires.walk c.requires.invariants c.loop-j.invariant
     (Unit {0}) (Unit {0}) c.in_err-keep_one.field-0.0 wanted
     (duty-over s c.loop-j.terms c.loop-j.invariant.keeps c.args.book.proofs.now c.requires.scripts {A = Unit {0}} (Err c.in_err-keep_one.field-0.0)
-    (kept_duty (record { op = c.args.op; claim = claims.Keeps c.in_ok-number.field-0; line = o.line }) (known_of c.loop-j.terms c.loop-j.self) (values_of c.loop-j.terms c.loop-j.self) (invariant_tree c.loop-j.terms x)) c.in_err-keep_one.ensures.exact) in
+    (kept_duty (record { op = c.args.op; claim = claims.Keeps c.in_ok-place_number.field-0; line = o.line }) (known_of c.loop-j.terms c.loop-j.self) (values_of c.loop-j.terms c.loop-j.self) (invariant_tree c.loop-j.terms x)) c.in_err-keep_one.ensures.exact) in
     search rules
 
 pub returns-in_err-keep_one-clause-keeps : goal.returns-in_err-keep_one-clause-keeps
@@ -55,17 +55,17 @@ loop-j-preserved c =
     let x = c.index-invariants-j.result in
     let lt = c.loop-j-test.true in
     let is = c.index-invariants-j.is in
-    let n = c.in_ok-number.ensures in
-    let wanted = λ (b : Bool). wanted-is s o c.args.op (known_of s w) (values_of s w) xs j x lt is (contains same_title c.args.book.wanted.now) c.in_ok-number.field-0 c.new.result c.contains.result b c.requires.wanted n c.new.ensures c.contains.ensures in
+    let n = c.in_ok-place_number.ensures in
+    let wanted = λ (b : Bool). wanted-is s o c.args.op (known_of s w) (values_of s w) xs j x lt is (contains same_title c.args.book.wanted.now) c.in_ok-place_number.field-0 c.new.result c.contains.result b c.requires.wanted n c.new.ensures c.contains.ensures in
     elim c.if-contains.branch [
       | then-contains+in_ok-keep_one b ↦
           let e = b.in_ok-keep_one.ensures in
           same-keeping s b.keep_one.new.terms c.if-contains.terms w b.keep_one.new.self c.if-contains.self o c.args.op xs ps (j + 1) b.terms-is b.self-is
-          (keeping-passes s t w v o c.args.op xs ps j c.in_ok-number.field-0 x lt is n c.requires.walk c.requires.invariants c.loop-j.invariant b.keep_one.new.terms b.keep_one.new.self (wanted true b.if-contains.true) e.keeps e.hyps e.current e.size (duty-none_over s t c.loop-j.invariant.keeps c.args.book.proofs.now c.requires.scripts
-          (kept_duty (record { op = c.args.op; claim = claims.Keeps c.in_ok-number.field-0; line = o.line }) (known_of c.loop-j.terms c.loop-j.self) (values_of c.loop-j.terms c.loop-j.self) (invariant_tree c.loop-j.terms x)) e.exact) e.proved)
+          (keeping-passes s t w v o c.args.op xs ps j c.in_ok-place_number.field-0 x lt is n c.requires.walk c.requires.invariants c.loop-j.invariant b.keep_one.new.terms b.keep_one.new.self (wanted true b.if-contains.true) e.keeps e.hyps e.current e.size (duty-none_over s t c.loop-j.invariant.keeps c.args.book.proofs.now c.requires.scripts
+          (kept_duty (record { op = c.args.op; claim = claims.Keeps c.in_ok-place_number.field-0; line = o.line }) (known_of c.loop-j.terms c.loop-j.self) (values_of c.loop-j.terms c.loop-j.self) (invariant_tree c.loop-j.terms x)) e.exact) e.proved)
       | else-contains b ↦
           same-keeping s t c.if-contains.terms w v c.if-contains.self o c.args.op xs ps (j + 1) b.terms-is b.self-is
-          (keeping-skips s t w v o c.args.op xs ps j c.in_ok-number.field-0 x lt is n c.requires.walk c.requires.invariants c.loop-j.invariant (wanted false b.if-contains.false))
+          (keeping-skips s t w v o c.args.op xs ps j c.in_ok-place_number.field-0 x lt is n c.requires.walk c.requires.invariants c.loop-j.invariant (wanted false b.if-contains.false))
     ]
 
 pub returns : goal.returns
