@@ -1,0 +1,5 @@
+pub mod Apart
+pub mod Splits
+pub mod Exchanges
+pub mod Names
+pub mod Moving
