@@ -11,13 +11,14 @@ use Rattle.sync_exchange.proofs.Owning.{times-contains}
 abbrev pub IsOnce : List Held → Type 0
 IsOnce hs = (z : ℕ) → holds z hs ≤ 1
 
-none-apart : (y : ℕ) (ys : List ℕ) → times y ys ≡ 0 → AllByRecursion (λ (x : ℕ). nat_eq y x ≡ false) ys
+none-apart : (y : ℕ) (ys : List ℕ) → times y ys ≡ 0 → AllByRecursion (λ (z : ℕ). nat_eq y z ≡ false) ys
 unfolding times
 none-apart y [] e = tt
-none-apart y (x ∷ xs) e = cases (nat_eq y x) refl e where
-  cases : (b : Bool) → nat_eq y x ≡ b → (if b then 1 else 0) + times y xs ≡ 0 → (nat_eq y x ≡ false) × AllByRecursion (λ (x : ℕ). nat_eq y x ≡ false) xs
-  cases true same e = absurd (omega arith)
-  cases false other e = (other, none-apart y xs (omega (arith, e)))
+none-apart y (x ∷ xs) e = cases (nat_eq y x) refl e (none-apart y xs) where
+  cases : (b : Bool) → nat_eq y x ≡ b → (if b then 1 else 0) + times y xs ≡ 0 → (times y xs ≡ 0 → AllByRecursion (λ (z : ℕ). nat_eq y z ≡ false) xs)
+      → (nat_eq y x ≡ false) × AllByRecursion (λ (z : ℕ). nat_eq y z ≡ false) xs
+  cases true same e later = absurd (omega (arith, e))
+  cases false other e later = (other, later (omega (arith, e)))
 
 own-times : (y : ℕ) (ys : List ℕ) → times y (y ∷ ys) ≤ 1 → times y ys ≡ 0
 unfolding times

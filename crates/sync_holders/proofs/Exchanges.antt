@@ -1,5 +1,5 @@
 -- An exchange leaves the names of its hand apart.
-use Rattle.std.proofs.Common.{◌≡◌, ℕ, ◌+◌, ◌≤◌, ℤ, pos, Bool, true, false, List, [], ◌∷◌, ◌++◌, length, Option, Some, None, Ok, Err, refl, ap, subst, arith, cond, if◌then◌else◌}
+use Rattle.std.proofs.Common.{◌≡◌, ℕ, ◌+◌, ◌≤◌, ℤ, pos, Bool, List, [], ◌∷◌, ◌++◌, length, Option, Some, None, Ok, Err, refl, ap, subst, arith, cond, if◌then◌else◌}
 use Rattle.std.proofs.lemmas.List.Sums.{sum_by-cons}
 use Rattle.sync_base.specs.Outcome.{◌>>=◌}
 use Rattle.sync_machine.specs.declared.fields.Field.{Field}
@@ -11,13 +11,13 @@ use Rattle.sync_machine.specs.Statements.{binds}
 use Rattle.sync_machine.specs.States.{Value, State, strategy_at}
 use Rattle.sync_join.specs.declared.tokens.Token.{Token}
 use Rattle.sync_join.specs.Shards.{Kept, perm}
-use Rattle.sync_join.specs.Join.{number_of, record_at}
+use Rattle.sync_join.specs.Join.{number_of}
 use Rattle.sync_slots.specs.declared.slots.Role.{Role}
 use Rattle.sync_slots.specs.declared.slots.Role.TheVariants.{Change, Taken, Read, Given, In, Out, Seen}
 use Rattle.sync_slots.specs.Slots.{SlotTree, has_amounts}
 use Rattle.sync_exchange.specs.declared.hands.Held.{Held}
 use Rattle.sync_exchange.specs.declared.hands.XStop.TheVariants.{Differs, RequireFalse, Width}
-use Rattle.sync_exchange.specs.Exchange.{Exchanging, Exchanged, Answer, outcome, named, is_token, unless, token_name, next_name, after_reading, after_taking, after_seeing, after_giving, knowing, binding, recording, storing, revaluing, withdrawn, key_at, amount_at, permission, token_of, started, updated, new_value, use_variable, use_variables, variable_slots, beginning, does, does_all, exchange_in}
+use Rattle.sync_exchange.specs.Exchange.{Exchanging, Exchanged, Answer, outcome, named, is_token, unless, token_name, next_name, after_reading, after_taking, after_seeing, after_giving, knowing, binding, recording, storing, revaluing, key_at, amount_at, permission, token_of, started, updated, new_value, use_variable, use_variables, variable_slots, beginning, does, does_all, exchange_in}
 use Rattle.sync_exchange.specs.Projection.{names_new, AreNames}
 use Rattle.sync_exchange.proofs.Tokens.{times, holds}
 use Rattle.sync_exchange.proofs.Passing.{ok_is, bind-ok, unless-ok, either, asked-token, asked-object}

@@ -3,3 +3,4 @@ pub mod Splits
 pub mod Exchanges
 pub mod Names
 pub mod Moving
+mod Examples

@@ -1,5 +1,5 @@
 -- A list of moves by any holders is a list of declared steps of the whole.
-use Rattle.std.proofs.Common.{◌≡◌, ℕ, ◌+◌, ℤ, Bool, true, List, [], ◌∷◌, ◌++◌, flat_map, Option, Some, None, unwrap_or, inl, inr, ◌⊎◌, refl, sym, ap, subst, ◌∙◌, arith}
+use Rattle.std.proofs.Common.{◌≡◌, ℕ, ℤ, Bool, true, List, ◌∷◌, ◌++◌, flat_map, Option, Some, None, unwrap_or, inl, inr, ◌⊎◌, refl, sym, ap, subst, ◌∙◌, arith}
 use Rattle.std.specs.List.{cons_option}
 use Rattle.std.proofs.lemmas.Grind.{flat_map-append}
 use Rattle.sync_machine.specs.Machines.{MachineTree}
@@ -16,7 +16,7 @@ use Rattle.sync_exchange.specs.Projection.{IsProved}
 use Rattle.sync_exchange.proofs.Keeping.{split-keeps, merge-keeps, copy-keeps}
 use Rattle.sync_exchange.proofs.Projecting.{projects}
 use Rattle.sync_holders.specs.Moves.{Move, Exchange, Split, Merge, Copy, Holders, bag_of, IsApart, AreApart, IsSplit, IsMerger, IsCopy, Does, IsMove, AreMoves, no_more, one_more}
-use Rattle.sync_holders.specs.Runs.{Call, call_of, calls_of, Runs, stays, runs, RunsOn}
+use Rattle.sync_holders.specs.Runs.{Call, call_of, calls_of, Runs, no_step, one_step, RunsOn}
 use Rattle.sync_holders.specs.Laws.{MovesAreSteps}
 use Rattle.sync_holders.proofs.Names.{all-at, names-of, names-stay-apart}
 
@@ -24,9 +24,6 @@ use Rattle.sync_holders.proofs.Names.{all-at, names-of, names-stay-apart}
 
 abbrev pub all_but : List (List Held) → List (List Held) → List Token → List Token
 all_but before after others = (flat_map tokens_in before ++ flat_map tokens_in after) ++ others
-
-front-times : (a b c d : ℕ) → (a + (b + c)) + d ≡ b + ((a + c) + d)
-front-times a b c d = omega arith
 
 parts-times : (t : Token) (xs ys zs us : List Token) → times t ((xs ++ (ys ++ zs)) ++ us) ≡ times t (ys ++ ((xs ++ zs) ++ us))
 parts-times t xs ys zs us =
@@ -120,7 +117,7 @@ reached-on m s t (Some c) step reached = steps c.operation c.args reached step
 
 runs-on : (m : MachineTree) (s t u : State) (call : Option Call) (calls : List Call) → Advances m s call t → Runs m t calls u → Runs m s (cons_option call calls) u
 runs-on m s t u None calls e run = subst (λ (x : State). Runs m x calls u) (sym e) run
-runs-on m s t u (Some c) calls step run = runs step run
+runs-on m s t u (Some c) calls step run = one_step step run
 
 pub moves-are-steps : MovesAreSteps
 moves-are-steps fits m proved others moves old new list apart sound s joined reached = go old moves new list apart sound s joined reached where
@@ -128,7 +125,7 @@ moves-are-steps fits m proved others moves old new list apart sound s joined rea
       → AreApart old.hands → AreSoundShards m.fields (bag_of old.hands others) old.kept
       → (s : State) → join_of m.fields (bag_of old.hands others) old.kept ≡ Some s → IsReached m s
       → RunsOn m s (calls_of moves) (bag_of new.hands others) new.kept × AreApart new.hands
-  go old moves new no_more apart sound s joined reached = (record { sound = sound; state = s; joined = joined; run = stays; reached = reached }, apart)
+  go old moves new no_more apart sound s joined reached = (record { sound = sound; state = s; joined = joined; run = no_step; reached = reached }, apart)
   go old _ new (one_more {next = next} {move = move} {moves = later} h list) apart sound s joined reached =
       let on = move-on fits m proved others move old next h apart sound s joined reached in
       let rest = go next later new list (names-stay-apart fits m others move old next h apart) on.sound on.state on.joined (reached-on m s on.state (call_of move) on.advances reached) in (

@@ -7,7 +7,7 @@ use Rattle.sync_join.specs.declared.tokens.Token.{Token}
 use Rattle.sync_join.specs.Shards.{Kept}
 use Rattle.sync_exchange.specs.declared.hands.Held.{Held}
 use Rattle.sync_exchange.specs.Projection.{AreNames}
-use Rattle.sync_holders.specs.Moves.{Move, Exchange, Split, Merge, Copy, Holders, IsApart, AreApart, AreWanted, Does, IsMove}
+use Rattle.sync_holders.specs.Moves.{Move, Exchange, Split, Merge, Copy, IsApart, AreApart, AreWanted, Does}
 use Rattle.sync_holders.specs.Laws.{NamesStayApart}
 use Rattle.sync_holders.proofs.Splits.{apart-split, apart-merger, apart-copy}
 use Rattle.sync_holders.proofs.Exchanges.{apart-exchange}

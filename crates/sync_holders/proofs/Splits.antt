@@ -54,6 +54,10 @@ module _ (name : ℕ) (hs : List Held) (t : Token) (s : Stands name hs t) where
       let a = holds-replaced z new in
       let b = once-more new (dropped name hs) (once-dropped once) (none-dropped new.name none) z in omega (arith, a, b)
 
+holds-none : (z : ℕ) → holds z [] ≡ 0
+unfolding times
+holds-none z = refl
+
 -- a token comes last
 pub once-last : (new : Held) (hs : List Held) → IsOnce hs → holds new.name hs ≡ 0 → IsOnce (hs ++ new ∷ [])
 once-last new hs once none z =
@@ -61,10 +65,7 @@ once-last new hs once none z =
     let b = once-more new hs once none z in
     let c = holds-one z new hs in
     let d = holds-one z new [] in
-    let e = no-name z in omega (arith, a, b, c, d, e) where
-      no-name : (z : ℕ) → holds z [] ≡ 0
-      unfolding times
-      no-name z = refl
+    let e = holds-none z in omega (arith, a, b, c, d, e)
 
 other-none : (z : ℕ) (new : Held) (hs : List Held) → new.name ≢ z → holds z hs ≡ 0 → holds z (new ∷ hs) ≡ 0
 unfolding times

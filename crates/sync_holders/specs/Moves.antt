@@ -49,8 +49,8 @@ pub record AreWanted (fs : List Field) (o : OperationTree) (tokens given : List 
   pub given_apart : IsDistinct nat_eq given
   pub given_new : (name : ℕ) → Contains given name → is_among name hand → ⊥
 
--- The exchange of a transition or property of the machine. What is said of the whole is the state of which all tokens
--- are the shards, unless the operation is plain.
+-- The exchange of a transition or property of the machine, with as many arguments as parameters. What is said of the
+-- whole is the state of which all tokens are the shards, unless the operation is plain.
 pub record IsExchange (fits : ℤ → Bool) (m : MachineTree) (bag : List Token) (o : OperationTree) (args : List ℤ) (tokens given : List ℕ) (whole : State)
     (hand : List Held) (kept : Kept) (left : List Held) (rest : Kept) : Type 0 where
   pub declared : Contains m.ops o
@@ -58,6 +58,7 @@ pub record IsExchange (fits : ℤ → Bool) (m : MachineTree) (bag : List Token)
   pub enough : length args ≡ length o.params
   pub wanted : AreWanted m.fields o tokens given hand
   pub said : (join_of m.fields bag kept ≡ Some whole) ⊎ (is_plain m.fields o ≡ true)
+  -- the values of the names that it binds
   pub bound : List ℤ
   pub leaves : exchange_in fits m.fields o args tokens given whole hand kept ≡ Ok (record { hand = left; kept = rest; bound = bound })
 
@@ -93,7 +94,7 @@ pub record IsCopy (fs : List Field) (name new : ℕ) (hand left : List Held) : T
   pub not_held : is_among new hand → ⊥
   pub leaves : left ≡ copied_of token new hand
 
--- a move of the holder of one hand, where the tokens of all are this bag
+-- A move of the holder of one hand, where the tokens of all are this bag. An exchange alone changes what is kept.
 abbrev pub Does : (ℤ → Bool) → MachineTree → List Token → Move → List Held → Kept → List Held → Kept → Type 0
 Does fits m bag (Exchange o args tokens given whole) hand kept left rest = IsExchange fits m bag o args tokens given whole hand kept left rest
 Does fits m bag (Split name amount first second) hand kept left rest = IsSplit m.fields name amount first second hand left × (rest ≡ kept)

@@ -22,10 +22,10 @@ call_of (Copy name new) = None
 abbrev pub calls_of : List Move → List Call
 calls_of moves = filter_map call_of moves
 
--- from one state to another by exactly these declared steps, in order
+-- From one state to another by exactly these declared steps, in order.
 pub data Runs (m : MachineTree) : State → List Call → State → Type 0 where
-  stays : {s : State} → Runs m s [] s
-  runs : {s t u : State} {c : Call} {cs : List Call} → Steps m s c.operation c.args t → Runs m t cs u → Runs m s (c ∷ cs) u
+  no_step : {s : State} → Runs m s [] s
+  one_step : {s t u : State} {c : Call} {cs : List Call} → Steps m s c.operation c.args t → Runs m t cs u → Runs m s (c ∷ cs) u
 
 -- These tokens and what is kept are the shards of a state that these declared steps lead to from s, and it is reached.
 pub record RunsOn (m : MachineTree) (s : State) (calls : List Call) (bag : List Token) (kept : Kept) : Type 0 where
