@@ -1,0 +1,6 @@
+pub mod Apart
+pub mod Splits
+pub mod Exchanges
+pub mod Names
+pub mod Moving
+mod Examples

@@ -1,0 +1,14 @@
+//! The laws of holders: lists of moves by any of them are lists of declared steps.
+#![tactic(auto)]
+
+ghost use Rattle.sync_holders.specs.Laws.{NamesStayApart, MovesAreSteps};
+
+/// Where each hand has its names once, it still does behind a move.
+pub fn names_stay_apart()
+    ensures { NamesStayApart }
+{}
+
+/// A list of moves by any holders leads the whole through the declared steps that it stands for, whatever others hold.
+pub fn moves_are_steps()
+    ensures { MovesAreSteps }
+{}
