@@ -14,10 +14,14 @@ abbrev pub NamesStayApart : Type 0
 NamesStayApart = (fits : ℤ → Bool) (m : MachineTree) (others : List Token) (move : Move) (old new : Holders) → IsMove fits m others old move new
     → AreApart old.hands → AreApart new.hands
 
--- Where a machine is proved, and all tokens with what is kept are the shards of a reached state, a list of moves leads to
--- shards of a state that the list's exchanges lead to as declared steps, whatever the bound of numbers.
-abbrev pub MovesAreSteps : Type 0
-MovesAreSteps = (fits : ℤ → Bool) (m : MachineTree) → IsProved m → (others : List Token) (moves : List Move) (old new : Holders) → AreMoves fits m others old moves new
+-- Where all tokens with what is kept are the shards of a reached state of a machine, a list of moves leads to shards of a
+-- state that the list's exchanges lead to as declared steps, whatever others hold.
+abbrev pub MovesAreStepsOf : (ℤ → Bool) → MachineTree → Type 0
+MovesAreStepsOf fits m = (others : List Token) (moves : List Move) (old new : Holders) → AreMoves fits m others old moves new
     → AreApart old.hands → AreSoundShards m.fields (bag_of old.hands others) old.kept
     → (s : State) → join_of m.fields (bag_of old.hands others) old.kept ≡ Some s → IsReached m s
     → RunsOn m s (calls_of moves) (bag_of new.hands others) new.kept × AreApart new.hands
+
+-- so of every proved machine, whatever the bound of numbers
+abbrev pub MovesAreSteps : Type 0
+MovesAreSteps = (fits : ℤ → Bool) (m : MachineTree) → IsProved m → MovesAreStepsOf fits m

@@ -2,6 +2,7 @@
 use Rattle.std.specs.Prelude.{ℤ, Bool}
 use Rattle.sync_machine.specs.Machines.{MachineTree}
 use Rattle.sync_exchange.specs.Projection.{IsProved, ProjectsOf, InitialisesOf}
+use Rattle.sync_holders.specs.Laws.{MovesAreStepsOf}
 
 -- for every bound of numbers
 pub record IsSharded (m : MachineTree) : Type 0 where
@@ -10,3 +11,5 @@ pub record IsSharded (m : MachineTree) : Type 0 where
   pub steps : (fits : ℤ → Bool) → ProjectsOf fits m
   -- the exchange of an init is a declared start
   pub starts : (fits : ℤ → Bool) → InitialisesOf fits m
+  -- any list of exchanges, splits, mergers and copies by any holders is a list of declared steps
+  pub moves : (fits : ℤ → Bool) → MovesAreStepsOf fits m
