@@ -1,19 +1,24 @@
 -- What a text means whose machine was checked.
 use Rattle.std.proofs.Common.{◌≡◌, ℕ, ◌+◌, List, [], ◌∷◌, ◌++◌, length, Result, Ok, Err, refl, sym, ap, subst, ◌∙◌, arith, length-append}
-use Rattle.std.specs.Prelude.{OnOk, IfOk}
+use Rattle.std.specs.Prelude.{IfOk}
 use Rattle.sync_base.specs.declared.stops.Stop.{Stop}
 use Rattle.sync_base.specs.declared.stops.Refusal.{Refusal}
 use Rattle.sync_base.specs.Outcome.{Gives, ◌>>=◌}
+use Rattle.sync_machine.specs.declared.machine.Machine.{Machine}
+use Rattle.sync_machine.specs.Machines.{MachineTree}
 use Rattle.sync_machine.specs.States.{HoldsAlways}
+use Rattle.sync_machine.specs.Views.{HasOwnIds}
 use Rattle.sync_parse.specs.declared.trees.RawText.{RawText}
 use Rattle.sync_parse.specs.declared.trees.RawProof.{RawProof}
 use Rattle.sync_names.specs.declared.scopes.Scope.{Scope}
 use Rattle.sync_induct.specs.Checks.{ProofTree}
+use Rattle.sync_induct.specs.Grown.{HasGrown}
+use Rattle.sync_read.proofs.Whole.{machine_stays}
 use Rattle.sync_read.specs.Scripts.{proof_in, proofs_from}
 use Rattle.sync_read.specs.Resolving.{machine_in}
 use Rattle.sync_read.specs.Texts.{TextTree, first_scope, resolved}
 use Rattle.sync_grammar.specs.Texts.{Spells, HasScripts}
-use Rattle.sync_check.specs.Checking.{Means, IsAccepted}
+use Rattle.sync_check.specs.Checking.{Means, IsMeant, IsAccepted}
 
 -- what a value that is there comes from
 bound : {A B : Type 0} (r : Result A Refusal) (f : A → Result B Refusal) (y : B) → (r >>= f) ≡ Ok y → (x : A) × (r ≡ Ok x) × (f x ≡ Ok y)
@@ -54,13 +59,8 @@ is_meant bytes t f (Err stop) means same = tt
 
 -- a machine of its own ids stays so while its store grows
 own : (old new : Machine) → HasOwnIds old → HasGrown old new → HasOwnIds new
-own old new ids grown = rw (grown.ops, grown.invariants) (machine_stays new.terms old grown.terms ids)
+own old new ids grown = rw (grown.name, grown.fields, grown.ops, grown.invariants) (machine_stays new.terms old grown.terms ids)
 
 pub are_own : (old : Machine) (r : Result Machine Stop) → HasOwnIds old → IfOk r (HasGrown old) → IfOk r HasOwnIds
 are_own old (Ok new) ids grown = own old new ids grown
 are_own old (Err stop) ids grown = tt
-
--- what is said of a machine is said of an equal one
-pub said_again : {A : Type 0} (P : MachineTree → Type 0) (m : MachineTree) (f : A → MachineTree) (r : Result A Stop) → OnOk r (P m) → IfOk r (λ x. f x ≡ m) → IfOk r (λ x. P (f x))
-said_again P m f (Ok x) holds same = subst P (sym same) holds
-said_again P m f (Err stop) holds same = tt

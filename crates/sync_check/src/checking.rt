@@ -1,5 +1,5 @@
 //! Checks one text.
-ghost use Rattle.std.specs.Prelude.{◌≡◌, None, IfOk, OnOk};
+ghost use Rattle.std.specs.Prelude.{◌≡◌, length, None, IfOk, OnOk};
 ghost use Rattle.std.specs.List.{AllByRecursion};
 ghost use Rattle.sync_base.specs.Outcome.{Gives, Passes};
 ghost use Rattle.sync_machine.specs.Machines.{OperationTree};
@@ -68,6 +68,13 @@ fn judge(alloc: Global, text: Text) -> Result<Inductive, Stop>
     inductive(alloc, text.machine, text.proofs)
 }
 
+/// The number of a text's scripts.
+fn number_of_scripts(text: &Text) -> u64
+    ensures { result ≡ length (text_tree text.now).proofs }
+{
+    text.proofs.list.len() as u64
+}
+
 /// The number of scripts of a text that keeps all rules, or its first broken rule.
 ///
 /// The rules are taken layer by layer, each over the whole text: lexemes (L), grammar (G), names and sorts (N), strategies
@@ -78,7 +85,7 @@ pub fn check(alloc: Global, text: &[u8]) -> Result<u64, Stop>
     ensures sound { IfOk result (λ scripts. IsAccepted text.now scripts) }
 {
     let text = read(alloc, text)?;
-    let scripts = text.proofs.list.len() as u64;
+    let scripts = number_of_scripts(&text);
     judge(alloc, text)?;
     Ok(scripts)
 }
