@@ -9,3 +9,11 @@ mod Scripts
 mod Acts
 mod Machines
 mod Texts
+mod Told
+mod ListsTold
+mod ExpressionsTold
+mod HypsTold
+mod ScriptsTold
+mod ActsTold
+mod MachinesTold
+mod TextsTold

@@ -1,3 +1,4 @@
 pub mod Says
 pub mod Limits
 pub mod Laws
+pub mod Namings
