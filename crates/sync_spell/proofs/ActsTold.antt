@@ -1,5 +1,5 @@
 -- What is read as a statement of an operation is within the limits, and its words name what is shown of it.
-use Rattle.std.proofs.Common.{◌≡◌, ℕ, List, ◌++◌, refl, sym, ap, ◌∙◌, subst}
+use Rattle.std.proofs.Common.{◌≡◌, ℕ, List, [], ◌∷◌, ◌++◌, refl, sym, ap, ◌∙◌, subst}
 use Rattle.sync_base.specs.declared.names.NameList.{NameList}
 use Rattle.sync_tokens.specs.declared.signs.Sign.{Sign}
 use Rattle.sync_tokens.specs.declared.signs.Sign.TheVariants as sign
@@ -46,16 +46,16 @@ key_told : {names : NameList} (key : Expr) (from us vs rest : List Word) (x : Ra
     → Either (Yields (raw_place.Key key)) (The sign.MapsTo >> (Pattern >>= λ p. Yields (raw_place.Entry key p))) us vs x → Tells names [] vs rest → OfPlace names x from rest
 key_told {names = names} key from us vs rest x y (the_one d) end =
     let here : OfPlace names (raw_place.Key key) from rest
-            = record { fits = y.fits; tells = both (both (silent sign.OpenSquare) y.tells) (both (none_read d) (both end (silent sign.CloseSquare))) } in
+    = record { fits = y.fits; tells = both (both (silent sign.OpenSquare) y.tells) (both (none_read d) (both end (silent sign.CloseSquare))) } in
     subst (λ z. OfPlace names z from rest) (sym d.is) here
 key_told {names = names} key from us vs rest x y (the_other d) end =
     let p = d.next in
     let q = pattern_told d.middle p.middle p.value p.one in
     let here : OfPlace names (raw_place.Entry key p.value) from rest
-            = record {
-              fits = (y.fits, q.fits);
-              tells = both (both (both (both (silent sign.OpenSquare) y.tells) (sign_told sign.MapsTo d.one)) q.tells) (both (none_read p.next) (both end (silent sign.CloseSquare)));
-            } in
+    = record {
+      fits = (y.fits, q.fits);
+      tells = both (both (both (both (silent sign.OpenSquare) y.tells) (sign_told sign.MapsTo d.one)) q.tells) (both (none_read p.next) (both end (silent sign.CloseSquare)));
+    } in
     subst (λ z. OfPlace names z from rest) (sym p.next.is) here
 
 place_told : {names : NameList} (ts rest : List Word) (x : RawPlace) → Place ts rest x → OfPlace names x ts rest
@@ -86,16 +86,16 @@ act_end : {names : NameList} {x y : RawActKind} {ts us rest : List Word} → Yie
 act_end {names = names} d r = ended (λ z us vs. OfAct names (plain_act_kind z) us vs) d r
 
 formula_told : {names : NameList} (opening : Sign) (made : Expr → RawActKind)
-    → ((e : Expr) {ts rest : List Word} → Fits (plain e) → Tells names (show_formula_act opening (plain e)) ts rest → OfAct names (plain_act_kind (made e)) ts rest)
+    → ((e : Expr) (ts rest : List Word) → Fits (plain e) → Tells names (show_formula_act opening (plain e)) ts rest → OfAct names (plain_act_kind (made e)) ts rest)
     → (ts rest : List Word) (x : RawActKind) → FormulaAct opening made ts rest x → OfAct names (plain_act_kind x) ts rest
 unfolding FormulaAct
 formula_told opening made of_made ts rest x d =
     let e = d.next in
     let y = (closed exprs_told).at d.middle e.middle e.value e.one in
-    act_end e.next (of_made e.value y.fits (both (both (sign_told opening d.one) y.tells) (silent sign.Semicolon)))
+    act_end e.next (of_made e.value ts e.middle y.fits (both (both (sign_told opening d.one) y.tells) (silent sign.Semicolon)))
 
 value_told : {names : NameList} (opening : Sign) (made : Named → Expr → RawActKind)
-    → ((n : Named) (e : Expr) {ts rest : List Word} → Fits (plain e) → Tells names (show_value_act opening n.name (plain e)) ts rest → OfAct names (plain_act_kind (made n e)) ts rest)
+    → ((n : Named) (e : Expr) (ts rest : List Word) → Fits (plain e) → Tells names (show_value_act opening n.name (plain e)) ts rest → OfAct names (plain_act_kind (made n e)) ts rest)
     → (ts rest : List Word) (x : RawActKind) → ValueAct opening made ts rest x → OfAct names (plain_act_kind x) ts rest
 unfolding ValueAct
 value_told opening made of_made ts rest x d =
@@ -103,10 +103,10 @@ value_told opening made of_made ts rest x d =
     let q = n.next in
     let e = q.next in
     let y = (closed exprs_told).at q.middle e.middle e.value e.one in
-    act_end e.next (of_made n.value e.value y.fits (both (both (both (both (sign_told opening d.one) (name_told n.one)) (sign_told sign.Equal q.one)) y.tells) (silent sign.Semicolon)))
+    act_end e.next (of_made n.value e.value ts e.middle y.fits (both (both (both (both (sign_told opening d.one) (name_told n.one)) (sign_told sign.Equal q.one)) y.tells) (silent sign.Semicolon)))
 
 place_act_told : {names : NameList} (opening symbol : Sign) (made : Named → RawPlace → RawActKind)
-    → ((n : Named) (p : RawPlace) {ts rest : List Word} → PlaceFits (plain_place p) → Tells names (show_place_act opening n.name symbol (plain_place p)) ts rest
+    → ((n : Named) (p : RawPlace) (ts rest : List Word) → PlaceFits (plain_place p) → Tells names (show_place_act opening n.name symbol (plain_place p)) ts rest
     → OfAct names (plain_act_kind (made n p)) ts rest)
     → (ts rest : List Word) (x : RawActKind) → PlaceAct opening symbol made ts rest x → OfAct names (plain_act_kind x) ts rest
 unfolding PlaceAct FieldPlace
@@ -117,7 +117,7 @@ place_act_told {names = names} opening symbol made of_made ts rest x d =
     let p = q.next in
     let y = (closed places_told).at q.middle p.middle p.value p.one in
     let here : OfAct names (plain_act_kind (made n.value p.value)) ts p.middle
-            = of_made n.value p.value y.fits (both (both (both (both (sign_told opening f.one) (name_told n.one)) (sign_told symbol q.one)) y.tells) (silent sign.Semicolon)) in
+    = of_made n.value p.value ts p.middle y.fits (both (both (both (both (sign_told opening f.one) (name_told n.one)) (sign_told symbol q.one)) y.tells) (silent sign.Semicolon)) in
     act_end d.next (ended (λ z us vs. OfAct names (plain_act_kind (made z.0 z.1)) us vs) p.next here)
 
 have_told : {names : NameList} (ts rest : List Word) (x : RawActKind) → HaveAct ts rest x → OfAct names (plain_act_kind x) ts rest
@@ -134,16 +134,16 @@ have_told {names = names} ts rest x d = go d.next.next
 
 kind_told : {names : NameList} (ts rest : List Word) (x : RawActKind) → ActKind ts rest x → OfAct names (plain_act_kind x) ts rest
 unfolding ActKind
-kind_told ts rest x (the_one d) = value_told sign.Init raw.Init (λ n e p q. record { fits = p; tells = q }) ts rest x d
-kind_told ts rest x (the_other (the_one d)) = formula_told sign.Require raw.Require (λ e p q. record { fits = p; tells = q }) ts rest x d
-kind_told ts rest x (the_other (the_other (the_one d))) = formula_told sign.Assert raw.Assert (λ e p q. record { fits = p; tells = q }) ts rest x d
-kind_told ts rest x (the_other (the_other (the_other (the_one d)))) = value_told sign.Update raw.Update (λ n e p q. record { fits = p; tells = q }) ts rest x d
+kind_told ts rest x (the_one d) = value_told sign.Init raw.Init (λ n e us vs p q. record { fits = p; tells = q }) ts rest x d
+kind_told ts rest x (the_other (the_one d)) = formula_told sign.Require raw.Require (λ e us vs p q. record { fits = p; tells = q }) ts rest x d
+kind_told ts rest x (the_other (the_other (the_one d))) = formula_told sign.Assert raw.Assert (λ e us vs p q. record { fits = p; tells = q }) ts rest x d
+kind_told ts rest x (the_other (the_other (the_other (the_one d)))) = value_told sign.Update raw.Update (λ n e us vs p q. record { fits = p; tells = q }) ts rest x d
 kind_told ts rest x (the_other (the_other (the_other (the_other (the_one d))))) = have_told ts rest x d
-kind_told ts rest x (the_other (the_other (the_other (the_other (the_other (the_one d)))))) = place_act_told sign.Guard sign.AtLeast raw.Guard (λ n e p q. record { fits = p; tells = q }) ts rest x d
-kind_told ts rest x (the_other (the_other (the_other (the_other (the_other (the_other (the_one d))))))) = place_act_told sign.Add sign.PlusEqual raw.Add (λ n e p q. record { fits = p; tells = q }) ts rest x d
-kind_told ts rest x (the_other (the_other (the_other (the_other (the_other (the_other (the_other (the_one d)))))))) = place_act_told sign.Deposit sign.PlusEqual raw.Deposit (λ n e p q. record { fits = p; tells = q }) ts rest x d
-kind_told ts rest x (the_other (the_other (the_other (the_other (the_other (the_other (the_other (the_other (the_one d))))))))) = place_act_told sign.Remove sign.MinusEqual raw.Remove (λ n e p q. record { fits = p; tells = q }) ts rest x d
-kind_told ts rest x (the_other (the_other (the_other (the_other (the_other (the_other (the_other (the_other (the_other d))))))))) = place_act_told sign.Withdraw sign.MinusEqual raw.Withdraw (λ n e p q. record { fits = p; tells = q }) ts rest x d
+kind_told ts rest x (the_other (the_other (the_other (the_other (the_other (the_one d)))))) = place_act_told sign.Guard sign.AtLeast raw.Guard (λ n e us vs p q. record { fits = p; tells = q }) ts rest x d
+kind_told ts rest x (the_other (the_other (the_other (the_other (the_other (the_other (the_one d))))))) = place_act_told sign.Add sign.PlusEqual raw.Add (λ n e us vs p q. record { fits = p; tells = q }) ts rest x d
+kind_told ts rest x (the_other (the_other (the_other (the_other (the_other (the_other (the_other (the_one d)))))))) = place_act_told sign.Deposit sign.PlusEqual raw.Deposit (λ n e us vs p q. record { fits = p; tells = q }) ts rest x d
+kind_told ts rest x (the_other (the_other (the_other (the_other (the_other (the_other (the_other (the_other (the_one d))))))))) = place_act_told sign.Remove sign.MinusEqual raw.Remove (λ n e us vs p q. record { fits = p; tells = q }) ts rest x d
+kind_told ts rest x (the_other (the_other (the_other (the_other (the_other (the_other (the_other (the_other (the_other d))))))))) = place_act_told sign.Withdraw sign.MinusEqual raw.Withdraw (λ n e us vs p q. record { fits = p; tells = q }) ts rest x d
 
 act_told : {names : NameList} (ts rest : List Word) (x : RawAct) → Act ts rest x → OfAct names (plain_act x) ts rest
 unfolding Act

@@ -76,7 +76,7 @@ of_negation p = record { fits = p.fits; at = p.negated; negated = λ k. banged (
 of_times : {names : NameList} {e : Plain} {ts us rest : List Word} (n : ℕ) → n ≤ largest → Tells names [] ts us → OfPlain names e us rest → OfPlain names (times n e) ts rest
 of_times {names = names} {e = e} {ts = ts} {rest = rest} n fits d p =
     let q : (k : ℕ) → Tells names ((shown (times n e)).at k) ts rest
-            = λ k. both (both (both (both (perhaps _ sign.OpenRound) (both d (number_shown n fits))) (silent sign.Star)) (p.at 6)) (perhaps _ sign.CloseRound) in
+    = λ k. both (both (both (both (perhaps _ sign.OpenRound) (both d (number_shown n fits))) (silent sign.Star)) (p.at 6)) (perhaps _ sign.CloseRound) in
     record { fits = (fits, p.fits); at = q; negated = λ k. banged (q 6) }
 
 two_told : {names : NameList} {a b : Plain} {ts us vs rest : List Word} (o : Joint) (s : Sign) → OfPlain names a ts us → Tells names [] us vs → OfPlain names b vs rest
@@ -267,7 +267,7 @@ an_implication i ts rest x (and_implies {vs = vs} {y = y} z us line d s e) =
     let p = (ors i).at ts us z d in
     let q = an_implication i vs rest y e in
     let says = said-Two operator.Implies (placed_at z ts) (placed_at y vs)
-            ∙ (ap (λ (v : Plain). joined operator.Implies v (plain (placed_at y vs))) (says_placed z _) ∙ ap (joined operator.Implies (said z)) (says_placed y _)) in
+    ∙ (ap (λ (v : Plain). joined operator.Implies v (plain (placed_at y vs))) (says_placed z _) ∙ ap (joined operator.Implies (said z)) (says_placed y _)) in
     meant says (of_joined operator.Implies p (sign_read s) q)
 
 -- ---- expressions

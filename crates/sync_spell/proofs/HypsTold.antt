@@ -122,6 +122,6 @@ pub parts_told : {names : NameList} → Reads names Part plain_part show_part Pa
 parts_told = record { at = part_told }
 
 -- the name that a step gives
-pub as_told : {names : NameList} {ts rest : List Word} {x : Named} → As ts rest x → Tells names (show_as x.name) ts rest
+pub as_told : {names : NameList} {ts rest : List Word} (x : Named) → As ts rest x → Tells names (show_as x.name) ts rest
 unfolding As
-as_told d = both (sign_told sign.As d.one) (name_told d.next)
+as_told x d = both (sign_told sign.As d.one) (name_told d.next)

@@ -63,7 +63,7 @@ series {A = A} {names = names} {says = says} {shown = shown} {Fits = Fits} item 
       let z = behind_commas item d.middle d.next.middle d.next.value d.next.one in
       let some : 1 ≤ length (map says (d.value ∷ d.next.value)) = omega arith in
       let here : Read names ((1 ≤ length (map says (d.value ∷ d.next.value))) × All Fits (map says (d.value ∷ d.next.value))) (listed (map shown (map says (d.value ∷ d.next.value)))) ts d.next.middle
-              = record { fits = (some, All-cons Fits (says d.value) (map says d.next.value) y.fits z.fits); tells = both y.tells z.tells } in
+      = record { fits = (some, All-cons Fits (says d.value) (map says d.next.value) y.fits z.fits); tells = both y.tells z.tells } in
       ended (λ (xs : List A) us vs. Read names ((1 ≤ length (map says xs)) × All Fits (map says xs)) (listed (map shown (map says xs))) us vs) d.next.next here;
 }
 
@@ -85,6 +85,6 @@ in_brackets {A = A} {names = names} {says = says} {shown = shown} {Fits = Fits} 
       let x = listed_reads item d.middle d.next.middle d.next.value d.next.one in
       let end = d.next.next in
       let here : Read names (All Fits (map says d.next.value)) (listed (map shown (map says d.next.value))) ts end.middle
-              = record { fits = x.fits; tells = both (sign_read d.one) (behind x.tells (sign_read end.one)) } in
+      = record { fits = x.fits; tells = both (sign_read d.one) (behind x.tells (sign_read end.one)) } in
       ended (λ (xs : List A) us vs. Read names (All Fits (map says xs)) (listed (map shown (map says xs))) us vs) end.next here;
 }

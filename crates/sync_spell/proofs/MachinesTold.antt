@@ -163,7 +163,7 @@ proof_told {names = names} ts rest p d =
     let z = blocks_told.at script.middle b.middle b.value b.one in
     let front = both (both (name_told d.one) y.tells) (sign_told sign.By script.one) in
     let with_script : OfProof names (record { operation = d.value; claim = c.value; script = record { block = b.value; line = script.value } }) ts b.middle
-            = record { fits = (y.fits, z.fits); tells = both front z.tells } in
+    = record { fits = (y.fits, z.fits); tells = both front z.tells } in
     ended (OfProof names) s.next (ended (λ x us vs. OfProof names (record { operation = d.value; claim = c.value; script = x }) us vs) b.next with_script)
 
 proof_rows : {names : NameList} → Reads names Proof plain_proof show_proof ProofFits

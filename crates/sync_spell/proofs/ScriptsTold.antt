@@ -63,7 +63,7 @@ inst_told ts rest x d =
     let ys = args_told.at h.middle es.middle es.value es.one in
     step_end e.next (said-Inst h.value es.value a.value) (record {
       fits = (y.fits, ys.fits);
-      tells = both (both (both (both (both (both (sign_told sign.Inst d.one) y.tells) (silent sign.OpenRound)) ys.tells) (silent sign.CloseRound)) (as_told a.one)) (sign_told sign.Semicolon e.one);
+      tells = both (both (both (both (both (both (sign_told sign.Inst d.one) y.tells) (silent sign.OpenRound)) ys.tells) (silent sign.CloseRound)) (as_told a.value a.one)) (sign_told sign.Semicolon e.one);
     })
 
 parts_step_told : {names : NameList} (ts rest : List Word) (x : RawStepKind) → Parts ts rest x → OfStep names (said_step x) ts rest
@@ -77,12 +77,12 @@ parts_step_told ts rest x d =
     let y = hyps_told.at d.middle h.middle h.value h.one in
     step_end e.next (said-Parts h.value a.value b.value) (record {
       fits = y.fits;
-      tells = both (both (both (both (both (sign_told sign.Parts d.one) y.tells) (as_told a.one)) (sign_told sign.Comma c.one)) (name_told b.one)) (sign_told sign.Semicolon e.one);
+      tells = both (both (both (both (both (sign_told sign.Parts d.one) y.tells) (as_told a.value a.one)) (sign_told sign.Comma c.one)) (name_told b.one)) (sign_told sign.Semicolon e.one);
     })
 
 lookup_told : {names : NameList} (opening : Sign) (made : Expr → Expr → Named → RawStepKind) (what : Plain → Plain → ℕ → PlainStep)
     → ((m k : Expr) (x : Named) → said_step (made m k x) ≡ what (plain m) (plain k) x.name)
-    → ((m k : Plain) (x : ℕ) {ts rest : List Word} → Fits m → Fits k → Tells names (show_lookup opening m k x) ts rest → OfStep names (what m k x) ts rest)
+    → ((m k : Plain) (x : ℕ) (ts rest : List Word) → Fits m → Fits k → Tells names (show_lookup opening m k x) ts rest → OfStep names (what m k x) ts rest)
     → (ts rest : List Word) (x : RawStepKind) → Lookup opening made ts rest x → OfStep names (said_step x) ts rest
 unfolding Lookup
 lookup_told opening made what said of_what ts rest x d =
@@ -93,8 +93,8 @@ lookup_told opening made what said of_what ts rest x d =
     let e = a.next in
     let y = exprs_told.at d.middle m.middle m.value m.one in
     let z = exprs_told.at c.middle k.middle k.value k.one in
-    step_end e.next (said m.value k.value a.value) (of_what (plain m.value) (plain k.value) a.value.name y.fits z.fits
-    (both (both (both (both (both (sign_told opening d.one) y.tells) (sign_told sign.Comma c.one)) z.tells) (as_told a.one)) (sign_told sign.Semicolon e.one)))
+    step_end e.next (said m.value k.value a.value) (of_what (plain m.value) (plain k.value) a.value.name ts e.middle y.fits z.fits
+    (both (both (both (both (both (sign_told opening d.one) y.tells) (sign_told sign.Comma c.one)) z.tells) (as_told a.value a.one)) (sign_told sign.Semicolon e.one)))
 
 cong_told : {names : NameList} (ts rest : List Word) (x : RawStepKind) → Cong ts rest x → OfStep names (said_step x) ts rest
 unfolding Cong
@@ -111,8 +111,8 @@ cong_told ts rest x d =
     let w = exprs_told.at b.middle k.middle k.value k.one in
     step_end e.next (said-Cong m.value j.value k.value a.value) (record {
       fits = (u.fits, v.fits, w.fits);
-      tells = both (both (both (both (both (both (both (sign_told sign.Cong d.one) u.tells) (sign_told sign.Comma c.one)) v.tells) (sign_told sign.Comma b.one)) w.tells) (as_told a.one))
-              (sign_told sign.Semicolon e.one);
+      tells = both (both (both (both (both (both (both (sign_told sign.Cong d.one) u.tells) (sign_told sign.Comma c.one)) v.tells) (sign_told sign.Comma b.one)) w.tells) (as_told a.value a.one))
+          (sign_told sign.Semicolon e.one);
     })
 
 -- the blocks of a step
@@ -131,7 +131,7 @@ split_told i ts rest x d =
     let v = i.at b.middle c.middle c.value c.one in
     step_end c.next (said-Split h.value a.value b.value c.value) (record {
       fits = (y.fits, u.fits, v.fits);
-      tells = both (both (both (both (sign_told sign.Split d.one) y.tells) (as_told a.one)) u.tells) v.tells;
+      tells = both (both (both (both (sign_told sign.Split d.one) y.tells) (as_told a.value a.one)) u.tells) v.tells;
     })
 
 cut_told : {names : NameList} {I : Spelled RawBlock} → BlocksTold names I → (ts rest : List Word) (x : RawStepKind) → Cut I ts rest x → OfStep names (said_step x) ts rest
@@ -142,7 +142,7 @@ cut_told i ts rest x d =
     let b = a.next in
     let y = exprs_told.at d.middle f.middle f.value f.one in
     let u = i.at a.middle b.middle b.value b.one in
-    step_end b.next (said-Cut f.value a.value b.value) (record { fits = (y.fits, u.fits); tells = both (both (both (sign_told sign.Cut d.one) y.tells) (as_told a.one)) u.tells })
+    step_end b.next (said-Cut f.value a.value b.value) (record { fits = (y.fits, u.fits); tells = both (both (both (sign_told sign.Cut d.one) y.tells) (as_told a.value a.one)) u.tells })
 
 kind_told : {names : NameList} {I : Spelled RawBlock} → BlocksTold names I → (ts rest : List Word) (x : RawStepKind) → StepKind I ts rest x → OfStep names (said_step x) ts rest
 unfolding StepKind
@@ -153,11 +153,11 @@ kind_told i ts rest x (the_other (the_other (the_other (the_one d)))) = sum_told
 kind_told i ts rest x (the_other (the_other (the_other (the_other (the_one d))))) = inst_told ts rest x d
 kind_told i ts rest x (the_other (the_other (the_other (the_other (the_other (the_one d)))))) = parts_step_told ts rest x d
 kind_told i ts rest x (the_other (the_other (the_other (the_other (the_other (the_other (the_one d))))))) =
-    lookup_told sign.Read step.Read PlainStep.read said-Read (λ m k y p q r. record { fits = (p, q); tells = r }) ts rest x d
+    lookup_told sign.Read step.Read PlainStep.read said-Read (λ m k y us vs p q r. record { fits = (p, q); tells = r }) ts rest x d
 kind_told i ts rest x (the_other (the_other (the_other (the_other (the_other (the_other (the_other (the_one d)))))))) =
-    lookup_told sign.Size step.Size PlainStep.size said-Size (λ m k y p q r. record { fits = (p, q); tells = r }) ts rest x d
+    lookup_told sign.Size step.Size PlainStep.size said-Size (λ m k y us vs p q r. record { fits = (p, q); tells = r }) ts rest x d
 kind_told i ts rest x (the_other (the_other (the_other (the_other (the_other (the_other (the_other (the_other (the_one d))))))))) =
-    lookup_told sign.Total step.Total PlainStep.total said-Total (λ m k y p q r. record { fits = (p, q); tells = r }) ts rest x d
+    lookup_told sign.Total step.Total PlainStep.total said-Total (λ m k y us vs p q r. record { fits = (p, q); tells = r }) ts rest x d
 kind_told i ts rest x (the_other (the_other (the_other (the_other (the_other (the_other (the_other (the_other (the_other d))))))))) = cong_told ts rest x d
 
 steps_told : {names : NameList} {I : Spelled RawBlock} → BlocksTold names I → Reads names (Step I) plain_step show_step StepFits
@@ -196,7 +196,7 @@ block_told {names = names} i = record {
       let says : plain_block raw ≡ block_of ss = ap plain_block c.next.is ∙ said-Block s.value _ in
       let inner : Tells names (show_steps (block_of ss)) d.middle s.middle = subst (λ xs. Tells names xs d.middle s.middle) (sym (steps_shown ss)) ys.tells in
       let here : OfBlock names (block_of ss) ts rest
-              = record { fits = block_fits ss ys.fits; tells = behind (both (both (sign_told sign.OpenBrace d.one) inner) (sign_told sign.CloseBrace c.one)) (none_read c.next) } in
+      = record { fits = block_fits ss ys.fits; tells = behind (both (both (sign_told sign.OpenBrace d.one) inner) (sign_told sign.CloseBrace c.one)) (none_read c.next) } in
       subst (λ z. OfBlock names z ts rest) (sym says) here;
 }
 

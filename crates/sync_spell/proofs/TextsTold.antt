@@ -24,6 +24,9 @@ says x = record { machine = plain_machine x.0; proofs = map plain_proof x.1 }
 abbrev OfText : NameList → RawMachine × List RawProof → List Word → List Word → Type 0
 OfText names x ts rest = Read names (TextFits (says x)) (show (says x)) ts rest
 
+one_within : 1 ≤ largest
+one_within = omega arith
+
 text_told : {names : NameList} (ts rest : List Word) (x : RawMachine × List RawProof) → Text ts rest x → OfText names x ts rest
 unfolding Text Version
 text_told {names = names} ts rest x d =
@@ -34,7 +37,7 @@ text_told {names = names} ts rest x d =
     let ps = m.next in
     let y = machines_told.at e.middle m.middle m.value m.one in
     let z = proofs_told.at m.middle ps.middle ps.value ps.one in
-    let version = both (both (sign_told sign.Version v.one) (behind (number_told 1 (omega arith) n.one) (none_read n.next))) (sign_told sign.Semicolon e.one) in
+    let version = both (both (sign_told sign.Version v.one) (behind (number_told 1 one_within n.one) (none_read n.next))) (sign_told sign.Semicolon e.one) in
     ended (OfText names) ps.next (record { fits = (y.fits, z.fits); tells = both (both version y.tells) z.tells })
 
 -- all words of a text
