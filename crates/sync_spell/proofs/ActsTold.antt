@@ -1,5 +1,5 @@
 -- What is read as a statement of an operation is within the limits, and its words name what is shown of it.
-use Rattle.std.proofs.Common.{◌≡◌, ℕ, List, [], ◌∷◌, ◌++◌, refl, sym, ap, ◌∙◌, subst}
+use Rattle.std.proofs.Common.{List, [], sym, subst}
 use Rattle.sync_base.specs.declared.names.NameList.{NameList}
 use Rattle.sync_tokens.specs.declared.signs.Sign.{Sign}
 use Rattle.sync_tokens.specs.declared.signs.Sign.TheVariants as sign
@@ -14,13 +14,12 @@ use Rattle.sync_parse.specs.declared.trees.RawPlace.TheVariants as raw_place
 use Rattle.sync_parse.specs.declared.trees.RawPattern.{RawPattern}
 use Rattle.sync_grammar.specs.Relations.{Yields, Either, The, ◌>>=◌, ◌>>◌, Closed, the_one, the_other}
 use Rattle.sync_grammar.specs.Machines.{Pattern, Place, FormulaAct, ValueAct, FieldPlace, PlaceAct, HaveAct, ActKind, Act}
-use Rattle.sync_print.specs.Exprs.{Plain, plain}
-use Rattle.sync_print.specs.Texts.{PlainPlace, PlainAct, plain_pattern, plain_place, plain_act_kind, plain_act}
-use Rattle.sync_print.specs.Lexemes.{one, one_name}
+use Rattle.sync_print.specs.Exprs.{plain}
+use Rattle.sync_print.specs.Texts.{PlainAct, plain_pattern, plain_place, plain_act_kind, plain_act}
 use Rattle.sync_print.specs.ShowExprs.{show_expr}
 use Rattle.sync_print.specs.ShowTexts.{show_pattern, show_place, show_formula_act, show_value_act, show_place_act, show_act}
 use Rattle.sync_spell.specs.Limits.{Fits, PatternFits, PlaceFits, ActFits}
-use Rattle.sync_spell.proofs.Told.{Tells, both, behind, nothing, silent, sign_read, sign_told, name_told, none_read}
+use Rattle.sync_spell.proofs.Told.{Tells, both, nothing, silent, sign_read, sign_told, name_told, none_read}
 use Rattle.sync_spell.proofs.ListsTold.{Read, Reads, ended, closed}
 use Rattle.sync_spell.proofs.ExpressionsTold.{exprs_told}
 

@@ -1,5 +1,5 @@
 -- What is read as an expression is within the limits, and its words name what is shown of it.
-use Rattle.std.proofs.Common.{◌≡◌, ◌≤◌, ℕ, zero, suc, Bool, List, [], ◌∷◌, ◌++◌, map, min, unsigned_abs, refl, sym, ap, ◌∙◌, subst, arith}
+use Rattle.std.proofs.Common.{◌≡◌, ◌≤◌, ℕ, zero, suc, List, [], ◌∷◌, ◌++◌, map, unsigned_abs, refl, sym, ap, ◌∙◌, subst, arith}
 use Rattle.std.specs.List.{All}
 use Rattle.std.proofs.lemmas.List.Elements.{All-head, All-tail}
 use Rattle.sync_base.specs.declared.names.NameList.{NameList}
@@ -15,17 +15,17 @@ use Rattle.sync_exprs.specs.declared.expressions.Special.{Special}
 use Rattle.sync_exprs.specs.declared.expressions.Operator.{Operator}
 use Rattle.sync_exprs.specs.declared.expressions.Operator.TheVariants as operator
 use Rattle.sync_exprs.specs.declared.naming.Named.{Named}
-use Rattle.sync_exprs.specs.Expressions.{signed, special_of, function_of}
-use Rattle.sync_grammar.specs.Relations.{Spelled, The, AName, ANumber, Yields, Either, the_one, the_other, Then}
+use Rattle.sync_exprs.specs.Expressions.{signed}
+use Rattle.sync_grammar.specs.Relations.{Spelled, AName, Yields, Either, the_one, the_other, Then}
 use Rattle.sync_grammar.specs.Expressions.{placed_at, Whole, NoNumber, Operand, Unary, operand, negated, minus as minus_before, Product, Chain, ends, goes_on, Chained, Joins, SumSign, Sum, RelationSign, Relation, And, Or, Implied, plain as no_implies, implies as and_implies, Nested, AnExpr, Args}
 use Rattle.sync_print.specs.Exprs.{Joint, implies, either, both as conjunction, equal, at_most, below, plus, minus, Plain, number, name, param, nil, special, call, negation, times, two, Plains, joined, plain, plains_of}
-use Rattle.sync_print.specs.Lexemes.{Lexeme, one, one_name, one_number, listed}
-use Rattle.sync_print.specs.ShowExprs.{shown, all_shown, show_expr, function_sign, special_sign, between, level_of, left_of, right_of}
+use Rattle.sync_print.specs.Lexemes.{Lexeme, one, listed}
+use Rattle.sync_print.specs.ShowExprs.{shown, all_shown, show_expr, function_sign, special_sign, between, left_of, right_of}
 use Rattle.sync_print.proofs.Saying.{said, said-Number, said-Name, said-Param, said-Nil, said-Bracketed, said-Special, said-Call, said-Not, said-Minus, said-Times, said-Two, all_shown-of}
 use Rattle.sync_spell.specs.Limits.{Fits, AllFit}
 use Rattle.sync_spell.proofs.Levels.{says_placed}
-use Rattle.sync_spell.proofs.Told.{Tells, both, behind, nothing, silent, perhaps, number_shown, sign_read, sign_told, one_of_read, number_read, number_told, name_told, none_read}
-use Rattle.sync_spell.proofs.ListsTold.{Read, Reads, in_brackets}
+use Rattle.sync_spell.proofs.Told.{Tells, both, behind, nothing, silent, perhaps, number_shown, sign_read, one_of_read, number_read, name_told, none_read}
+use Rattle.sync_spell.proofs.ListsTold.{Reads, in_brackets}
 
 -- ---- plain expressions
 

@@ -1,5 +1,5 @@
 -- What is read as a hypothesis or a part of a sum is within the limits, and its words name what is shown of it.
-use Rattle.std.proofs.Common.{◌≡◌, ◌≤◌, ℕ, zero, suc, ℤ, pos, negsuc, neg_ℤ, unsigned_abs, Bool, true, false, List, ◌++◌, min, Option, Some, None, if◌then◌else◌, refl, sym, ap, ◌∙◌, subst, arith}
+use Rattle.std.proofs.Common.{◌≡◌, ◌≤◌, ℕ, zero, suc, ℤ, pos, neg_ℤ, unsigned_abs, Bool, true, false, List, ◌++◌, min, Option, Some, None, if◌then◌else◌, subst, arith}
 use Rattle.std.specs.Int.{is_negative}
 use Rattle.sync_base.specs.declared.names.NameList.{NameList}
 use Rattle.sync_tokens.specs.declared.signs.Sign.{Sign}
@@ -17,11 +17,11 @@ use Rattle.sync_parse.specs.Scripts.{place_of, bounded_of, times_of}
 use Rattle.sync_grammar.specs.Relations.{Yields, the_one, the_other}
 use Rattle.sync_grammar.specs.Scripts.{ASubject, Hyp, Scaled, Part, As}
 use Rattle.sync_print.specs.Scripts.{plain_subject, plain_hyp, plain_part}
-use Rattle.sync_print.specs.Lexemes.{Lexeme, one, one_name, one_number}
+use Rattle.sync_print.specs.Lexemes.{one, one_number}
 use Rattle.sync_print.specs.ShowExprs.{special_sign}
 use Rattle.sync_print.specs.ShowScripts.{show_subject, show_hyp, show_times, show_part, show_as}
 use Rattle.sync_spell.specs.Limits.{last_place, IsBounded, SubjectFits, HypFits, PartFits}
-use Rattle.sync_spell.proofs.Told.{Tells, both, behind, silent, number_shown, sign_read, sign_told, one_of_read, number_read, number_told, name_told}
+use Rattle.sync_spell.proofs.Told.{Tells, both, silent, number_shown, sign_read, sign_told, one_of_read, number_read, number_told, name_told}
 use Rattle.sync_spell.proofs.ListsTold.{Read, Reads, ended}
 
 some_is : {A : Type 0} {x y : A} → ◌≡◌ {A = Option A} (Some x) (Some y) → x ≡ y

@@ -1,13 +1,13 @@
 -- What a production reads is within the limits and names what is shown of it: rows of items, and lists with commas.
-use Rattle.std.proofs.Common.{◌≡◌, ◌≤◌, true, List, [], ◌∷◌, length, map, refl, sym, subst, arith}
+use Rattle.std.proofs.Common.{◌≤◌, true, List, [], ◌∷◌, length, map, refl, sym, subst, arith}
 use Rattle.std.specs.List.{flat_map, All}
 use Rattle.std.proofs.lemmas.List.Elements.{All-nil, All-cons}
 use Rattle.sync_base.specs.declared.names.NameList.{NameList}
 use Rattle.sync_tokens.specs.declared.signs.Sign.TheVariants as sign
 use Rattle.sync_tokens.specs.declared.words.Word.{Word}
-use Rattle.sync_grammar.specs.Relations.{Spelled, The, Yields, Here, the_one, the_other, Closed, Many, nothing as no_items, more, Series, Listed, InRound, ◌>>◌}
+use Rattle.sync_grammar.specs.Relations.{Spelled, The, Yields, the_one, the_other, Closed, Many, nothing as no_items, more, Series, Listed, InRound, ◌>>◌}
 use Rattle.sync_print.specs.Lexemes.{Lexeme, with_commas, listed}
-use Rattle.sync_spell.proofs.Told.{Tells, both, behind, nothing, sign_read, sign_told, none_read}
+use Rattle.sync_spell.proofs.Told.{Tells, both, behind, nothing, sign_read, sign_told}
 
 -- what is read is within a limit, and its words name what these lexemes name
 pub record Read (names : NameList) (limit : Type 0) (xs : List Lexeme) (ts rest : List Word) : Type 0 where

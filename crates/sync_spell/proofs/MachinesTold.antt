@@ -1,11 +1,9 @@
 -- What is read as a machine or as its proofs is within the limits, and its words name what is shown of it.
-use Rattle.std.proofs.Common.{◌≡◌, ◌≤◌, ℕ, List, [], ◌∷◌, ◌++◌, map, refl, sym, ap, ◌∙◌, subst}
+use Rattle.std.proofs.Common.{List, [], ◌∷◌, map, refl}
 use Rattle.std.specs.List.{flat_map, All}
 use Rattle.std.proofs.lemmas.List.Elements.{All-nil}
 use Rattle.sync_base.specs.declared.names.NameList.{NameList}
 use Rattle.sync_machine.specs.declared.fields.OpMode.{OpMode}
-use Rattle.sync_machine.specs.declared.fields.OpMode.TheVariants as mode
-use Rattle.sync_tokens.specs.declared.signs.Sign.{Sign}
 use Rattle.sync_tokens.specs.declared.signs.Sign.TheVariants as sign
 use Rattle.sync_tokens.specs.declared.words.Word.{Word}
 use Rattle.sync_exprs.specs.declared.naming.Named.{Named}
@@ -16,14 +14,14 @@ use Rattle.sync_parse.specs.declared.trees.RawInvariant.{RawInvariant}
 use Rattle.sync_parse.specs.declared.trees.RawProof.{RawProof}
 use Rattle.sync_parse.specs.declared.trees.RawClaim.{RawClaim}
 use Rattle.sync_parse.specs.Scripts.{place_of}
-use Rattle.sync_grammar.specs.Relations.{AName, Yields, the_one, the_other, Names}
+use Rattle.sync_grammar.specs.Relations.{AName, the_one, the_other, Names}
 use Rattle.sync_grammar.specs.Scripts.{Script}
 use Rattle.sync_grammar.specs.Machines.{Field, Mode, Operation, Invariant, Machine, Claim, Proof, Proofs}
 use Rattle.sync_print.specs.Texts.{name_of, plain_field, plain_operation, plain_invariant, plain_machine, plain_claim, plain_proof}
 use Rattle.sync_print.specs.Lexemes.{one, one_name}
 use Rattle.sync_print.specs.ShowTexts.{show_field, mode_sign, show_names, show_operation, show_invariant, show_machine, show_claim, show_proof, show_proofs}
 use Rattle.sync_spell.specs.Limits.{OperationFits, InvariantFits, MachineFits, ClaimFits, ProofFits}
-use Rattle.sync_spell.proofs.Told.{Tells, both, behind, nothing, silent, sign_read, sign_told, number_told, name_told, strategy_told, none_read}
+use Rattle.sync_spell.proofs.Told.{Tells, both, behind, nothing, silent, sign_read, sign_told, number_told, name_told, strategy_told}
 use Rattle.sync_spell.proofs.ListsTold.{Read, Reads, ended, closed, rows, in_brackets}
 use Rattle.sync_spell.proofs.ExpressionsTold.{exprs_told}
 use Rattle.sync_spell.proofs.HypsTold.{within_last, place_within_largest}

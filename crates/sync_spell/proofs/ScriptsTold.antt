@@ -1,5 +1,5 @@
 -- What is read as a step, a block or a script is within the limits, and its words name what is shown of it.
-use Rattle.std.proofs.Common.{◌≡◌, ◌≤◌, ℕ, zero, suc, List, [], ◌∷◌, ◌++◌, length, map, refl, sym, ap, ◌∙◌, subst}
+use Rattle.std.proofs.Common.{◌≡◌, ℕ, zero, suc, List, [], ◌∷◌, ◌++◌, map, refl, sym, ap, ◌∙◌, subst}
 use Rattle.std.specs.List.{flat_map, All}
 use Rattle.std.proofs.lemmas.List.Elements.{All-head, All-tail}
 use Rattle.sync_base.specs.declared.names.NameList.{NameList}
@@ -8,20 +8,17 @@ use Rattle.sync_tokens.specs.declared.signs.Sign.TheVariants as sign
 use Rattle.sync_tokens.specs.declared.words.Word.{Word}
 use Rattle.sync_exprs.specs.declared.naming.Named.{Named}
 use Rattle.sync_exprs.specs.declared.expressions.Expr.{Expr}
-use Rattle.sync_parse.specs.declared.scripts.RawBlock.{RawBlock, roll-RawBlock}
-use Rattle.sync_parse.specs.declared.scripts.RawStep.{RawStep, roll-RawStep}
+use Rattle.sync_parse.specs.declared.scripts.RawBlock.{RawBlock}
 use Rattle.sync_parse.specs.declared.scripts.RawStepKind.{RawStepKind}
 use Rattle.sync_parse.specs.declared.scripts.RawStepKind.TheVariants as step
-use Rattle.sync_grammar.specs.Relations.{Spelled, Yields, the_one, the_other, Many}
+use Rattle.sync_grammar.specs.Relations.{Spelled, Yields, the_one, the_other}
 use Rattle.sync_grammar.specs.Scripts.{Same, Sum, Inst, Parts, Lookup, Cong, Split, Cut, StepKind, Step, BlockOf, Nested, Block}
 use Rattle.sync_print.specs.Exprs.{Plain, plain}
-use Rattle.sync_print.specs.Scripts.{PlainStep, PlainBlock, plain_block, plain_step, plain_hyp, block_of}
-use Rattle.sync_print.specs.Lexemes.{one, one_name, listed}
-use Rattle.sync_print.specs.ShowExprs.{show_expr}
+use Rattle.sync_print.specs.Scripts.{PlainStep, PlainBlock, plain_block, plain_step, block_of}
 use Rattle.sync_print.specs.ShowScripts.{show_step, show_steps, show_block, show_lookup}
 use Rattle.sync_spell.specs.Limits.{Fits, StepFits, BlockFits}
-use Rattle.sync_spell.proofs.Told.{Tells, both, behind, nothing, silent, sign_read, sign_told, name_told, none_read}
-use Rattle.sync_spell.proofs.ListsTold.{Read, Reads, ended, rows, series}
+use Rattle.sync_spell.proofs.Told.{Tells, both, behind, nothing, silent, sign_told, name_told, none_read}
+use Rattle.sync_spell.proofs.ListsTold.{Read, Reads, rows, series}
 use Rattle.sync_spell.proofs.ExpressionsTold.{exprs_told, args_told}
 use Rattle.sync_spell.proofs.HypsTold.{hyps_told, parts_told, as_told}
 use Rattle.sync_spell.proofs.Steps.{said_step, said-Same, said-Sum, said-Inst, said-Parts, said-Split, said-Cut, said-Read, said-Size, said-Total, said-Cong}

@@ -1,6 +1,6 @@
 -- A text spells what is within the limits, and names its names in the order in which they are shown.
-use Rattle.std.proofs.Common.{◌≡◌, ◌≤◌, ℕ, List, [], ◌∷◌, ◌++◌, map, Ok, refl, sym, ap, ◌∙◌, subst, arith}
-use Rattle.std.specs.List.{All, filter_map}
+use Rattle.std.proofs.Common.{◌≡◌, ◌≤◌, List, [], map, ◌∙◌, arith}
+use Rattle.std.specs.List.{All}
 use Rattle.std.proofs.lemmas.List.{append-nil}
 use Rattle.sync_base.specs.declared.names.NameList.{NameList}
 use Rattle.sync_tokens.specs.declared.signs.Sign.TheVariants as sign
@@ -13,8 +13,8 @@ use Rattle.sync_print.specs.Texts.{PlainText, plain_machine, plain_proof}
 use Rattle.sync_print.specs.ShowTexts.{show}
 use Rattle.sync_spell.specs.Limits.{TextFits}
 use Rattle.sync_spell.specs.Namings.{names_said, word_names, AreTrue, LexemeFits, SpelledFits}
-use Rattle.sync_spell.proofs.Told.{Tells, both, behind, sign_read, sign_told, number_told, none_read}
-use Rattle.sync_spell.proofs.ListsTold.{Read, Reads, ended}
+use Rattle.sync_spell.proofs.Told.{both, behind, sign_told, number_told, none_read}
+use Rattle.sync_spell.proofs.ListsTold.{Read, ended}
 use Rattle.sync_spell.proofs.MachinesTold.{machines_told, proofs_told}
 
 -- what a machine and its proofs say

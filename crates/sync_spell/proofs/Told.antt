@@ -1,20 +1,17 @@
 -- Words that name what lexemes name: how they are put together.
-use Rattle.std.proofs.Common.{◌≡◌, ◌≤◌, ◌<◌, ℕ, Bool, true, false, List, [], ◌∷◌, ◌++◌, length, Option, Some, None, cond, refl, sym, ap, ◌∙◌, subst, append_assoc, arith}
-use Rattle.std.specs.List.{All, filter_map, cons_option, find}
+use Rattle.std.proofs.Common.{◌≡◌, ◌≤◌, ◌<◌, ℕ, Bool, true, false, List, [], ◌∷◌, ◌++◌, length, Option, Some, None, cond, refl, sym, ap, ◌∙◌, subst, append_assoc}
+use Rattle.std.specs.List.{All, cons_option, find}
 use Rattle.std.specs.Str.{bytes_eq}
 use Rattle.std.proofs.lemmas.List.Elements.{All-nil, All-cons, All-head, All-tail, All-append, filter_map-append}
 use Rattle.std.proofs.lemmas.Slice.Eq.{bytes_eq-Decides}
 use Rattle.sync_base.specs.declared.names.NameList.{NameList}
 use Rattle.sync_machine.specs.declared.fields.Strategy.{Strategy}
 use Rattle.sync_tokens.specs.declared.signs.Sign.{Sign}
-use Rattle.sync_tokens.specs.declared.signs.Sign.TheVariants as sign
-use Rattle.sync_tokens.specs.declared.words.What.{What}
-use Rattle.sync_tokens.specs.declared.words.What.TheVariants as what
 use Rattle.sync_tokens.specs.declared.words.Word.{Word}
 use Rattle.sync_tokens.specs.Strategies.{spelling_of, strategy_of, strategies}
 use Rattle.sync_tokens.specs.Words.{largest}
 use Rattle.sync_exprs.specs.declared.naming.Named.{Named}
-use Rattle.sync_grammar.specs.Relations.{The, AName, ANumber, AStrategy, OneOf, Yields, Here}
+use Rattle.sync_grammar.specs.Relations.{The, AName, ANumber, AStrategy, OneOf, Yields}
 use Rattle.sync_print.specs.Lexemes.{Lexeme, a_sign, a_number, a_name, a_strategy, one, one_name, one_number, one_strategy, needed, spelling}
 use Rattle.sync_spell.specs.Namings.{names_said, what_name, word_names, IsTrue, AreTrue, LexemeFits}
 
