@@ -1,0 +1,27 @@
+-- Names and lexemes that a text can hold: what is printed of them is lexed again as the same.
+use Rattle.std.specs.Prelude.{◌≡◌, ℕ, ◌<◌, ◌≤◌, ◌≢◌, List, length, Option, None, All, AllPairs}
+use Rattle.sync_base.specs.declared.names.Name.{Name}
+use Rattle.sync_base.specs.declared.names.NameList.{NameList}
+use Rattle.sync_lex.specs.declared.lexemes.Kind.TheVariants as kind
+use Rattle.sync_lex.specs.Spelling.{IsSpelled}
+use Rattle.sync_tokens.specs.Signs.{sign_of}
+use Rattle.sync_tokens.specs.Words.{largest}
+use Rattle.sync_print.specs.Lexemes.{Lexeme, a_sign, a_number, a_name, a_strategy}
+
+-- the bytes of a name: a letter or `_`, then letters, digits and `_`, at most 64 bytes, and no reserved word
+pub record IsName (bytes : List ℕ) : Type 0 where
+  pub spelled : IsSpelled kind.Name bytes
+  pub short : length bytes ≤ 64
+  pub free : sign_of bytes ≡ None
+
+-- each is a name, and no two are spelled alike
+pub record AreNames (names : List Name) : Type 0 where
+  pub each : All (λ (n : Name). IsName n.bytes) names
+  pub apart : AllPairs (λ (a b : Name). a.bytes ≢ b.bytes) names
+
+-- a text can hold the lexeme
+abbrev pub LexemeFits : NameList → Lexeme → Type 0
+LexemeFits names (a_sign s) = Unit {0}
+LexemeFits names (a_number n) = n ≤ largest
+LexemeFits names (a_name x) = x < length names.list
+LexemeFits names (a_strategy s) = Unit {0}
