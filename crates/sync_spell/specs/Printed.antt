@@ -1,12 +1,18 @@
 -- Names and lexemes that a text can hold: what is printed of them is lexed again as the same.
-use Rattle.std.specs.Prelude.{◌≡◌, ℕ, ◌<◌, ◌≤◌, ◌≢◌, List, length, Option, None, All, AllPairs}
+use Rattle.std.specs.Prelude.{◌≡◌, ℕ, ◌<◌, ◌≤◌, ◌≢◌, List, [], length, None, Ok, All, AllPairs}
 use Rattle.sync_base.specs.declared.names.Name.{Name}
 use Rattle.sync_base.specs.declared.names.NameList.{NameList}
 use Rattle.sync_lex.specs.declared.lexemes.Kind.TheVariants as kind
 use Rattle.sync_lex.specs.Spelling.{IsSpelled}
+use Rattle.sync_tokens.specs.declared.words.What.{What}
+use Rattle.sync_tokens.specs.declared.words.What.TheVariants as what
+use Rattle.sync_tokens.specs.declared.words.Words.{Words}
 use Rattle.sync_tokens.specs.Signs.{sign_of}
-use Rattle.sync_tokens.specs.Words.{largest}
-use Rattle.sync_print.specs.Lexemes.{Lexeme, a_sign, a_number, a_name, a_strategy}
+use Rattle.sync_tokens.specs.Strategies.{strategy_of}
+use Rattle.sync_tokens.specs.Words.{largest, worded}
+use Rattle.sync_print.specs.Lexemes.{Lexeme, a_sign, a_number, a_name, a_strategy, spelling, printed}
+use Rattle.sync_spell.specs.Says.{Says}
+use Rattle.sync_spell.specs.Namings.{names_said, in_order}
 
 -- the bytes of a name: a letter or `_`, then letters, digits and `_`, at most 64 bytes, and no reserved word
 pub record IsName (bytes : List ℕ) : Type 0 where
@@ -25,3 +31,16 @@ LexemeFits names (a_sign s) = Unit {0}
 LexemeFits names (a_number n) = n ≤ largest
 LexemeFits names (a_name x) = x < length names.list
 LexemeFits names (a_strategy s) = Unit {0}
+
+-- these are the words of what is printed of lexemes: their names are those that the lexemes say, in order, and where these are
+-- all the names, the words say the lexemes
+pub record ArePrinted (names : NameList) (xs : List Lexeme) (ws : Words) : Type 0 where
+  pub worded : worded (printed names xs) ≡ Ok ws
+  pub named : ws.names.list ≡ in_order [] (names_said names xs)
+  pub says : in_order [] (names_said names xs) ≡ names.list → Says xs ws.list []
+
+-- a word's name is one of the names, and its strategy the one that is spelled so
+abbrev pub IsNamed : NameList → What → Type 0
+IsNamed names (what.Sign s) = Unit {0}
+IsNamed names (what.Number n) = Unit {0}
+IsNamed names (what.Name x strategy) = (x < length names.list) × (strategy ≡ strategy_of (spelling names x))
