@@ -6,6 +6,7 @@ use Rattle.sync_lex.specs.declared.lexemes.Kind.TheVariants as kind
 use Rattle.sync_lex.specs.Spelling.{IsSpelled}
 use Rattle.sync_tokens.specs.declared.words.What.{What}
 use Rattle.sync_tokens.specs.declared.words.What.TheVariants as what
+use Rattle.sync_tokens.specs.declared.words.Word.{Word}
 use Rattle.sync_tokens.specs.declared.words.Words.{Words}
 use Rattle.sync_tokens.specs.Signs.{sign_of}
 use Rattle.sync_tokens.specs.Strategies.{strategy_of}
@@ -44,3 +45,8 @@ abbrev pub IsNamed : NameList → What → Type 0
 IsNamed names (what.Sign s) = Unit {0}
 IsNamed names (what.Number n) = Unit {0}
 IsNamed names (what.Name x strategy) = (x < length names.list) × (strategy ≡ strategy_of (spelling names x))
+
+-- the names of words are names, and each word's name is one of them
+pub record AreNamed (ws : Words) : Type 0 where
+  pub names : AreNames ws.names.list
+  pub words : All (λ (w : Word). IsNamed ws.names w.what) ws.list
