@@ -9,3 +9,15 @@ mod Scripts
 mod Acts
 mod Machines
 mod Texts
+mod Lexing
+mod LexingRuns
+mod LexingNumbers
+mod LexingNames
+mod LexingStrategies
+mod Interning
+mod SaidAgain
+mod Readings
+mod ReadRuns
+pub mod PrintedWords
+pub mod WordNames
+pub mod TextNames

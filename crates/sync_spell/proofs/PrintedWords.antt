@@ -1,5 +1,5 @@
 -- The words of what is printed of lexemes say these lexemes; a longer text than the limit is refused.
-use Rattle.std.proofs.Common.{◌≡◌, ◌<◌, ◌≤◌, ℕ, All, List, [], ◌++◌, length, Ok, Err, refl, ap, ◌∙◌, le-ltb, lt-ltb}
+use Rattle.std.proofs.Common.{◌≡◌, ◌<◌, ◌≤◌, ℕ, All, List, [], length, Ok, Err, refl, ap, ◌∙◌, le-ltb, lt-ltb}
 use Rattle.sync_base.specs.declared.names.NameList.{NameList}
 use Rattle.sync_base.specs.declared.stops.Rule.TheVariants.{L1}
 use Rattle.sync_base.specs.Outcome.{◌>>=◌}

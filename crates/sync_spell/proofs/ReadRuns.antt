@@ -1,12 +1,9 @@
 -- What is printed of lexemes is lexed as these, and what its words say.
-use Rattle.std.proofs.Common.{◌≡◌, ◌≢◌, ◌+◌, ◌-◌, ◌<◌, ◌≤◌, ℕ, Bool, true, false, ◌&&◌, if◌then◌else◌, nat_le, All, AllPairs, List, [], ◌∷◌, ◌++◌, length, take, drop, slice_range, Option, Some, None, Ok, Err, refl, sym, ap, subst, ◌∙◌, append_assoc, append-nil, arith, le-leb}
-use Rattle.std.specs.List.{flat_map, filter_map, fold}
+use Rattle.std.proofs.Common.{◌≡◌, ◌+◌, ◌-◌, ◌<◌, ◌≤◌, ℕ, true, nat_le, All, List, [], ◌∷◌, ◌++◌, length, drop, Ok, refl, sym, ap, ◌∙◌, append_assoc, append-nil, arith, le-leb}
 use Rattle.std.proofs.lemmas.List.{length-append, length-drop, drop-drop, drop_at, take_at}
 use Rattle.std.proofs.lemmas.List.Elements.{All-head, All-tail}
 use Rattle.sync_base.specs.declared.names.Name.{Name}
 use Rattle.sync_base.specs.declared.names.NameList.{NameList}
-use Rattle.sync_machine.specs.declared.fields.Strategy.{Strategy}
-use Rattle.sync_lex.specs.declared.lexemes.Kind.{Kind}
 use Rattle.sync_lex.specs.declared.lexemes.Lexeme as lexed
 use Rattle.sync_lex.specs.Lexemes.{with_first, line_after, lexemes_from}
 use Rattle.sync_tokens.specs.declared.words.What.{What}
@@ -14,13 +11,13 @@ use Rattle.sync_tokens.specs.declared.words.What.TheVariants as what
 use Rattle.sync_tokens.specs.declared.words.Word.{Word}
 use Rattle.sync_tokens.specs.Strategies as strategies
 use Rattle.sync_tokens.specs.Strategies.{strategy_of}
-use Rattle.sync_tokens.specs.Words.{number_in, names_with, said, bytes_at, words_after}
-use Rattle.sync_print.specs.Lexemes.{Lexeme, a_sign, a_number, a_name, a_strategy, spelling, spelled, separator, written, printed}
+use Rattle.sync_tokens.specs.Words.{number_in, said, bytes_at, words_after}
+use Rattle.sync_print.specs.Lexemes.{Lexeme, a_sign, a_number, a_name, a_strategy, spelling, spelled, separator, printed}
 use Rattle.sync_spell.specs.Says.{IsSaid, Says, no_more, one_more}
 use Rattle.sync_spell.specs.Namings.{names_said, in_order}
 use Rattle.sync_spell.specs.Printed.{AreNames, LexemeFits}
 use Rattle.sync_spell.proofs.Interning.{number_last, own_number}
-use Rattle.sync_spell.proofs.Readings.{IsToken, token_read, says_now, IsRead, reads}
+use Rattle.sync_spell.proofs.Readings.{token_read, says_now, IsRead, reads}
 
 -- ---- the bytes of a lexeme
 

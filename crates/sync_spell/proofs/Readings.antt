@@ -1,6 +1,5 @@
 -- What is printed of a lexeme is one lexeme of a text, and what that says.
-use Rattle.std.proofs.Common.{◌≡◌, ◌+◌, ◌<◌, ◌≤◌, ◌==◌, ℕ, Bool, true, false, if◌then◌else◌, ◌&&◌, All, List, [], ◌∷◌, ◌++◌, length, drop, get_or, Some, None, refl, sym, ap, subst, ◌∙◌, arith}
-use Rattle.std.specs.Char.{is_ascii_digit}
+use Rattle.std.proofs.Common.{◌≡◌, ◌+◌, ◌<◌, ◌≤◌, ◌==◌, ℕ, Bool, true, false, ◌&&◌, List, [], ◌∷◌, ◌++◌, length, drop, Some, None, refl, sym, ap, subst, ◌∙◌, arith}
 use Rattle.std.specs.List.{list_all}
 use Rattle.std.specs.Fmt.{decimal}
 use Rattle.std.specs.Str.Parse.{AllDigits}
@@ -9,7 +8,6 @@ use Rattle.std.proofs.lemmas.Str.Parse.{digit_from_value}
 use Rattle.std.proofs.lemmas.Fmt.{decimal_is_IsNumeral_wide}
 use Rattle.sync_base.specs.declared.names.Name.{Name}
 use Rattle.sync_base.specs.declared.names.NameList.{NameList}
-use Rattle.sync_machine.specs.declared.fields.Strategy.{Strategy}
 use Rattle.sync_lex.specs.declared.lexemes.Kind.{Kind}
 use Rattle.sync_lex.specs.declared.lexemes.Kind.TheVariants as kind
 use Rattle.sync_lex.specs.Bytes.{begins_name, continues_name}
@@ -32,7 +30,7 @@ use Rattle.sync_spell.proofs.LexingNumbers.{decimal_begins}
 use Rattle.sync_spell.proofs.LexingNames.{letters_begin}
 use Rattle.sync_spell.proofs.LexingStrategies.{one_strategy}
 use Rattle.sync_spell.proofs.SaidAgain.{decimal_number, strategy_says, strategy_free, sign_says}
-use Rattle.sync_spell.proofs.Interning.{spelled_at, spelled_is}
+use Rattle.sync_spell.proofs.Interning.{spelled_is}
 
 -- ---- one lexeme
 

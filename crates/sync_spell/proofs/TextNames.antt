@@ -1,8 +1,8 @@
 -- The names of a text are names, and no two are spelled alike.
-use Rattle.std.proofs.Common.{◌≡◌, ◌≢◌, ◌+◌, ◌-◌, ◌<◌, ◌≤◌, ℕ, zero, suc, Bool, true, false, cond, not, ◌==◌, ◌&&◌, ◌||◌, if◌then◌else◌, nat_le, nat_eq, codes, All, AllPairs, Contains, List, [], ◌∷◌, ◌++◌, length, get_or, take, drop, map, slice_range, Option, Some, None, Ok, Err, refl, sym, ap, subst, ◌∙◌, is_some, arith, le-leb, length-take, length-drop}
+use Rattle.std.proofs.Common.{◌≡◌, ◌≢◌, ◌+◌, ◌-◌, ◌<◌, ◌≤◌, ℕ, zero, suc, Bool, true, false, cond, ◌&&◌, if◌then◌else◌, nat_eq, codes, All, AllPairs, Contains, List, [], ◌∷◌, ◌++◌, length, get_or, drop, slice_range, Option, Some, None, Ok, Err, refl, sym, subst, is_some, arith, le-leb, length-take, length-drop}
 use Rattle.std.specs.Prelude.{nat_lt}
 use Rattle.std.specs.Char.{is_ascii_digit}
-use Rattle.std.specs.List.{AllByRecursion, list_all, list_any, prefix_len, take_while, starts_with}
+use Rattle.std.specs.List.{AllByRecursion, list_all, list_any, take_while, starts_with}
 use Rattle.std.proofs.lemmas.Bool.Decides.{nat_tests}
 use Rattle.std.proofs.lemmas.Slice.Eq.{bytes_eq-Decides}
 use Rattle.std.proofs.lemmas.List.Folds.{list_any_at}
@@ -12,23 +12,21 @@ use Rattle.sync_base.specs.declared.names.Name.{Name}
 use Rattle.sync_lex.specs.declared.lexemes.Kind.{Kind}
 use Rattle.sync_lex.specs.declared.lexemes.Kind.TheVariants as kind
 use Rattle.sync_lex.specs.declared.lexemes.Lexeme as lexed
-use Rattle.sync_lex.specs.Bytes.{is_blank, begins_name, continues_name, number_value}
-use Rattle.sync_lex.specs.Signs.{signs, sign_len}
+use Rattle.sync_lex.specs.Bytes.{is_blank, begins_name, number_value}
+use Rattle.sync_lex.specs.Signs.{signs}
 use Rattle.sync_lex.specs.Spelling.{IsSpelled, IsLexeme}
 use Rattle.sync_lex.specs.Pieces.{largest, name_piece, number_piece, sign_piece, piece}
 use Rattle.sync_lex.specs.Lexemes.{Lexed, line_after, with_first, placed, lexemes_from, lexemes_of}
 use Rattle.sync_lex.proofs.Within.{by_test}
-use Rattle.sync_lex.proofs.Places.{Lie, lies}
+use Rattle.sync_lex.proofs.Places.{lies}
 use Rattle.sync_tokens.specs.declared.signs.Sign.{Sign}
-use Rattle.sync_tokens.specs.declared.words.What.{What}
-use Rattle.sync_tokens.specs.declared.words.What.TheVariants as what
 use Rattle.sync_tokens.specs.declared.words.Word.{Word}
 use Rattle.sync_tokens.specs.declared.words.Words.{Words}
 use Rattle.sync_tokens.specs.Signs as words
 use Rattle.sync_tokens.specs.Signs.{sign_of}
 use Rattle.sync_tokens.specs.Words.{name_of, spells, names_with, said, bytes_at, worded}
 use Rattle.sync_spell.specs.Printed.{IsName, AreNames, IsNamed, AreNamed}
-use Rattle.sync_spell.proofs.WordNames.{by_said, spoken, named_after, all_named, AreOf, of_worded}
+use Rattle.sync_spell.proofs.WordNames.{by_said, named_after, all_named, of_worded}
 
 -- ---- names are short
 
