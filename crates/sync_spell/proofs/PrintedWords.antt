@@ -24,14 +24,16 @@ printed_worded names are xs fits short =
     let text = printed names xs in
     let run = runs names are xs fits 0 1 in
     let are_words = run.words text refl [] [] in
-    let ws : Words = record { list = are_words.words; names = record { list = in_order [] (names_said names xs) }; last_line = run.last } in
-    (ws, record {
-      worded =
-        ap (λ r. r >>= λ t. (let w = words_of text t.0 in Ok (record { list = w.0; names = record { list = w.1 }; last_line = t.1 }))) (within text short ∙ run.lexed)
-        ∙ ap (λ (w : List Word × List Name). Ok (record { list = w.0; names = record { list = w.1 }; last_line = run.last })) are_words.read;
-      named = refl;
-      says = are_words.says;
-    })
+    let ws : Words = record { list = are_words.words; names = record { list = in_order [] (names_said names xs) }; last_line = run.last } in (
+      ws,
+      record {
+        worded =
+            ap (λ r. r >>= λ t. (let w = words_of text t.0 in Ok (record { list = w.0; names = record { list = w.1 }; last_line = t.1 }))) (within text short ∙ run.lexed)
+            ∙ ap (λ (w : List Word × List Name). Ok (record { list = w.0; names = record { list = w.1 }; last_line = run.last })) are_words.read;
+        named = refl;
+        says = are_words.says;
+      },
+    )
 
 pub too_long : (text : List ℕ) → 1048576 < length text → worded text ≡ Err (record { line = 1; rule = L1 })
 unfolding worded lexemes_of

@@ -105,16 +105,16 @@ words_first names are x xs at line fits r run text here held before =
     let now = says_now names before x in
     let token : lexed.Lexeme = record { kind = r.kind; start = at; end = at + length (spelled names x); line = line } in
     let bytes : bytes_at text token ≡ spelled names x =
-        bytes_are text (spelled names x) (separator x ∷ printed names xs) token refl r.token.some (here ∙ append_assoc (spelled names x) (separator x ∷ []) (printed names xs)) in
+    bytes_are text (spelled names x) (separator x ∷ printed names xs) token refl r.token.some (here ∙ append_assoc (spelled names x) (separator x ∷ []) (printed names xs)) in
     let is : said before r.kind (bytes_at text token) ≡ now = ap (said before r.kind) bytes ∙ r.says before in
     let word : Word = record { what = now.0; line = line } in
     let rest = run.words text (behind text (spelled names x) (separator x) (printed names xs) at here) (held ++ word ∷ []) now.1 in
     record {
       words = word ∷ rest.words;
       read =
-        ap (λ (s : What × List Name). words_after text (held ++ record { what = s.0; line = line } ∷ []) s.1 run.lexemes) is
-        ∙ (rest.read ∙ (ap (λ (ws : List Word). (ws, in_order now.1 (names_said names xs))) (append_assoc held (word ∷ []) rest.words)
-        ∙ ap (λ (ns : List Name). (held ++ word ∷ rest.words, ns)) (sym (names_go_on names x xs before))));
+          ap (λ (s : What × List Name). words_after text (held ++ record { what = s.0; line = line } ∷ []) s.1 run.lexemes) is
+          ∙ (rest.read ∙ (ap (λ (ws : List Word). (ws, in_order now.1 (names_said names xs))) (append_assoc held (word ∷ []) rest.words)
+          ∙ ap (λ (ns : List Name). (held ++ word ∷ rest.words, ns)) (sym (names_go_on names x xs before))));
       says = λ all. one_more (is_said names are x xs before line fits all) (rest.says (sym (names_go_on names x xs before) ∙ all));
     }
 
