@@ -17,3 +17,16 @@ mod ScriptsTold
 mod ActsTold
 mod MachinesTold
 mod TextsTold
+mod Lexing
+mod LexingRuns
+mod LexingNumbers
+mod LexingNames
+mod LexingStrategies
+mod Interning
+mod SaidAgain
+mod Readings
+mod ReadRuns
+pub mod PrintedWords
+pub mod WordNames
+pub mod TextNames
+mod Rereads

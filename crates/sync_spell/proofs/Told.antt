@@ -13,7 +13,7 @@ use Rattle.sync_tokens.specs.Words.{largest}
 use Rattle.sync_exprs.specs.declared.naming.Named.{Named}
 use Rattle.sync_grammar.specs.Relations.{The, AName, ANumber, AStrategy, OneOf, Yields}
 use Rattle.sync_print.specs.Lexemes.{Lexeme, a_sign, a_number, a_name, a_strategy, one, one_name, one_number, one_strategy, needed, spelling}
-use Rattle.sync_spell.specs.Namings.{names_said, what_name, word_names, IsTrue, AreTrue, LexemeFits}
+use Rattle.sync_spell.specs.Namings.{names_said, what_name, word_names, SaysTrue, IsTrue, AreTrue, LexemeFits}
 
 -- between two places words name what these lexemes name, which fit the names; true words follow
 pub record Told (names : NameList) (xs : List Lexeme) (ts rest : List Word) : Type 0 where
@@ -100,8 +100,8 @@ one_told {names = names} {rest = rest} w x bytes e is said fits t = record {
   true_rest = All-tail (IsTrue names) w rest (subst (AreTrue names) e t);
 }
 
-first_is : {names : NameList} {ts : List Word} (w : Word) (rest : List Word) → ts ≡ w ∷ rest → AreTrue names ts → IsTrue names w
-first_is {names = names} w rest e t = All-head (IsTrue names) w rest (subst (AreTrue names) e t)
+first_is : (names : NameList) {ts : List Word} (w : Word) (rest : List Word) → ts ≡ w ∷ rest → AreTrue names ts → IsTrue names w
+first_is names w rest e t = All-head (IsTrue names) w rest (subst (AreTrue names) e t)
 
 pub sign_read : {names : NameList} {s : Sign} {ts rest : List Word} {line : ℕ} → The s ts rest line → Tells names [] ts rest
 sign_read {names = names} d = skipped d.word d.stands (ap (what_name names) d.is)
@@ -127,7 +127,7 @@ name_told {names = names} {x = x} d =
     record {
       told = λ t.
           one_told d.word (a_name x.name) (spelling names x.name) d.stands (ap (what_name names) d.is ∙ ap (λ (y : ℕ). Some (spelling names y)) (sym same)) refl
-          (subst (λ (y : ℕ). y < length names.list) (sym same) ((first_is d.word _ d.stands t).name d.number d.strategy d.is).0) t;
+          (subst (λ (y : ℕ). y < length names.list) (sym same) (subst (SaysTrue names) d.is (first_is names d.word _ d.stands t)).0) t;
     }
 
 -- what is found passes
@@ -147,7 +147,7 @@ pub strategy_told : {names : NameList} {ts rest : List Word} {s : Strategy} → 
 unfolding names_said one_strategy
 strategy_told {names = names} {s = s} d = record {
   told = λ t.
-      let same = strategy_spelled (spelling names d.number) s ((first_is d.word _ d.stands t).name d.number (Some s) d.is).1 in
+      let same = strategy_spelled (spelling names d.number) s (subst (SaysTrue names) d.is (first_is names d.word _ d.stands t)).1 in
       one_told d.word (a_strategy s) (spelling_of s) d.stands (ap (what_name names) d.is ∙ ap (λ (z : List ℕ). Some z) (sym same)) refl tt t;
 }
 

@@ -1,14 +1,14 @@
 -- What words and lexemes name, in their order, and that a text spells what is within the limits and names its names so.
 use Rattle.std.specs.Prelude.{◌≡◌, ℕ, ◌≤◌, ◌<◌, List, [], length, Option, Some, None, Ok}
-use Rattle.std.specs.List.{All, filter_map}
+use Rattle.std.specs.List.{All, filter_map, fold}
+use Rattle.sync_base.specs.declared.names.Name.{Name}
 use Rattle.sync_base.specs.declared.names.NameList.{NameList}
-use Rattle.sync_machine.specs.declared.fields.Strategy.{Strategy}
 use Rattle.sync_tokens.specs.declared.words.What.{What}
 use Rattle.sync_tokens.specs.declared.words.What.TheVariants as what
 use Rattle.sync_tokens.specs.declared.words.Word.{Word}
 use Rattle.sync_tokens.specs.declared.words.Words.{Words}
 use Rattle.sync_tokens.specs.Strategies as strategies
-use Rattle.sync_tokens.specs.Words.{largest, worded}
+use Rattle.sync_tokens.specs.Words.{largest, names_with, worded}
 use Rattle.sync_parse.specs.declared.trees.RawText.{RawText}
 use Rattle.sync_grammar.specs.Texts.{Text}
 use Rattle.sync_print.specs.Texts.{plain_text}
@@ -41,12 +41,20 @@ word_name names w = what_name names w.what
 unfoldable pub word_names : NameList → List Word → List (List ℕ)
 word_names names ws = filter_map (word_name names) ws
 
+-- these names and then those of these spellings, each where it first appears
+unfoldable pub in_order : List Name → List (List ℕ) → List Name
+in_order names spellings = fold names_with names spellings
+
 -- ---- words and lexemes that fit a list of names
 
 -- a name is one of the list, with the strategy that it names there, and a number is one that a text can hold
-pub record IsTrue (names : NameList) (w : Word) : Type 0 where
-  pub name : (x : ℕ) (s : Option Strategy) → w.what ≡ what.Name x s → (x < length names.list) × (s ≡ strategies.strategy_of (spelling names x))
-  pub number : (n : ℕ) → w.what ≡ what.Number n → n ≤ largest
+abbrev pub SaysTrue : NameList → What → Type 0
+SaysTrue names (what.Sign s) = Unit {0}
+SaysTrue names (what.Number n) = n ≤ largest
+SaysTrue names (what.Name x s) = (x < length names.list) × (s ≡ strategies.strategy_of (spelling names x))
+
+abbrev pub IsTrue : NameList → Word → Type 0
+IsTrue names w = SaysTrue names w.what
 
 abbrev pub AreTrue : NameList → List Word → Type 0
 AreTrue names ws = All (IsTrue names) ws
