@@ -29,4 +29,4 @@ mod ReadRuns
 pub mod PrintedWords
 pub mod WordNames
 pub mod TextNames
-mod Rereads
+pub mod Rereads

@@ -1,5 +1,5 @@
 -- What is printed of a text that is spelled is read again as a tree that says the same.
-use Rattle.std.proofs.Common.{◌≡◌, ◌<◌, ◌≤◌, ℕ, All, Bool, true, false, List, [], length, Result, Ok, Err, inl, inr, refl, sym, ap, ◌∙◌, subst, arith}
+use Rattle.std.proofs.Common.{◌≡◌, ◌<◌, ◌≤◌, ℕ, All, Bool, true, false, List, [], length, Result, Ok, Err, IfOk, inl, inr, refl, sym, ap, ◌∙◌, subst, arith}
 use Rattle.std.specs.Prelude.{nat_lt}
 use Rattle.std.proofs.lemmas.Bool.Decides.{nat_tests}
 use Rattle.sync_base.specs.Outcome as outcome
@@ -43,35 +43,35 @@ unfolding parsed
 not_worded bytes r e =
     ap (λ (w : Result Words Refusal). outcome.◌>>=◌ w (λ ws. outcome.◌>>=◌ {B = RawText} (refused ws.last_line (text_of ws.list)) (λ t. Ok (record { machine = t.0; proofs = t.1; names = ws.names })))) e
 
--- what is printed, within the limits, and names what is shown
+-- of a text within the limits, whose names are those that are shown, in order
 module _ (raw : RawText) (fits : TextFits (plain_text raw)) (are : AreNames raw.names.list) (each : All (LexemeFits raw.names) (show (plain_text raw)))
     (named : in_order [] (names_said raw.names (show (plain_text raw))) ≡ raw.names.list) where
-  abbrev bytes : List ℕ
-  bytes = printed raw.names (show (plain_text raw))
+  abbrev printed_text : List ℕ
+  printed_text = printed raw.names (show (plain_text raw))
 
-  read_case : (ws : Words) → worded bytes ≡ Ok ws → ws.names ≡ raw.names → Says (show (plain_text raw)) ws.list [] → SaysText (plain_text raw) bytes
-      → (r : Result RawText Refusal) → parsed bytes ≡ r → Rereads raw r
+  read_case : (ws : Words) → worded printed_text ≡ Ok ws → ws.names ≡ raw.names → Says (show (plain_text raw)) ws.list [] → SaysText (plain_text raw) printed_text
+      → (r : Result RawText Refusal) → parsed printed_text ≡ r → Rereads raw r
   read_case ws is names says canonical (Ok again) e =
-      let d = sound bytes again e in
+      let d = sound printed_text again e in
       let same : d.0 ≡ ws = words_are (sym d.1 ∙ is) in
       (canonical.only again d, d.3 ∙ ap (λ (z : Words). z.names) same ∙ names)
-  read_case ws is names says canonical (Err r) e = inr (refused_deep bytes ws canonical.tree r is (version_one (plain_text raw) says) canonical.spelled e)
+  read_case ws is names says canonical (Err r) e = inr (refused_deep printed_text ws canonical.tree r is (version_one (plain_text raw) says) canonical.spelled e)
 
-  short_read : length bytes ≤ 1048576 → ReadsBack raw bytes
+  short_read : length printed_text ≤ 1048576 → ReadsBack raw printed_text
   short_read short =
       let p = printed_worded raw.names are (show (plain_text raw)) each short in
       let says = p.1.says named in
-      let canonical = texts (plain_text raw) fits bytes p.0 p.1.worded says in
+      let canonical = texts (plain_text raw) fits printed_text p.0 p.1.worded says in
       let names : p.0.names ≡ raw.names = ap (λ (list : List Name). record { list = list }) (p.1.named ∙ named) in
-      read_case p.0 p.1.worded names says canonical (parsed bytes) refl
+      read_case p.0 p.1.worded names says canonical (parsed printed_text) refl
 
-  long_read : 1048576 < length bytes → ReadsBack raw bytes
-  long_read over = subst (Rereads raw) (sym (not_worded bytes (record { line = 1; rule = L1 }) (too_long bytes over))) (inl refl)
+  long_read : 1048576 < length printed_text → ReadsBack raw printed_text
+  long_read over = subst (Rereads raw) (sym (not_worded printed_text (record { line = 1; rule = L1 }) (too_long printed_text over))) (inl refl)
 
-  read_back : ReadsBack raw bytes
-  read_back = by_length (nat_lt 1048576 (length bytes)) refl
+  read_back : ReadsBack raw printed_text
+  read_back = by_length (nat_lt 1048576 (length printed_text)) refl
     where
-      by_length : (c : Bool) → nat_lt 1048576 (length bytes) ≡ c → ReadsBack raw bytes
+      by_length : (c : Bool) → nat_lt 1048576 (length printed_text) ≡ c → ReadsBack raw printed_text
       by_length true e = long_read (grind (arith, nat_tests))
       by_length false e = short_read (grind (arith, nat_tests))
 
@@ -85,3 +85,9 @@ reads_back text raw d =
     let order : in_order [] (names_said ws.names (show (plain_text raw))) ≡ ws.names.list = sym (names_in_order text ws d.1 ∙ ap (in_order []) known.1) in
     read_back raw known.0 (subst (λ (n : NameList). AreNames n.list) same names.names) (subst (λ (n : NameList). All (LexemeFits n) (show (plain_text raw))) same known.2)
     (subst (λ (n : NameList). in_order [] (names_said n (show (plain_text raw))) ≡ n.list) same order)
+
+-- the same of an answer
+pub printed_reads_back : {E : Type 0} (raw : RawText) (r : Result (List ℕ) E) → IfOk r (λ (bytes : List ℕ). bytes ≡ printed raw.names (show (plain_text raw)))
+    → IfOk r (λ (bytes : List ℕ). (source : List ℕ) → Spells source raw → ReadsBack raw bytes)
+printed_reads_back raw (Ok bytes) e = λ source d. subst (ReadsBack raw) (sym e) (reads_back source raw d)
+printed_reads_back raw (Err s) e = tt

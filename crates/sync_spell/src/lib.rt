@@ -1,8 +1,12 @@
-//! The laws of the canonical form: what it spells, by the productions of the grammar, and what a text names that spells it.
+//! The canonical form and its laws: what it spells by the productions of the grammar, and what reading it gives.
 #![tactic(auto)]
 
 ghost use Rattle.sync_spell.specs.Laws.{ShowSpells};
 ghost use Rattle.sync_spell.specs.Namings.{SpelledFits};
+
+mod printing;
+
+pub use printing::print;
 
 /// Words that say the canonical lexemes of a plain tree, whose numbers a text can hold, spell a raw tree of this plain tree.
 pub fn show_spells()
