@@ -21,15 +21,15 @@ use denote.Enum.Bare.{true_same}
 use denote.Enum.Declared.{tag_of}
 use lib.Dec.{eqb-zero-suc, eqb-suc-suc}
 
--- too deep, or of another version
+-- too deep
 abbrev pub Excused : Fault → Type 0
 Excused (fault.Deep line) = Unit {0}
-Excused (fault.Version line) = Unit {0}
+Excused (fault.Version line) = ⊥
 Excused fault.Ended = ⊥
 Excused (fault.Wanted line) = ⊥
 Excused (fault.Unbuilt line) = ⊥
 
--- reading gives this value, or stops for depth or version
+-- reading gives this value, or stops for depth
 abbrev pub Meets : {A : Type 0} → Result A Fault → A → Type 0
 Meets (Ok x) y = x ≡ y
 Meets (Err f) y = Excused f

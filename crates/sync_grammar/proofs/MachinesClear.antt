@@ -185,7 +185,7 @@ unfolding Text
 clear_text = clear_next clear_version λ v. clear_next clear_the λ s. clear_next clear_machine λ m.
     clear_then (only 0) clear_proofs (λ ps. clear_yields) (λ ps. follows_yields same_in) (λ ps. follows_yields same_in)
 
-words_are : {u v : Words} → ◌≡◌ {A = Result Words Refusal} (Ok u) (Ok v) → u ≡ v
+pub words_are : {u v : Words} → ◌≡◌ {A = Result Words Refusal} (Ok u) (Ok v) → u ≡ v
 words_are e = cc
 
 -- no bytes spell two raw trees

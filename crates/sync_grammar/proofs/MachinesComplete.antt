@@ -1,5 +1,6 @@
 -- What is spelled as a machine, as proofs and as a whole text is read, where it is not too deep.
 use Rattle.std.proofs.Common.{◌≡◌, ℕ, ◌-◌, ◌<◌, ◌==◌, Bool, true, false, ◌||◌, if◌then◌else◌, List, [], ◌∷◌, length, Result, Ok, Err, Some, None, is_some, ◌⊎◌, inl, inr, IfErr, refl, sym, ap, ◌∙◌, subst, arith}
+use Rattle.std.proofs.lemmas.Bool.{eqb-true}
 use Rattle.sync_base.specs.Outcome as outcome
 use Rattle.sync_base.specs.Outcome.{Gives}
 use Rattle.sync_base.specs.declared.stops.Refusal.{Refusal}
@@ -13,7 +14,7 @@ use Rattle.sync_tokens.specs.declared.signs.Sign.TheVariants as sign
 use Rattle.sync_tokens.specs.declared.words.What.TheVariants as what
 use Rattle.sync_tokens.specs.declared.words.Word.{Word}
 use Rattle.sync_tokens.specs.declared.words.Words.{Words}
-use Rattle.sync_tokens.specs.Words.{is_sign}
+use Rattle.sync_tokens.specs.Words.{is_sign, worded}
 use Rattle.sync_exprs.specs.declared.faults.Fault.{Fault}
 use Rattle.sync_exprs.specs.declared.faults.Fault.TheVariants as fault
 use Rattle.sync_exprs.specs.declared.naming.Named.{Named}
@@ -25,19 +26,19 @@ use Rattle.sync_parse.specs.declared.trees.RawActKind.{RawActKind}
 use Rattle.sync_parse.specs.declared.trees.RawActKind.TheVariants as act
 use Rattle.sync_parse.specs.declared.trees.RawPlace.{RawPlace}
 use Rattle.sync_parse.specs.declared.trees.RawPlace.TheVariants as place
-use Rattle.sync_exprs.specs.Lexemes.{Read, Reader, begins_with}
+use Rattle.sync_exprs.specs.Lexemes.{Read, Reader, begins_with, sign_at, number_at}
 use Rattle.sync_parse.specs.Faults.{refusal_of, refused}
 use Rattle.sync_parse.specs.Machines.{pattern_at, keyed, place_at, closed_expr, closed_place, formula_act, value_act, field_place, place_act, have_act, act_kind, act_at, acts, field_at, fields, mode_of, mode_said, mode_at, operation_at, begins_operation, operations, invariant_at, invariants, machine_at, claim_at, proof_at, proof_row, proofs_at, version_at, at_end, text_of, parsed}
-use Rattle.sync_grammar.specs.Relations.{Spelled, The, Yields, Then, ◌>>=◌, Either, the_one, the_other, Closed}
+use Rattle.sync_grammar.specs.Relations.{Spelled, The, ANumber, Yields, Then, ◌>>=◌, ◌>>◌, Either, the_one, the_other, Closed}
 use Rattle.sync_grammar.specs.Expressions.{AnExpr}
 use Rattle.sync_grammar.specs.Scripts.{Script}
 use Rattle.sync_grammar.specs.Machines.{Pattern, Place, FormulaAct, ValueAct, FieldPlace, PlaceAct, HaveAct, ActKind, Act, Field, Mode, Operation, Invariant, Machine, Claim, Proof, Proofs}
-use Rattle.sync_grammar.specs.Texts.{Version, Text, Spells, MayRefuse}
+use Rattle.sync_grammar.specs.Texts.{Version, Text, IsVersionOne, Spells, MayRefuse}
 use Rattle.sync_grammar.proofs.Clears.{code, front, Set, any, only, among, others, In, only_in, among_in, same_in, Starts, Follows, starts_then, starts_or, starts_the, follows_starts, follows_then, follows_yields, follows_or}
 use Rattle.sync_grammar.proofs.ExpressionsClear.{operators, operands, starts_expr}
-use Rattle.sync_grammar.proofs.MachinesClear.{formula_fork, value_fork, place_fork, have_fork, starts_act, field_fork, modes, operation_fork, invariant_fork, proof_fork, behind_operations, behind_fields, invariants_follow, operations_follow}
+use Rattle.sync_grammar.proofs.MachinesClear.{formula_fork, value_fork, place_fork, have_fork, starts_act, field_fork, modes, operation_fork, invariant_fork, proof_fork, behind_operations, behind_fields, invariants_follow, operations_follow, words_are}
 use Rattle.sync_grammar.proofs.Counting.{silent_act, silent_field, silent_operation, silent_invariant, silent_claim, silent_block, one_shorter}
-use Rattle.sync_grammar.proofs.Completes.{Excused, Met, gives, Complete, Shrinks, Row, braced, complete_yields, complete_then, complete_next, complete_here, complete_if, complete_last, complete_optional, complete_row, met_within, tail_is, says, begins_is, begins_not, front_case, is_not, complete_the, complete_name, complete_number, complete_strategy, complete_names}
+use Rattle.sync_grammar.proofs.Completes.{Excused, Met, gives, Complete, Shrinks, Row, braced, complete_yields, complete_then, complete_next, complete_here, complete_if, complete_last, complete_optional, complete_row, met_if, met_within, tail_is, says, begins_is, begins_not, front_case, is_not, complete_the, complete_name, complete_number, complete_strategy, complete_names}
 use Rattle.sync_grammar.proofs.ExpressionsComplete.{complete_expr, if_yes, if_no, sign_yes, sign_not}
 use Rattle.sync_grammar.proofs.ScriptsComplete.{union_in, expr_next, complete_script}
 
@@ -258,13 +259,27 @@ complete_proofs left ts = complete_optional sign.Proofs (starts_then starts_the)
 
 -- ---- texts
 
-version_case : {q : Set} {line : ℕ} {ts : List Word} (at_line : ℕ) (c : Bool) → Complete q (Yields line) ts (if c then Ok (line, ts) else Err (fault.Version at_line))
-version_case at_line true = complete_yields
-version_case at_line false = record { at = λ x rest d e. record { is = tt } }
+-- a line, where the number is 1
+record LineOfOne (n line : ℕ) (ts rest : List Word) (x : ℕ) : Type 0 where
+  is_one : n ≡ 1
+  yields : Yields line ts rest x
 
-complete_version : {q : Set} (left : ℕ) (ts : List Word) → Complete q Version ts (version_at left ts)
-unfolding version_at Version
-complete_version left ts = complete_next (complete_the left sign.Version ts) λ v. complete_next (complete_number left v.1) λ n. version_case _ (n.0 == 1)
+-- "version" 1
+abbrev VersionOne : Spelled ℕ
+VersionOne = The sign.Version >>= λ line. ANumber >>= λ n. LineOfOne n line
+
+-- a text of version 1
+abbrev TextOfOne : Spelled (RawMachine × List RawProof)
+TextOfOne = VersionOne >> (The sign.Semicolon >> (Machine >>= λ m. Proofs >>= λ ps. Yields (m, ps)))
+
+one_is_read : {q : Set} {n line : ℕ} {ts : List Word} (at_line : ℕ) → Complete q (LineOfOne n line) ts (if n == 1 then Ok (line, ts) else Err (fault.Version at_line))
+one_is_read {q = q} {n = n} {line = line} {ts = ts} at_line = record {
+  at = λ x rest d e. met_if _ (n == 1) (ap (λ m. m == 1) d.is_one) ((complete_yields {q = q} {x = line} {ts = ts}).at x rest d.yields e);
+}
+
+complete_version : {q : Set} (left : ℕ) (ts : List Word) → Complete q VersionOne ts (version_at left ts)
+unfolding version_at
+complete_version left ts = complete_next (complete_the left sign.Version ts) λ v. complete_next (complete_number left v.1) λ n. one_is_read _
 
 -- what all of these words spell is read
 pub record Ends {A : Type 0} (m : Spelled A) (ts : List Word) (r : Result A Fault) : Type 0 where
@@ -288,37 +303,159 @@ ends_all : {A : Type 0} (x : A) (ts : List Word) → Ends (Yields x) ts (at_end 
 ends_all x [] = record { at = λ y d. record { is = sym d.is } }
 ends_all x (w ∷ ws) = record { at = λ y d. let e : ◌≡◌ {A = List Word} (w ∷ ws) [] = d.none in absurd cc }
 
-pub text_ends : (ts : List Word) → Ends Text ts (text_of ts)
-unfolding text_of Text
+text_ends : (ts : List Word) → Ends TextOfOne ts (text_of ts)
+unfolding text_of
 text_ends ts =
     ends_then any (complete_version 65 ts) (λ v. ends_then any (complete_the 65 sign.Semicolon v.1) (λ s. ends_then any (complete_machine 65 s.1) (λ m.
     ends_then (only 0) (complete_proofs 65 m.1) (λ ps. ends_all (m.0, ps.0) ps.1) (λ ps. follows_yields same_in)) (λ m. anything)) (λ s. anything)) (λ v. anything)
 
--- a fault of depth or version breaks its rule
-excused_is : (line : ℕ) (f : Fault) → Excused f → ((refusal_of line f).rule ≡ rule.G3) ⊎ ((refusal_of line f).rule ≡ rule.G4)
+-- the number that a version spells is 1, where the second word says 1
+version_one : (ts rest : List Word) (x : ℕ) → (d : The sign.Version ts rest x) → (us : List Word) (n : ℕ) → ANumber rest us n → IsVersionOne ts → n ≡ 1
+version_one [] rest x d us n number one = absurd one
+version_one (w ∷ []) rest x d us n number one = absurd one
+version_one (w ∷ v ∷ vs) rest x d us n number one =
+    let tail : ◌≡◌ {A = List Word} (v ∷ vs) rest = tail_is w d.word (v ∷ vs) rest d.stands in
+    let is : v.what ≡ what.Number n = says v number.word vs us (what.Number n) (tail ∙ number.stands) number.is in
+    number_is (sym is ∙ one)
+  where
+    number_is : {n m : ℕ} → what.Number n ≡ what.Number m → n ≡ m
+    number_is e = cc
+
+-- ---- texts of other versions
+
+-- too deep, or of another version
+abbrev Stops : Fault → Type 0
+Stops (fault.Deep line) = Unit {0}
+Stops (fault.Version line) = Unit {0}
+Stops fault.Ended = ⊥
+Stops (fault.Wanted line) = ⊥
+Stops (fault.Unbuilt line) = ⊥
+
+abbrev IsStopped : {A : Type 0} → Result A Fault → Type 0
+IsStopped (Ok x) = ⊥
+IsStopped (Err f) = Stops f
+
+-- the same as one fact
+record Stopped {A : Type 0} (r : Result A Fault) : Type 0 where
+  is : IsStopped r
+
+deep_stops : (f : Fault) → Excused f → Stops f
+deep_stops (fault.Deep line) e = tt
+deep_stops (fault.Version line) e = absurd e
+deep_stops fault.Ended e = absurd e
+deep_stops (fault.Wanted line) e = absurd e
+deep_stops (fault.Unbuilt line) e = absurd e
+
+-- what stops stops what goes on with it
+stopped_then : {A B : Type 0} (f : A → Result B Fault) (r : Result A Fault) → Stopped r → Stopped (outcome.◌>>=◌ r f)
+stopped_then f (Ok x) s = absurd (s.is)
+stopped_then f (Err e) s = record { is = s.is }
+
+-- what goes on with what is read stops
+then_stopped : {A B : Type 0} {x : A} {us : List Word} (f : A × List Word → Result B Fault) (r : Read A) → Met r (x, us) → Stopped (f (x, us)) → Stopped (outcome.◌>>=◌ r f)
+then_stopped f (Ok v) met s = subst (λ z. Stopped (f z)) (sym met.is) s
+then_stopped f (Err e) met s = record { is = deep_stops e met.is }
+
+other_stops : {A : Type 0} (x : A) (line : ℕ) (c : Bool) → c ≡ false → Stopped (if c then Ok x else Err (fault.Version line))
+other_stops x line true e = absurd cc
+other_stops x line false e = record { is = tt }
+
+version_stops : (ts us vs : List Word) (line n : ℕ) → The sign.Version ts us line → ANumber us vs n → (n == 1) ≡ false → Stopped (version_at 65 ts)
+unfolding version_at
+version_stops ts us vs line n w number other =
+    then_stopped _ (sign_at 65 sign.Version ts) ((complete_the 65 sign.Version ts).at line us w refl)
+    (then_stopped _ (number_at 65 us) ((complete_number 65 us).at n vs number refl) (other_stops _ _ (n == 1) other))
+
+-- a text is read, where it is not too deep; or it is of another version than 1
+text_read : (ts : List Word) (x : RawMachine × List RawProof) → Text ts [] x → Met (text_of ts) x ⊎ ((IsVersionOne ts → ⊥) × Stopped (text_of ts))
+unfolding text_of Text Version
+text_read ts x d = go (n.value == 1) refl
+  where
+    n : Then ANumber (λ m. Yields d.one.value) d.one.middle d.middle d.value
+    n = d.one.next
+
+    go : (c : Bool) → (n.value == 1) ≡ c → Met (text_of ts) x ⊎ ((IsVersionOne ts → ⊥) × Stopped (text_of ts))
+    go true e =
+        let line : LineOfOne n.value d.one.value n.middle d.middle d.value = record { is_one = eqb-true n.value 1 e; yields = n.next } in
+        let version : VersionOne ts d.middle d.value = record { value = d.one.value; middle = d.one.middle; one = d.one.one; next = record { value = n.value; middle = n.middle; one = n.one; next = line } } in
+        inl ((text_ends ts).at x (record { value = d.value; middle = d.middle; one = version; next = d.next }))
+    go false e =
+        inr (
+          (λ one. is_other n.value e (version_one ts d.one.middle d.one.value d.one.one n.middle n.value n.one one)),
+          stopped_then _ (version_at 65 ts) (version_stops ts d.one.middle n.middle d.one.value n.value d.one.one n.one e),
+        )
+      where
+        is_other : (m : ℕ) → (m == 1) ≡ false → m ≡ 1 → ⊥
+        is_other m f one = let same : (m == 1) ≡ true = ap (λ z. z == 1) one in absurd cc
+
+-- ---- what refuses
+
+deep_is : (line : ℕ) (f : Fault) → Excused f → (refusal_of line f).rule ≡ rule.G3
 unfolding refusal_of
-excused_is line (fault.Deep l) e = inl refl
-excused_is line (fault.Version l) e = inr refl
-excused_is line fault.Ended e = absurd e
-excused_is line (fault.Wanted l) e = absurd e
-excused_is line (fault.Unbuilt l) e = absurd e
+deep_is line (fault.Deep l) e = refl
+deep_is line (fault.Version l) e = absurd e
+deep_is line fault.Ended e = absurd e
+deep_is line (fault.Wanted l) e = absurd e
+deep_is line (fault.Unbuilt l) e = absurd e
+
+-- a fault of depth or version breaks its rule
+stops_is : (line : ℕ) (f : Fault) → Stops f → ((refusal_of line f).rule ≡ rule.G3) ⊎ ((refusal_of line f).rule ≡ rule.G4)
+unfolding refusal_of
+stops_is line (fault.Deep l) e = inl refl
+stops_is line (fault.Version l) e = inr refl
+stops_is line fault.Ended e = absurd e
+stops_is line (fault.Wanted l) e = absurd e
+stops_is line (fault.Unbuilt l) e = absurd e
 
 err_is : {x y : Refusal} → ◌≡◌ {A = Result RawText Refusal} (Err x) (Err y) → x ≡ y
 err_is e = cc
 
--- a text that is spelled by a tree and is refused is too deep, or of another version than 1
-pub refused_is : (text : List ℕ) (raw : RawText) (r : Refusal) → Spells text raw → parsed text ≡ Err r → (r.rule ≡ rule.G3) ⊎ (r.rule ≡ rule.G4)
+-- the fault for which words are refused
+record Faulted (ws : Words) (r : Refusal) : Type 0 where
+  fault : Fault
+  stands : text_of ws.list ≡ Err fault
+  refuses : refusal_of ws.last_line fault ≡ r
+
+faulted : (text : List ℕ) (ws : Words) (r : Refusal) → worded text ≡ Ok ws → parsed text ≡ Err r → Faulted ws r
 unfolding parsed
-refused_is text raw r d e =
-    read (text_of d.0.list) ((text_ends d.0.list).at (raw.machine, raw.proofs) d.2) (ap next (sym d.1) ∙ e)
+faulted text ws r is e = read (text_of ws.list) refl (ap next (sym is) ∙ e)
   where
     next : Result Words Refusal → Result RawText Refusal
-    next w = outcome.◌>>=◌ w (λ ws. outcome.◌>>=◌ {B = RawText} (refused ws.last_line (text_of ws.list)) (λ t. Ok (record { machine = t.0; proofs = t.1; names = ws.names })))
+    next w = outcome.◌>>=◌ w (λ us. outcome.◌>>=◌ {B = RawText} (refused us.last_line (text_of us.list)) (λ t. Ok (record { machine = t.0; proofs = t.1; names = us.names })))
 
-    read : (t : Result (RawMachine × List RawProof) Fault) → Met t (raw.machine, raw.proofs)
-        → outcome.◌>>=◌ {B = RawText} (refused d.0.last_line t) (λ t. Ok (record { machine = t.0; proofs = t.1; names = d.0.names })) ≡ Err r → (r.rule ≡ rule.G3) ⊎ (r.rule ≡ rule.G4)
-    read (Ok t) met h = absurd cc
-    read (Err f) met h = subst (λ (z : Refusal). (z.rule ≡ rule.G3) ⊎ (z.rule ≡ rule.G4)) (err_is h) (excused_is d.0.last_line f met.is)
+    read : (t : Result (RawMachine × List RawProof) Fault) → text_of ws.list ≡ t
+        → outcome.◌>>=◌ {B = RawText} (refused ws.last_line t) (λ t. Ok (record { machine = t.0; proofs = t.1; names = ws.names })) ≡ Err r → Faulted ws r
+    read (Ok t) same h = absurd cc
+    read (Err f) same h = record { fault = f; stands = same; refuses = err_is h }
+
+refused_read : (ws : Words) (x : RawMachine × List RawProof) (r : Refusal) → Faulted ws r → Met (text_of ws.list) x → r.rule ≡ rule.G3
+refused_read ws x r f met =
+    let deep : Met {A = RawMachine × List RawProof} (Err f.fault) x = subst (λ t. Met t x) f.stands met in
+    subst (λ (z : Refusal). z.rule ≡ rule.G3) f.refuses (deep_is ws.last_line f.fault deep.is)
+
+refused_stopped : (ws : Words) (r : Refusal) → Faulted ws r → Stopped (text_of ws.list) → (r.rule ≡ rule.G3) ⊎ (r.rule ≡ rule.G4)
+refused_stopped ws r f stopped =
+    let stops : Stopped {A = RawMachine × List RawProof} (Err f.fault) = subst (λ t. Stopped t) f.stands stopped in
+    subst (λ (z : Refusal). (z.rule ≡ rule.G3) ⊎ (z.rule ≡ rule.G4)) f.refuses (stops_is ws.last_line f.fault stops.is)
+
+-- a text that is spelled by a tree and is refused is too deep, or of another version than 1
+pub refused_is : (text : List ℕ) (raw : RawText) (r : Refusal) → Spells text raw → parsed text ≡ Err r → (r.rule ≡ rule.G3) ⊎ (r.rule ≡ rule.G4)
+refused_is text raw r d e = go (text_read d.0.list (raw.machine, raw.proofs) d.2)
+  where
+    go : Met (text_of d.0.list) (raw.machine, raw.proofs) ⊎ ((IsVersionOne d.0.list → ⊥) × Stopped (text_of d.0.list)) → (r.rule ≡ rule.G3) ⊎ (r.rule ≡ rule.G4)
+    go (inl met) = inl (refused_read d.0 (raw.machine, raw.proofs) r (faulted text d.0 r d.1 e) met)
+    go (inr other) = refused_stopped d.0 r (faulted text d.0 r d.1 e) other.1
+
+-- a text of version 1 that is spelled by a tree and is refused is too deep
+pub refused_deep : (text : List ℕ) (ws : Words) (raw : RawText) (r : Refusal) → worded text ≡ Ok ws → IsVersionOne ws.list → Spells text raw → parsed text ≡ Err r → r.rule ≡ rule.G3
+refused_deep text ws raw r is one d e = go (text_read d.0.list (raw.machine, raw.proofs) d.2)
+  where
+    own : d.0 ≡ ws
+    own = words_are (sym d.1 ∙ is)
+
+    go : Met (text_of d.0.list) (raw.machine, raw.proofs) ⊎ ((IsVersionOne d.0.list → ⊥) × Stopped (text_of d.0.list)) → r.rule ≡ rule.G3
+    go (inl met) = refused_read d.0 (raw.machine, raw.proofs) r (faulted text d.0 r d.1 e) met
+    go (inr other) = absurd (other.0 (subst (λ (us : Words). IsVersionOne us.list) (sym own) one))
 
 pub answer_refuses : (text : List ℕ) (r : Result RawText Stop) → Gives (λ t. t) r (parsed text) → IfErr r (λ s. (tree : RawText) → Spells text tree → MayRefuse s)
 answer_refuses text (Ok t) e = tt

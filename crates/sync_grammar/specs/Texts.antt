@@ -5,6 +5,7 @@ use Rattle.sync_base.specs.declared.stops.Stop.TheVariants.{Refused, Memory}
 use Rattle.sync_base.specs.declared.stops.Rule.TheVariants as rule
 use Rattle.sync_tokens.specs.declared.signs.Sign.{Sign}
 use Rattle.sync_tokens.specs.declared.signs.Sign.TheVariants as sign
+use Rattle.sync_tokens.specs.declared.words.What.TheVariants as what
 use Rattle.sync_tokens.specs.declared.words.Word.{Word}
 use Rattle.sync_tokens.specs.declared.words.Words.{Words}
 use Rattle.sync_tokens.specs.Words.{is_sign, worded}
@@ -13,6 +14,12 @@ use Rattle.sync_parse.specs.declared.trees.RawMachine.{RawMachine}
 use Rattle.sync_parse.specs.declared.trees.RawProof.{RawProof}
 use Rattle.sync_grammar.specs.Relations.{Spelled, The, ANumber, Yields, ◌>>=◌, ◌>>◌}
 use Rattle.sync_grammar.specs.Machines.{Machine, Proofs}
+
+-- the number behind the first word is 1
+abbrev pub IsVersionOne : List Word → Type 0
+IsVersionOne [] = ⊥
+IsVersionOne (w ∷ []) = ⊥
+IsVersionOne (w ∷ v ∷ ws) = v.what ≡ what.Number 1
 
 -- "version" NUMBER, whichever the number is
 unfoldable pub Version : Spelled ℕ

@@ -9,3 +9,24 @@ mod Scripts
 mod Acts
 mod Machines
 mod Texts
+mod Told
+mod ListsTold
+mod ExpressionsTold
+mod HypsTold
+mod ScriptsTold
+mod ActsTold
+mod MachinesTold
+mod TextsTold
+mod Lexing
+mod LexingRuns
+mod LexingNumbers
+mod LexingNames
+mod LexingStrategies
+mod Interning
+mod SaidAgain
+mod Readings
+mod ReadRuns
+pub mod PrintedWords
+pub mod WordNames
+pub mod TextNames
+pub mod Rereads

@@ -23,10 +23,10 @@ use Rattle.sync_spell.proofs.Expressions.{exprs}
 use Rattle.sync_spell.proofs.Hyps.{hyps, the_as}
 use Rattle.sync_spell.proofs.Steps.{said_step, said-Split, said-Cut, same_spelled, sum_spelled, inst_spelled, parts_spelled, read_spelled, size_spelled, total_spelled, cong_spelled}
 
-said-Step : (what : RawStepKind) (line : ℕ) → plain_step (roll-RawStep (record { what = what; line = line })) ≡ said_step what
+pub said-Step : (what : RawStepKind) (line : ℕ) → plain_step (roll-RawStep (record { what = what; line = line })) ≡ said_step what
 said-Step what line = fold-roll-RawStep PlainStep PlainBlock PlainStep plain_step_kind plain_in_block plain_at (record { what = what; line = line })
 
-said-Block : (steps : List RawStep) (line : ℕ) → plain_block (roll-RawBlock (record { steps = steps; end_line = line })) ≡ block_of (map plain_step steps)
+pub said-Block : (steps : List RawStep) (line : ℕ) → plain_block (roll-RawBlock (record { steps = steps; end_line = line })) ≡ block_of (map plain_step steps)
 said-Block steps line = fold-roll-RawBlock PlainStep PlainBlock PlainStep plain_step_kind plain_in_block plain_at (record { steps = steps; end_line = line })
 
 abbrev mutual

@@ -33,19 +33,19 @@ use Rattle.sync_spell.proofs.Hyps.{hyps, parts as sum_parts, the_as}
 abbrev pub said_step : RawStepKind → PlainStep
 said_step = fold-RawStepKind PlainStep PlainBlock PlainStep plain_step_kind plain_in_block plain_at
 
-said-Same : said_step step.Same ≡ same
+pub said-Same : said_step step.Same ≡ same
 unfolding roll-RawStepKind denote.Hole.Carrier.roll
 said-Same = ap said_step rolls-Same ∙ fold-roll-RawStepKind PlainStep PlainBlock PlainStep plain_step_kind plain_in_block plain_at RawStepKind-F.Same
 
-said-Sum : (ps : List RawPart) → said_step (step.Sum ps) ≡ sum (map plain_part ps)
+pub said-Sum : (ps : List RawPart) → said_step (step.Sum ps) ≡ sum (map plain_part ps)
 unfolding roll-RawStepKind denote.Hole.Carrier.roll
 said-Sum ps = ap said_step (rolls-Sum ps) ∙ fold-roll-RawStepKind PlainStep PlainBlock PlainStep plain_step_kind plain_in_block plain_at (RawStepKind-F.Sum ps)
 
-said-Inst : (h : RawHyp) (es : List Expr) (x : Named) → said_step (step.Inst h es x) ≡ inst (plain_hyp h) (map plain es) x.name
+pub said-Inst : (h : RawHyp) (es : List Expr) (x : Named) → said_step (step.Inst h es x) ≡ inst (plain_hyp h) (map plain es) x.name
 unfolding roll-RawStepKind denote.Hole.Carrier.roll
 said-Inst h es x = ap said_step (rolls-Inst h es x) ∙ fold-roll-RawStepKind PlainStep PlainBlock PlainStep plain_step_kind plain_in_block plain_at (RawStepKind-F.Inst h es x)
 
-said-Parts : (h : RawHyp) (x y : Named) → said_step (step.Parts h x y) ≡ parts (plain_hyp h) x.name y.name
+pub said-Parts : (h : RawHyp) (x y : Named) → said_step (step.Parts h x y) ≡ parts (plain_hyp h) x.name y.name
 unfolding roll-RawStepKind denote.Hole.Carrier.roll
 said-Parts h x y = ap said_step (rolls-Parts h x y) ∙ fold-roll-RawStepKind PlainStep PlainBlock PlainStep plain_step_kind plain_in_block plain_at (RawStepKind-F.Parts h x y)
 
@@ -57,19 +57,19 @@ pub said-Cut : (e : Expr) (x : Named) (b : RawBlock) → said_step (step.Cut e x
 unfolding roll-RawStepKind denote.Hole.Carrier.roll
 said-Cut e x b = ap said_step (rolls-Cut e x b) ∙ fold-roll-RawStepKind PlainStep PlainBlock PlainStep plain_step_kind plain_in_block plain_at (RawStepKind-F.Cut e x b)
 
-said-Read : (m k : Expr) (x : Named) → said_step (step.Read m k x) ≡ read (plain m) (plain k) x.name
+pub said-Read : (m k : Expr) (x : Named) → said_step (step.Read m k x) ≡ read (plain m) (plain k) x.name
 unfolding roll-RawStepKind denote.Hole.Carrier.roll
 said-Read m k x = ap said_step (rolls-Read m k x) ∙ fold-roll-RawStepKind PlainStep PlainBlock PlainStep plain_step_kind plain_in_block plain_at (RawStepKind-F.Read m k x)
 
-said-Size : (m k : Expr) (x : Named) → said_step (step.Size m k x) ≡ size (plain m) (plain k) x.name
+pub said-Size : (m k : Expr) (x : Named) → said_step (step.Size m k x) ≡ size (plain m) (plain k) x.name
 unfolding roll-RawStepKind denote.Hole.Carrier.roll
 said-Size m k x = ap said_step (rolls-Size m k x) ∙ fold-roll-RawStepKind PlainStep PlainBlock PlainStep plain_step_kind plain_in_block plain_at (RawStepKind-F.Size m k x)
 
-said-Total : (m k : Expr) (x : Named) → said_step (step.Total m k x) ≡ total (plain m) (plain k) x.name
+pub said-Total : (m k : Expr) (x : Named) → said_step (step.Total m k x) ≡ total (plain m) (plain k) x.name
 unfolding roll-RawStepKind denote.Hole.Carrier.roll
 said-Total m k x = ap said_step (rolls-Total m k x) ∙ fold-roll-RawStepKind PlainStep PlainBlock PlainStep plain_step_kind plain_in_block plain_at (RawStepKind-F.Total m k x)
 
-said-Cong : (m j k : Expr) (x : Named) → said_step (step.Cong m j k x) ≡ cong (plain m) (plain j) (plain k) x.name
+pub said-Cong : (m j k : Expr) (x : Named) → said_step (step.Cong m j k x) ≡ cong (plain m) (plain j) (plain k) x.name
 unfolding roll-RawStepKind denote.Hole.Carrier.roll
 said-Cong m j k x = ap said_step (rolls-Cong m j k x) ∙ fold-roll-RawStepKind PlainStep PlainBlock PlainStep plain_step_kind plain_in_block plain_at (RawStepKind-F.Cong m j k x)
 

@@ -1,3 +1,6 @@
 pub mod Says
 pub mod Limits
 pub mod Laws
+pub mod Namings
+pub mod Printed
+pub mod Rereading

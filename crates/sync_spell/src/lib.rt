@@ -1,9 +1,19 @@
-//! The laws of the canonical form: what it spells, by the productions of the grammar.
+//! The canonical form and its laws: what it spells by the productions of the grammar, and what reading it gives.
 #![tactic(auto)]
 
 ghost use Rattle.sync_spell.specs.Laws.{ShowSpells};
+ghost use Rattle.sync_spell.specs.Namings.{SpelledFits};
+
+mod printing;
+
+pub use printing::print;
 
 /// Words that say the canonical lexemes of a plain tree, whose numbers a text can hold, spell a raw tree of this plain tree.
 pub fn show_spells()
     ensures { ShowSpells }
+{}
+
+/// A text spells what is within the limits, and names its names in the order in which they are shown.
+pub fn spelled_fits()
+    ensures { SpelledFits }
 {}

@@ -1,0 +1,53 @@
+-- A text spells what is within the limits, and names its names in the order in which they are shown.
+use Rattle.std.proofs.Common.{◌≡◌, ◌≤◌, List, [], map, ◌∙◌, arith}
+use Rattle.std.specs.List.{All}
+use Rattle.std.proofs.lemmas.List.{append-nil}
+use Rattle.sync_base.specs.declared.names.NameList.{NameList}
+use Rattle.sync_tokens.specs.declared.signs.Sign.TheVariants as sign
+use Rattle.sync_tokens.specs.declared.words.Word.{Word}
+use Rattle.sync_tokens.specs.Words.{largest}
+use Rattle.sync_parse.specs.declared.trees.RawMachine.{RawMachine}
+use Rattle.sync_parse.specs.declared.trees.RawProof.{RawProof}
+use Rattle.sync_grammar.specs.Texts.{Version, Text}
+use Rattle.sync_print.specs.Texts.{PlainText, plain_machine, plain_proof}
+use Rattle.sync_print.specs.ShowTexts.{show}
+use Rattle.sync_spell.specs.Limits.{TextFits}
+use Rattle.sync_spell.specs.Namings.{names_said, word_names, AreTrue, LexemeFits, SpelledFits}
+use Rattle.sync_spell.proofs.Told.{both, behind, sign_told, number_told, none_read}
+use Rattle.sync_spell.proofs.ListsTold.{Read, ended}
+use Rattle.sync_spell.proofs.MachinesTold.{machines_told, proofs_told}
+
+-- what a machine and its proofs say
+abbrev says : RawMachine × List RawProof → PlainText
+says x = record { machine = plain_machine x.0; proofs = map plain_proof x.1 }
+
+abbrev OfText : NameList → RawMachine × List RawProof → List Word → List Word → Type 0
+OfText names x ts rest = Read names (TextFits (says x)) (show (says x)) ts rest
+
+one_within : 1 ≤ largest
+one_within = omega arith
+
+text_told : {names : NameList} (ts rest : List Word) (x : RawMachine × List RawProof) → Text ts rest x → OfText names x ts rest
+unfolding Text Version
+text_told {names = names} ts rest x d =
+    let v = d.one in
+    let n = v.next in
+    let e = d.next in
+    let m = e.next in
+    let ps = m.next in
+    let y = machines_told.at e.middle m.middle m.value m.one in
+    let z = proofs_told.at m.middle ps.middle ps.value ps.one in
+    let version = both (both (sign_told sign.Version v.one) (behind (number_told 1 one_within n.one) (none_read n.next))) (sign_told sign.Semicolon e.one) in
+    ended (OfText names) ps.next (record { fits = (y.fits, z.fits); tells = both (both version y.tells) z.tells })
+
+-- all words of a text
+whole_text : (names : NameList) (ws : List Word) (x : RawMachine × List RawProof) → Text ws [] x → AreTrue names ws
+    → TextFits (says x) × (word_names names ws ≡ names_said names (show (says x))) × All (LexemeFits names) (show (says x))
+unfolding word_names
+whole_text names ws x d are_true =
+    let r = text_told {names = names} ws [] x d in
+    let t = r.tells.told are_true in
+    (r.fits, t.said ∙ append-nil (names_said names (show (says x))), t.fit)
+
+pub spelled_fits : SpelledFits
+spelled_fits text raw ws e d same are_true = whole_text ws.names ws.list (raw.machine, raw.proofs) d are_true

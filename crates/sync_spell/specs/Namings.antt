@@ -1,0 +1,74 @@
+-- What words and lexemes name, in their order, and that a text spells what is within the limits and names its names so.
+use Rattle.std.specs.Prelude.{◌≡◌, ℕ, ◌≤◌, ◌<◌, List, [], length, Option, Some, None, Ok}
+use Rattle.std.specs.List.{All, filter_map, fold}
+use Rattle.sync_base.specs.declared.names.Name.{Name}
+use Rattle.sync_base.specs.declared.names.NameList.{NameList}
+use Rattle.sync_tokens.specs.declared.words.What.{What}
+use Rattle.sync_tokens.specs.declared.words.What.TheVariants as what
+use Rattle.sync_tokens.specs.declared.words.Word.{Word}
+use Rattle.sync_tokens.specs.declared.words.Words.{Words}
+use Rattle.sync_tokens.specs.Strategies as strategies
+use Rattle.sync_tokens.specs.Words.{largest, names_with, worded}
+use Rattle.sync_parse.specs.declared.trees.RawText.{RawText}
+use Rattle.sync_grammar.specs.Texts.{Text}
+use Rattle.sync_print.specs.Texts.{plain_text}
+use Rattle.sync_print.specs.Lexemes.{Lexeme, a_sign, a_number, a_name, a_strategy, spelling}
+use Rattle.sync_print.specs.ShowTexts.{show}
+use Rattle.sync_spell.specs.Limits.{TextFits}
+
+-- ---- names, in order
+
+-- the spelling of a lexeme that is a name or a strategy's name
+abbrev pub name_in : NameList → Lexeme → Option (List ℕ)
+name_in names (a_sign s) = None
+name_in names (a_number n) = None
+name_in names (a_name x) = Some (spelling names x)
+name_in names (a_strategy s) = Some (strategies.spelling_of s)
+
+unfoldable pub names_said : NameList → List Lexeme → List (List ℕ)
+names_said names xs = filter_map (name_in names) xs
+
+-- the spelling of what a word says, where that is a name
+abbrev pub what_name : NameList → What → Option (List ℕ)
+what_name names (what.Sign s) = None
+what_name names (what.Name x s) = Some (spelling names x)
+what_name names (what.Number n) = None
+
+-- the spelling of a word that is a name
+abbrev pub word_name : NameList → Word → Option (List ℕ)
+word_name names w = what_name names w.what
+
+unfoldable pub word_names : NameList → List Word → List (List ℕ)
+word_names names ws = filter_map (word_name names) ws
+
+-- these names and then those of these spellings, each where it first appears
+unfoldable pub in_order : List Name → List (List ℕ) → List Name
+in_order names spellings = fold names_with names spellings
+
+-- ---- words and lexemes that fit a list of names
+
+-- a name is one of the list, with the strategy that it names there, and a number is one that a text can hold
+abbrev pub SaysTrue : NameList → What → Type 0
+SaysTrue names (what.Sign s) = Unit {0}
+SaysTrue names (what.Number n) = n ≤ largest
+SaysTrue names (what.Name x s) = (x < length names.list) × (s ≡ strategies.strategy_of (spelling names x))
+
+abbrev pub IsTrue : NameList → Word → Type 0
+IsTrue names w = SaysTrue names w.what
+
+abbrev pub AreTrue : NameList → List Word → Type 0
+AreTrue names ws = All (IsTrue names) ws
+
+-- a name is one of the list, and a number is one that a text can hold
+abbrev pub LexemeFits : NameList → Lexeme → Type 0
+LexemeFits names (a_sign s) = Unit {0}
+LexemeFits names (a_number n) = n ≤ largest
+LexemeFits names (a_name x) = x < length names.list
+LexemeFits names (a_strategy s) = Unit {0}
+
+-- ---- the law
+
+-- a text spells what is within the limits and names its names in the order in which they are shown
+abbrev pub SpelledFits : Type 0
+SpelledFits = (text : List ℕ) (raw : RawText) (ws : Words) → worded text ≡ Ok ws → Text ws.list [] (raw.machine, raw.proofs) → raw.names ≡ ws.names → AreTrue ws.names ws.list
+    → TextFits (plain_text raw) × (word_names ws.names ws.list ≡ names_said ws.names (show (plain_text raw))) × All (LexemeFits ws.names) (show (plain_text raw))
