@@ -7,7 +7,7 @@ use std::{fs, io};
 use sync_base::{Refusal, Stop};
 use sync_check::check;
 use sync_parse::parse;
-use sync_print::print;
+use sync_spell::print;
 
 /// The examples, in the order in which they are checked.
 const TEXTS: [&str; 22] = [
