@@ -24,7 +24,7 @@ use sync_rules::check_ops;
 
 /// The machine, the proofs and the names that the bytes of a text spell, or the first rule of lexemes, of the grammar or of
 /// names that they break.
-pub(crate) fn read(alloc: Global, bytes: &[u8]) -> Result<Text, Stop>
+pub fn read(alloc: Global, bytes: &[u8]) -> Result<Text, Stop>
     ensures exact { Gives text_tree result (spelled bytes.now) }
     ensures means { IfOk result (λ (t : Text). Means bytes.now (text_tree t)) }
     ensures ids { IfOk result (λ (t : Text). HasOwnIds t.machine) }

@@ -8,5 +8,5 @@ mod text_tests;
 #[cfg(test)]
 mod token_tests;
 
-pub use checking::{accepted_machine, check};
+pub use checking::{accepted_machine, check, read};
 pub use listing::list;

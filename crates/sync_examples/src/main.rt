@@ -7,6 +7,7 @@ use std::{fs, io};
 use sync_base::{Refusal, Stop};
 use sync_check::check;
 use sync_parse::parse;
+use sync_sharding::tokenized_machine;
 use sync_spell::print;
 
 /// The examples, in the order in which they are checked.
@@ -178,6 +179,20 @@ fn print_large(rt: &HostRuntime) -> io::Result<()> {
     print_verdict(rt, "a large branch", text.as_bytes())
 }
 
+/// Prints how many operations the tokenized machine of a text has, or the rule that the text breaks.
+fn print_machine(rt: &HostRuntime, title: &str, text: &[u8]) -> io::Result<()> {
+    match tokenized_machine(rt.alloc(), text) {
+        Ok(proved) => {
+            let operations = proved.machine().ops.len();
+            println!(rt; "{title}: a machine of {operations} operations")
+        }
+        Err(Stop::Refused(Refusal { line, rule })) => {
+            println!(rt; "{title}: refused line {line} rule {}", rule.code())
+        }
+        Err(Stop::Memory) => println!(rt; "{title}: no memory"),
+    }
+}
+
 fn main(rt: HostRuntime) -> io::Result<()> {
     for name in TEXTS {
         let text = fs::read(&rt, name)?;
@@ -187,5 +202,12 @@ fn main(rt: HostRuntime) -> io::Result<()> {
     print_canonical(&rt, BRACKETS)?;
     let list = fs::read_to_string(&rt, "verdicts.txt")?;
     print_verdicts(&rt, list.as_str())?;
-    print_large(&rt)
+    print_large(&rt)?;
+    let text = fs::read(&rt, "spin_lock.sync")?;
+    print_machine(&rt, "spin_lock.sync", &text)?;
+    print_machine(
+        &rt,
+        "no field",
+        b"version 1;\nmachine Z {\ninvariant i(): a = 0; }",
+    )
 }

@@ -1,5 +1,5 @@
 -- What statements do, once what they ask is known.
-use Rattle.std.proofs.Common.{◌≡◌, ℕ, ℤ, pos, Bool, true, false, List, [], ◌∷◌, ◌++◌, Option, Result, Ok, Err, refl, sym, ap, ◌∙◌}
+use Rattle.std.proofs.Common.{◌≡◌, ℕ, ℤ, pos, Bool, true, false, List, [], ◌∷◌, ◌++◌, Ok, Err, refl, sym, ap, ◌∙◌}
 use Rattle.sync_base.specs.Outcome.{◌>>=◌}
 use Rattle.sync_terms.specs.Trees.{Tree, Formula}
 use Rattle.sync_terms.specs.Values.{truth}
@@ -18,7 +18,7 @@ use Rattle.sync_exchange.specs.declared.hands.XStop.{XStop}
 use Rattle.sync_exchange.specs.declared.hands.XStop.TheVariants.{Differs, RequireFalse, Width}
 use Rattle.sync_exchange.specs.Exchange.{Exchanging, Answer, unless, named, next_name, is_token, key_at, amount_at, place_fits, within, new_value, started, updated, raised, asked_token, asked_object, withdrawn, after_reading, after_taking, after_seeing, after_giving, knowing, binding, recording, storing, use_variable, does}
 use Rattle.sync_exchange.specs.Outcomes.{Stops, Stopped}
-use Rattle.sync_exchange.proofs.Asking.{wide-stop, stops-bind}
+use Rattle.sync_exchange.proofs.Asking.{wide-stop}
 
 -- ---- variables
 

@@ -1,5 +1,5 @@
 -- What statements ask, step by step.
-use Rattle.std.proofs.Common.{◌≡◌, ℕ, ℤ, Bool, true, false, ◌&&◌, Option, Some, None, Result, Ok, Err, refl, sym, ap, subst, ◌∙◌}
+use Rattle.std.proofs.Common.{◌≡◌, ℕ, ℤ, Bool, true, false, ◌&&◌, Option, Some, None, Result, Ok, Err, refl, sym, ap, ◌∙◌}
 use Rattle.sync_base.specs.Outcome.{◌>>=◌}
 use Rattle.sync_terms.specs.Trees.{Tree}
 use Rattle.sync_machine.specs.Machines.{PatternTree, Bind, Term, PlaceTree}

@@ -1,12 +1,10 @@
 -- A whole exchange, from its first slot to what it leaves.
-use Rattle.std.proofs.Common.{◌≡◌, ℕ, zero, suc, ℤ, Bool, List, [], ◌∷◌, ◌++◌, length, map, slice_get, Option, Some, None, option_map, Result, Ok, Err, refl, sym, ap, ◌∙◌, slice_index_or}
+use Rattle.std.proofs.Common.{◌≡◌, ℕ, zero, suc, ℤ, Bool, List, [], ◌∷◌, ◌++◌, map, slice_get, Some, Ok, sym, ap, ◌∙◌, slice_index_or}
 use Rattle.sync_base.specs.Outcome.{◌>>=◌}
-use Rattle.sync_terms.specs.Maps as maps
 use Rattle.sync_terms.specs.Values.{Valuation}
 use Rattle.sync_machine.specs.declared.fields.Field.{Field}
 use Rattle.sync_machine.specs.Machines.{StepTree, OperationTree}
-use Rattle.sync_machine.specs.States.{Value, State}
-use Rattle.sync_join.specs.declared.tokens.Token.{Token}
+use Rattle.sync_machine.specs.States.{State}
 use Rattle.sync_join.specs.Shards.{Kept}
 use Rattle.sync_slots.specs.Slots.{SlotTree}
 use Rattle.sync_exchange.specs.declared.hands.Held.{Held}
@@ -14,7 +12,7 @@ use Rattle.sync_exchange.specs.declared.hands.XStop.{XStop}
 use Rattle.sync_exchange.specs.declared.hands.XStop.TheVariants.{Missing, Differs, RequireFalse, StoreEmpty, Width, Memory}
 use Rattle.sync_exchange.specs.Exchange.{Exchanging, Exchanged, Answer, outcome, names_before, variable_slots, use_variables, does_all, exchange_in}
 use Rattle.sync_exchange.specs.Outcomes.{Stops}
-use Rattle.sync_exchange.specs.Works.{AreStores, goes_through}
+use Rattle.sync_exchange.specs.Works.{goes_through}
 use Rattle.sync_exchange.proofs.Asking.{stops-bind, stops-is}
 
 abbrev pub begun : Valuation → List ℕ → List ℕ → List Held → Kept → Exchanging

@@ -1,5 +1,6 @@
 -- Splits, mergers and copies keep sound shards sound, and the state that they make.
-use Rattle.std.proofs.Common.{◌≡◌, ◌≢◌, ℕ, ◌<◌, ℤ, pos, ◌+ℤ◌, ◌-ℤ◌, ◌≤ℤ◌, Bool, true, false, ◌&&◌, ◌⊎◌, inl, inr, List, [], ◌∷◌, ◌++◌, length, map, Option, Some, None, unwrap_or, refl, sym, ap, subst, ◌∙◌, arith, nat_eq, cond, append_assoc, if◌then◌else◌}
+use Rattle.std.proofs.Common.{◌≡◌, ◌≢◌, ℕ, ℤ, pos, ◌+ℤ◌, ◌-ℤ◌, ◌≤ℤ◌, Result, Ok, Err, Bool, true, false, ◌&&◌, inl, inr, List, [], ◌∷◌, ◌++◌, length, map, Some, None, unwrap_or, refl, sym, ap, subst, ◌∙◌, arith, nat_eq, append_assoc, if◌then◌else◌}
+use Rattle.std.specs.Prelude.{OnOk}
 use Rattle.std.specs.List.{AllByRecursion, list_all, range_with_len}
 use Rattle.std.proofs.lemmas.Int.{ints}
 use Rattle.std.proofs.lemmas.Bool.Decides.{nat_tests}
@@ -8,7 +9,7 @@ use Rattle.sync_machine.specs.declared.fields.Strategy.{Strategy}
 use Rattle.sync_machine.specs.declared.fields.Strategy.TheVariants.{Variable, Constant, NotTokenized, Option as OptionField, Map, Set, Multiset, Count, PersistentOption, PersistentMap, PersistentSet, PersistentCount, StorageMap}
 use Rattle.sync_machine.specs.States.{Value, Number, strategy_at}
 use Rattle.sync_join.specs.declared.tokens.Token.{Token}
-use Rattle.sync_join.specs.Shards.{Kept, perm, has_elements, IsTokenOf, IsToken, IsShaped, AreSoundShards}
+use Rattle.sync_join.specs.Shards.{Kept, has_elements, IsToken, AreSoundShards}
 use Rattle.sync_join.specs.Join.{tokens_of, sum_of, is_entry, is_element, is_reached, borne_out, joined, record_at, value_at, all_of, join_of}
 use Rattle.sync_join.proofs.Through.{cond-true, cond-false}
 use Rattle.sync_join.proofs.Bags.{join_of-front, value_at-other, value_at-own}
@@ -301,3 +302,21 @@ copy-keeps fs hs name t e persistent new others kept sound =
           ∙ sym (join_of-front fs xs t (ys ++ others) kept)
           ∙ ap (λ ts. join_of fs ts kept) (sym old),
     )
+
+-- ---- what a call promises of the whole
+
+pub split-kept : {A E : Type 0} (fs : List Field) (hs new : List Held) (name : ℕ) (amount : ℤ) (first second : ℕ) (r : Result A E) → pos 0 ≤ℤ amount
+    → ((t : Token) → held_as name hs ≡ Some t → amount ≤ℤ t.value) → ((t : Token) → held_as name hs ≡ Some t → OnOk r (new ≡ split_of name t amount first second hs))
+    → (t : Token) → held_as name hs ≡ Some t → strategy_at fs t.field ≡ Count → OnOk r (KeepsShards fs hs new)
+split-kept fs hs new name amount first second (Ok x) natural within exact t is counted =
+    subst (KeepsShards fs hs) (sym (exact t is)) (split-keeps fs hs name t is counted amount natural (within t is) first second)
+split-kept fs hs new name amount first second (Err e) natural within exact t is counted = tt
+
+pub merge-kept : (fs : List Field) (hs new : List Held) (a b into : ℕ) → a ≢ b → ((t u : Token) → held_as a hs ≡ Some t → held_as b hs ≡ Some u → new ≡ merged_of a t b u into hs)
+    → (t u : Token) → held_as a hs ≡ Some t → held_as b hs ≡ Some u → u.field ≡ t.field → strategy_at fs t.field ≡ Count → KeepsShards fs hs new
+merge-kept fs hs new a b into apart exact t u first second same counted = subst (KeepsShards fs hs) (sym (exact t u first second)) (merge-keeps fs hs a b t u apart first second same counted into)
+
+pub copy-kept : {A E : Type 0} (fs : List Field) (hs new : List Held) (name other : ℕ) (r : Result A E) → ((t : Token) → held_as name hs ≡ Some t → OnOk r (new ≡ copied_of t other hs))
+    → (t : Token) → held_as name hs ≡ Some t → is_persistent (strategy_at fs t.field) ≡ true → OnOk r (KeepsShards fs hs new)
+copy-kept fs hs new name other (Ok x) exact t is persistent = subst (KeepsShards fs hs) (sym (exact t is)) (copy-keeps fs hs name t is persistent other)
+copy-kept fs hs new name other (Err e) exact t is persistent = tt

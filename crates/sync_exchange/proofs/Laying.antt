@@ -1,7 +1,7 @@
 -- Records that are replaced.
-use Rattle.std.proofs.Common.{◌≡◌, ℕ, pos, zero, suc, ◌+◌, ◌<◌, ◌≤◌, List, [], ◌∷◌, ◌++◌, length, map, take, get_or, set, slice_set, slice_index_or, Option, Some, None, refl, sym, ap, ◌∙◌, arith, length-append, length-set}
+use Rattle.std.proofs.Common.{◌≡◌, ℕ, pos, zero, suc, ◌+◌, ◌<◌, ◌≤◌, List, [], ◌∷◌, ◌++◌, length, map, take, get_or, slice_set, slice_index_or, Option, Some, None, refl, sym, ap, ◌∙◌, arith, length-append, length-set}
 use Rattle.std.proofs.lemmas.List.{take_more}
-use Rattle.sync_machine.specs.States.{Value, Number}
+use Rattle.sync_machine.specs.States.{Number}
 use Rattle.sync_join.specs.declared.values.Value.{Value as StoredValue}
 use Rattle.sync_join.specs.Views.{value_tree}
 use Rattle.sync_exchange.specs.declared.changes.Recording.{Recording}

@@ -1,5 +1,5 @@
 -- What an exchange means for the whole: a step or a start.
-use Rattle.std.specs.Prelude.{◌≡◌, ℕ, ℤ, List, [], Option, Some, None, Result, Ok, Err, IfOk, slice_get}
+use Rattle.std.specs.Prelude.{◌≡◌, ℕ, ℤ, List, Some, Result, Ok, Err, IfOk, slice_get}
 use Rattle.sync_machine.specs.Machines.{OperationTree, MachineTree}
 use Rattle.sync_machine.specs.States.{State}
 use Rattle.sync_join.specs.Shards.{Kept}

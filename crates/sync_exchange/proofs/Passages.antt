@@ -1,5 +1,5 @@
 -- A whole exchange over what its code has at hand.
-use Rattle.std.proofs.Common.{◌≡◌, ℕ, ℤ, Bool, List, [], ◌∷◌, ◌++◌, length, map, filter_map, Result, Ok, refl, sym, ap, subst, ◌∙◌}
+use Rattle.std.proofs.Common.{◌≡◌, ℕ, ℤ, Bool, List, [], ◌++◌, length, map, filter_map, Ok, sym, ap, subst, ◌∙◌}
 use Rattle.std.specs.List.{range_with_len}
 use Rattle.sync_terms.specs.Maps as maps
 use Rattle.sync_terms.specs.declared.nodes.Sym.{Sym}
@@ -11,13 +11,12 @@ use Rattle.sync_machine.specs.Views.{operation_tree, steps_tree}
 use Rattle.sync_join.specs.declared.tokens.Token.{Token}
 use Rattle.sync_join.specs.declared.tokens.Rest.{Rest}
 use Rattle.sync_join.specs.declared.values.Value.{Value}
-use Rattle.sync_join.specs.Shards.{Kept}
 use Rattle.sync_join.specs.Views.{value_tree, kept_of}
 use Rattle.sync_slots.specs.Slots.{SlotTree, field_slot}
 use Rattle.sync_exchange.specs.declared.hands.Held.{Held}
 use Rattle.sync_exchange.specs.declared.hands.XStop.{XStop}
 use Rattle.sync_exchange.specs.declared.works.Work.{Work}
-use Rattle.sync_exchange.specs.Exchange.{Exchanging, Exchanged, Answer, names_before, exchange_in}
+use Rattle.sync_exchange.specs.Exchange.{Exchanging, Exchanged, names_before, exchange_in}
 use Rattle.sync_exchange.specs.Outcomes.{Stops}
 use Rattle.sync_exchange.specs.Works.{Base, AreStores, under_way, goes_through, meaning_of}
 use Rattle.sync_exchange.proofs.Asking.{stops-is}

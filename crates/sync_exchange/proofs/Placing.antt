@@ -1,5 +1,5 @@
 -- Tokens of a hand by their places.
-use Rattle.std.proofs.Common.{◌≡◌, ℕ, zero, suc, ◌+◌, ◌<◌, Bool, true, false, List, [], ◌∷◌, ◌++◌, length, get_or, slice_set, remove, slice_get, cond, Option, Some, None, unwrap_or, refl, sym, ap, ◌∙◌, arith, nat_eq, position}
+use Rattle.std.proofs.Common.{◌≡◌, ℕ, zero, suc, ◌+◌, ◌<◌, Bool, true, false, List, [], ◌∷◌, ◌++◌, length, get_or, slice_set, remove, slice_get, cond, Some, None, unwrap_or, refl, sym, ap, ◌∙◌, arith, nat_eq, position}
 use Rattle.std.proofs.lemmas.List.{set-append_left}
 use Rattle.std.specs.List.{position_from}
 use Rattle.std.proofs.lemmas.Iterator.Adapters.{position_from-zero}

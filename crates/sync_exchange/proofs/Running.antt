@@ -1,6 +1,6 @@
 -- Slots and statements one after another, and what an exchange stands on.
-use Rattle.std.proofs.Common.{◌≡◌, ℕ, ◌+◌, ◌<◌, ◌≤◌, ℤ, pos, Bool, true, false, List, [], ◌∷◌, length, map, drop, get_or, Result, Ok, Err, refl, sym, ap, ◌∙◌, cond, nat_lt, slice_index_or, if◌then◌else◌}
-use Rattle.std.proofs.lemmas.List.{at_drop_more, at_drop_all}
+use Rattle.std.proofs.Common.{◌≡◌, ℕ, ◌+◌, ◌<◌, ℤ, Bool, List, [], length, map, drop, get_or, Ok, refl, sym, ap, ◌∙◌, nat_lt, slice_index_or, if◌then◌else◌}
+use Rattle.std.proofs.lemmas.List.{at_drop_more}
 use Rattle.sync_base.specs.Outcome.{◌>>=◌}
 use Rattle.sync_terms.specs.Maps as maps
 use Rattle.sync_terms.specs.Values.{Valuation}
@@ -10,7 +10,6 @@ use Rattle.sync_machine.specs.declared.fields.Strategy.TheVariants.{Variable, Co
 use Rattle.sync_machine.specs.Machines.{StepTree, OperationTree}
 use Rattle.sync_machine.specs.States.{Value, Mapped, State, strategy_at}
 use Rattle.sync_join.specs.declared.tokens.Token.{Token}
-use Rattle.sync_join.specs.Shards.{Kept}
 use Rattle.sync_join.specs.Join.{entries_of, number_of, tokens_of, map_of}
 use Rattle.sync_slots.specs.Slots.{SlotTree}
 use Rattle.sync_exchange.specs.declared.hands.XStop.{XStop}

@@ -1,12 +1,10 @@
 -- Walks over lists, and what stands for what they have come to.
-use Rattle.std.proofs.Common.{◌≡◌, ℕ, zero, suc, ◌+◌, ◌<◌, ◌≤◌, ℤ, pos, Bool, true, false, not, ◌&&◌, List, [], ◌∷◌, ◌++◌, length, map, take, drop, get_or, set, Option, Some, None, slice_index_or, slice_set, unwrap_or, slice_get, refl, sym, ap, ◌∙◌, arith, nat_eq, cond, if◌then◌else◌}
-use Rattle.std.specs.List.{filter}
-use Rattle.std.proofs.lemmas.List.{set-get_or, at_drop_more, at_drop_all, take_more, take_all, map_push}
-use Rattle.std.proofs.lemmas.List.Elements.{filter-append}
+use Rattle.std.proofs.Common.{◌≡◌, ℕ, zero, suc, ◌+◌, ◌<◌, ◌≤◌, ℤ, pos, Bool, true, false, List, [], ◌∷◌, ◌++◌, length, drop, get_or, Option, Some, None, slice_index_or, slice_set, unwrap_or, slice_get, refl, ap, ◌∙◌, nat_eq, if◌then◌else◌}
+use Rattle.std.proofs.lemmas.List.{set-get_or, at_drop_more, at_drop_all}
 use Rattle.sync_base.specs.Outcome.{first}
 use Rattle.sync_terms.specs.Maps as maps
 use Rattle.sync_terms.specs.Values.{Valuation, with_value}
-use Rattle.sync_join.proofs.Through.{append-nothing, cond-true, cond-false, is_same, is_other}
+use Rattle.sync_join.proofs.Through.{cond-true, cond-false}
 use Rattle.sync_join.specs.declared.tokens.Token.{Token}
 use Rattle.sync_exchange.specs.declared.hands.Held.{Held}
 use Rattle.sync_exchange.specs.declared.scopes.Known.{Known}

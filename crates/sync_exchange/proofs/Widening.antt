@@ -9,16 +9,14 @@ use Rattle.sync_terms.specs.Maps as maps
 use Rattle.sync_machine.specs.declared.fields.Field.{Field}
 use Rattle.sync_machine.specs.Machines.{PatternTree, Bind, Term, PlaceTree, ActTree, StepTree, OperationTree}
 use Rattle.sync_machine.specs.Machines as acts
-use Rattle.sync_machine.specs.States.{State, Sort, Numbers, Maps, sort_of, strategy_at}
+use Rattle.sync_machine.specs.States.{Sort, Numbers, Maps, sort_of, strategy_at}
 use Rattle.sync_machine.specs.Statements.{key_of, one}
-use Rattle.sync_join.specs.Shards.{Kept, perm}
 use Rattle.sync_eval.specs.Fitting.{values_fit, number_fits, map_fits, form_fits}
-use Rattle.sync_exchange.specs.declared.hands.Held.{Held}
 use Rattle.sync_exchange.specs.declared.hands.XStop.{XStop}
 use Rattle.sync_exchange.specs.declared.hands.XStop.TheVariants.{Width, RequireFalse}
-use Rattle.sync_exchange.specs.Exchange.{Exchanging, Exchanged, Answer, unless, outcome, beginning, place_fits, term_fits, use_variables, variable_slots, does, does_all, exchange_in, exchange_of}
+use Rattle.sync_exchange.specs.Exchange.{Exchanging, Answer, unless, outcome, beginning, place_fits, term_fits, use_variables, variable_slots, does, does_all}
 use Rattle.sync_exchange.specs.Laws.{BoundAlone}
-use Rattle.sync_exchange.proofs.Asking.{place-is, both-true}
+use Rattle.sync_exchange.proofs.Asking.{both-true}
 
 free : ℤ → Bool
 free n = true

@@ -1,10 +1,12 @@
 //! Tokens that are split, merged and copied.
-ghost use Rattle.std.specs.Prelude.{◌≡◌, ◌≢◌, pos, ◌+ℤ◌, ◌-ℤ◌, ◌≤ℤ◌, position, nat_eq, Some, OnOk, OnErr, FitsSigned};
+ghost use Rattle.std.specs.Prelude.{◌≡◌, ◌≢◌, pos, ◌+ℤ◌, ◌-ℤ◌, ◌≤ℤ◌, position, nat_eq, true, Some, OnOk, OnErr, FitsSigned};
 ghost use Rattle.std.specs.Int.{w128};
 ghost use Rattle.sync_join.specs.declared.tokens.Token.{Token as Piece};
 ghost use Rattle.sync_exchange.specs.declared.hands.Held.{Held as Owned};
 ghost use Rattle.sync_exchange.specs.Exchange as exchanges;
-ghost use Rattle.sync_exchange.specs.Splitting.{held, split_of, merged_of, copied_of, IsHeld};
+ghost use Rattle.sync_machine.specs.declared.fields.Strategy.TheVariants.{Count};
+ghost use Rattle.sync_machine.specs.States.{strategy_at};
+ghost use Rattle.sync_exchange.specs.Splitting.{held, split_of, merged_of, copied_of, is_persistent, IsHeld, KeepsShards};
 
 use crate::hands::{Hand, Held};
 use std::alloc::Global;
@@ -45,11 +47,29 @@ fn same_as(name: u32, token: Token) -> Held
 
 /// Splits a token of a count: one of this amount takes its place in the hand, and one of the rest comes last.
 ///
-/// The amount is from 0 to the token's; the two new names differ, and neither is held. After want of memory the hand
-/// is as it was.
+/// The amount is from 0 to the token's; the two new names differ, and neither is held. Of a field of another strategy
+/// nothing is promised of the whole. After want of memory the hand is as it was.
 pub fn split_token(
     _alloc: Global,
     _m: &Machine,
+    hand: &mut Hand,
+    name: u32,
+    amount: i128,
+    first: u32,
+    second: u32,
+) -> Result<(), NoMemory>
+    requires held { IsHeld hand.old.held name }
+    requires natural { pos 0 ≤ℤ amount }
+    requires within { (t : Piece) → exchanges.held_as name hand.old.held ≡ Some t → amount ≤ℤ t.value }
+    ensures split { (t : Piece) → exchanges.held_as name hand.old.held ≡ Some t → OnOk result (hand.new.held ≡ split_of name t amount first second hand.old.held) }
+    ensures keeps { (t : Piece) → exchanges.held_as name hand.old.held ≡ Some t → strategy_at _m.now.fields t.field ≡ Count → OnOk result (KeepsShards _m.now.fields hand.old.held hand.new.held) }
+    ensures unchanged { OnErr result (hand.new ≡ hand.old) }
+{
+    split_exactly(hand, name, amount, first, second)
+}
+
+/// The same, without what it means for the whole.
+fn split_exactly(
     hand: &mut Hand,
     name: u32,
     amount: i128,
@@ -73,8 +93,21 @@ pub fn split_token(
 
 /// Merges two tokens of a count into one with their sum, in the place of the first of them. It takes no memory.
 ///
-/// The two are different ones of one count field, their sum is within signed 128 bits, and the new name is not held.
+/// The two are different ones of one count field, their sum is within signed 128 bits, and the new name is not held. Of
+/// others nothing is promised of the whole.
 pub fn merge_tokens(_m: &Machine, hand: &mut Hand, a: u32, b: u32, into: u32)
+    requires first { IsHeld hand.old.held a }
+    requires second { IsHeld hand.old.held b }
+    requires apart { a ≢ b }
+    requires fits { (t u : Piece) → exchanges.held_as a hand.old.held ≡ Some t → exchanges.held_as b hand.old.held ≡ Some u → FitsSigned w128 (t.value +ℤ u.value) }
+    ensures merged { (t u : Piece) → exchanges.held_as a hand.old.held ≡ Some t → exchanges.held_as b hand.old.held ≡ Some u → hand.new.held ≡ merged_of a t b u into hand.old.held }
+    ensures keeps { (t u : Piece) → exchanges.held_as a hand.old.held ≡ Some t → exchanges.held_as b hand.old.held ≡ Some u → u.field ≡ t.field → strategy_at _m.now.fields t.field ≡ Count → KeepsShards _m.now.fields hand.old.held hand.new.held }
+{
+    merge_exactly(hand, a, b, into);
+}
+
+/// The same, without what it means for the whole.
+fn merge_exactly(hand: &mut Hand, a: u32, b: u32, into: u32)
     requires first { IsHeld hand.old.held a }
     requires second { IsHeld hand.old.held b }
     requires apart { a ≢ b }
@@ -94,7 +127,8 @@ pub fn merge_tokens(_m: &Machine, hand: &mut Hand, a: u32, b: u32, into: u32)
 
 /// Copies a token of a persistent field: an equal one comes last in the hand.
 ///
-/// The new name is not held. After want of memory the hand is as it was.
+/// The new name is not held. Of a field of another strategy nothing is promised of the whole: its token is there once.
+/// After want of memory the hand is as it was.
 pub fn copy_token(
     _alloc: Global,
     _m: &Machine,
@@ -102,6 +136,16 @@ pub fn copy_token(
     name: u32,
     new: u32,
 ) -> Result<(), NoMemory>
+    requires { IsHeld hand.old.held name }
+    ensures copied { (t : Piece) → exchanges.held_as name hand.old.held ≡ Some t → OnOk result (hand.new.held ≡ copied_of t new hand.old.held) }
+    ensures keeps { (t : Piece) → exchanges.held_as name hand.old.held ≡ Some t → is_persistent (strategy_at _m.now.fields t.field) ≡ true → OnOk result (KeepsShards _m.now.fields hand.old.held hand.new.held) }
+    ensures unchanged { OnErr result (hand.new ≡ hand.old) }
+{
+    copy_exactly(hand, name, new)
+}
+
+/// The same, without what it means for the whole.
+fn copy_exactly(hand: &mut Hand, name: u32, new: u32) -> Result<(), NoMemory>
     requires { IsHeld hand.old.held name }
     ensures copied { (t : Piece) → exchanges.held_as name hand.old.held ≡ Some t → OnOk result (hand.new.held ≡ copied_of t new hand.old.held) }
     ensures unchanged { OnErr result (hand.new ≡ hand.old) }

@@ -3,4 +3,5 @@ pub mod Splits
 pub mod Exchanges
 pub mod Names
 pub mod Moving
+pub mod Starting
 mod Examples

@@ -1,5 +1,5 @@
 -- A list of moves by any holders is a list of declared steps of the whole.
-use Rattle.std.proofs.Common.{◌≡◌, ℕ, ℤ, Bool, true, List, ◌∷◌, ◌++◌, flat_map, Option, Some, None, unwrap_or, inl, inr, ◌⊎◌, refl, sym, ap, subst, ◌∙◌, arith}
+use Rattle.std.proofs.Common.{◌≡◌, ℕ, suc, ℤ, Bool, true, false, if◌then◌else◌, List, [], ◌∷◌, ◌++◌, flat_map, Option, Some, None, unwrap_or, inl, inr, ◌⊎◌, refl, sym, ap, subst, ◌∙◌, arith}
 use Rattle.std.specs.List.{cons_option}
 use Rattle.std.proofs.lemmas.Grind.{flat_map-append}
 use Rattle.sync_machine.specs.Machines.{MachineTree}
@@ -7,7 +7,7 @@ use Rattle.sync_machine.specs.States.{State, Steps, IsReached, steps}
 use Rattle.sync_join.specs.declared.tokens.Token.{Token}
 use Rattle.sync_join.specs.Shards.{Kept, AreSoundShards}
 use Rattle.sync_join.specs.Join.{join_of}
-use Rattle.sync_join.proofs.Rearranged.{IsRearranged, times, times-append, rearranged-sym, shards-rearranged, join_of-rearranged}
+use Rattle.sync_join.proofs.Rearranged.{IsRearranged, is_same_token, one_more as more, times, times-append, rearranged-sym, shards-rearranged, join_of-rearranged}
 use Rattle.sync_exchange.specs.declared.hands.Held.{Held}
 use Rattle.sync_exchange.specs.Exchange.{tokens_in}
 use Rattle.sync_exchange.specs.Plain.{is_plain}
@@ -15,7 +15,7 @@ use Rattle.sync_exchange.specs.Splitting.{KeepsShards}
 use Rattle.sync_exchange.specs.Projection.{IsProved}
 use Rattle.sync_exchange.proofs.Keeping.{split-keeps, merge-keeps, copy-keeps}
 use Rattle.sync_exchange.proofs.Projecting.{projects}
-use Rattle.sync_holders.specs.Moves.{Move, Exchange, Split, Merge, Copy, Holders, bag_of, IsApart, AreApart, IsSplit, IsMerger, IsCopy, Does, IsMove, AreMoves, no_more, one_more}
+use Rattle.sync_holders.specs.Moves.{Move, Exchange, Split, Merge, Copy, Holders, bag_of, IsApart, AreApart, IsSplit, IsMerger, IsCopy, Does, IsMove, often, AreMoves, no_more, one_more, dealt}
 use Rattle.sync_holders.specs.Runs.{Call, call_of, calls_of, Runs, no_step, one_step, RunsOn}
 use Rattle.sync_holders.specs.Laws.{MovesAreSteps}
 use Rattle.sync_holders.proofs.Names.{all-at, names-of, names-stay-apart}
@@ -111,6 +111,17 @@ move-on fits m proved others move old new h apart sound s joined reached =
 
 -- ---- lists of moves
 
+more-often : (b : Bool) (n k : ℕ) → n ≡ k → more b n ≡ (if b then suc k else k)
+more-often true n k e = ap suc e
+more-often false n k e = e
+
+times-often : (t : Token) (ts : List Token) → times t ts ≡ often t ts
+times-often t [] = refl
+times-often t (u ∷ us) = more-often (is_same_token t u) (times t us) (often t us) (times-often t us)
+
+same-bag : (xs ys : List Token) → ((t : Token) → often t xs ≡ often t ys) → IsRearranged xs ys
+same-bag xs ys same = record { times = λ t. times-often t xs ∙ same t ∙ sym (times-often t ys) }
+
 reached-on : (m : MachineTree) (s t : State) (call : Option Call) → Advances m s call t → IsReached m s → IsReached m t
 reached-on m s t None e reached = subst (IsReached m) e reached
 reached-on m s t (Some c) step reached = steps c.operation c.args reached step
@@ -126,6 +137,11 @@ moves-are-steps fits m proved others moves old new list apart sound s joined rea
       → (s : State) → join_of m.fields (bag_of old.hands others) old.kept ≡ Some s → IsReached m s
       → RunsOn m s (calls_of moves) (bag_of new.hands others) new.kept × AreApart new.hands
   go old moves new no_more apart sound s joined reached = (record { sound = sound; state = s; joined = joined; run = no_step; reached = reached }, apart)
+  go old moves new (dealt {next = next} d list) apart sound s joined reached =
+      let order = same-bag (bag_of old.hands others) (bag_of next.hands others) d.same in
+      go next moves new list d.apart
+      (subst (AreSoundShards m.fields (bag_of next.hands others)) (sym d.kept) (shards-rearranged m.fields (bag_of old.hands others) (bag_of next.hands others) old.kept order sound))
+      s (ap (join_of m.fields (bag_of next.hands others)) d.kept ∙ sym (join_of-rearranged m.fields (bag_of old.hands others) (bag_of next.hands others) old.kept order) ∙ joined) reached
   go old _ new (one_more {next = next} {move = move} {moves = later} h list) apart sound s joined reached =
       let on = move-on fits m proved others move old next h apart sound s joined reached in
       let rest = go next later new list (names-stay-apart fits m others move old next h apart) on.sound on.state on.joined (reached-on m s on.state (call_of move) on.advances reached) in (

@@ -1,6 +1,7 @@
 -- Holders of the tokens of one machine, and the moves that any of them makes.
-use Rattle.std.specs.Prelude.{◌≡◌, ◌≢◌, ℕ, ℤ, pos, ◌≤ℤ◌, List, [], ◌∷◌, ◌++◌, length, map, flat_map, count_by, Bool, true, ◌⊎◌, Some, Ok, nat_eq}
+use Rattle.std.specs.Prelude.{◌≡◌, ◌≢◌, ℕ, suc, ℤ, pos, ◌≤ℤ◌, List, [], ◌∷◌, ◌++◌, length, map, flat_map, count_by, Bool, true, ◌&&◌, if◌then◌else◌, ◌⊎◌, Some, Ok, nat_eq}
 use Rattle.std.specs.List.{AllByRecursion, Contains, IsDistinct}
+use Rattle.std.specs.Ordering.{int_eq}
 use Rattle.sync_machine.specs.declared.fields.Field.{Field}
 use Rattle.sync_machine.specs.declared.fields.Strategy.TheVariants.{Count}
 use Rattle.sync_machine.specs.Machines.{OperationTree, MachineTree}
@@ -113,8 +114,28 @@ pub record IsMove (fits : ℤ → Bool) (m : MachineTree) (others : List Token) 
   pub is : new.hands ≡ before ++ left ∷ after
   pub does : Does fits m (bag_of old.hands others) move hand old.kept left new.kept
 
--- one move after another, each by any holder
+-- ---- tokens that pass from hand to hand
+
+abbrev pub is_same : Token → Token → Bool
+is_same t u = nat_eq t.field u.field && (int_eq t.key u.key && int_eq t.value u.value)
+
+-- how often a token stands in a list
+abbrev pub often : Token → List Token → ℕ
+often t [] = 0
+often t (u ∷ us) = if is_same t u then suc (often t us) else often t us
+
+-- Tokens pass from hand to hand, under any names: there may be other hands than before, but all tokens together are the
+-- same, each as often. In each hand the names are apart.
+pub record AreDealt (others : List Token) (old new : Holders) : Type 0 where
+  pub same : (t : Token) → often t (bag_of old.hands others) ≡ often t (bag_of new.hands others)
+  pub kept : new.kept ≡ old.kept
+  pub apart : AreApart new.hands
+
+-- ---- lists of moves
+
+-- one move after another, each by any holder; between them tokens may pass from hand to hand
 pub data AreMoves (fits : ℤ → Bool) (m : MachineTree) (others : List Token) : Holders → List Move → Holders → Type 0 where
   no_more : {here : Holders} → AreMoves fits m others here [] here
   one_more : {old next new : Holders} {move : Move} {moves : List Move} → IsMove fits m others old move next → AreMoves fits m others next moves new
       → AreMoves fits m others old (move ∷ moves) new
+  dealt : {old next new : Holders} {moves : List Move} → AreDealt others old next → AreMoves fits m others next moves new → AreMoves fits m others old moves new

@@ -1,7 +1,7 @@
 //! The laws of holders: lists of moves by any of them are lists of declared steps.
 #![tactic(auto)]
 
-ghost use Rattle.sync_holders.specs.Laws.{NamesStayApart, MovesAreSteps};
+ghost use Rattle.sync_holders.specs.Laws.{NamesStayApart, MovesAreSteps, StartsGoOn};
 
 /// Where each hand has its names once, it still does behind a move.
 pub fn names_stay_apart()
@@ -11,4 +11,9 @@ pub fn names_stay_apart()
 /// A list of moves by any holders leads the whole through the declared steps that it stands for, whatever others hold.
 pub fn moves_are_steps()
     ensures { MovesAreSteps }
+{}
+
+/// The exchange of an init, and then a list of moves by any holders, lead from a declared start through declared steps.
+pub fn starts_go_on()
+    ensures { StartsGoOn }
 {}

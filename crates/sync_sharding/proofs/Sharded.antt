@@ -10,6 +10,7 @@ use Rattle.sync_rules.specs.Faults.{strategy_fault}
 use Rattle.sync_exchange.specs.Projection.{IsProved}
 use Rattle.sync_exchange.proofs.Projecting.{projects, initialises}
 use Rattle.sync_holders.proofs.Moving.{moves-are-steps}
+use Rattle.sync_holders.proofs.Starting.{starts-go-on}
 use Rattle.sync_check.specs.Checking.{form_fault}
 use Rattle.sync_sharding.specs.Sharded.{IsSharded}
 
@@ -26,6 +27,7 @@ is-sharded m proved = record {
   steps = λ fits. projects fits m proved;
   starts = λ fits. initialises fits m proved;
   moves = λ fits. moves-are-steps fits m proved;
+  from_start = λ fits. starts-go-on fits m proved;
 }
 
 pub are-sharded : {A : Type 0} (f : A → MachineTree) (r : Result A Stop) → IfOk r (λ x. AreTextNames (f x)) → IfOk r (λ x. form_fault (f x) ≡ None) → IfOk r (λ x. HoldsAlways (f x))

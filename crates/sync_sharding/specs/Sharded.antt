@@ -2,7 +2,7 @@
 use Rattle.std.specs.Prelude.{ℤ, Bool}
 use Rattle.sync_machine.specs.Machines.{MachineTree}
 use Rattle.sync_exchange.specs.Projection.{IsProved, ProjectsOf, InitialisesOf}
-use Rattle.sync_holders.specs.Laws.{MovesAreStepsOf}
+use Rattle.sync_holders.specs.Laws.{MovesAreStepsOf, StartsGoOnOf}
 
 -- for every bound of numbers
 pub record IsSharded (m : MachineTree) : Type 0 where
@@ -13,3 +13,5 @@ pub record IsSharded (m : MachineTree) : Type 0 where
   pub starts : (fits : ℤ → Bool) → InitialisesOf fits m
   -- any list of exchanges, splits, mergers and copies by any holders is a list of declared steps
   pub moves : (fits : ℤ → Bool) → MovesAreStepsOf fits m
+  -- and it may begin with what an init leaves
+  pub from_start : (fits : ℤ → Bool) → StartsGoOnOf fits m

@@ -5,6 +5,7 @@ use Rattle.sync_tokens.specs.declared.words.Word.{Word}
 use Rattle.sync_tokens.specs.declared.words.Words.{Words}
 use Rattle.sync_tokens.specs.Words.{worded}
 use Rattle.sync_parse.specs.declared.trees.RawText.{RawText}
+use Rattle.sync_parse.specs.Machines.{parsed}
 use Rattle.sync_grammar.specs.Relations.{Spelled}
 use Rattle.sync_grammar.specs.Expressions.{AnExpr}
 use Rattle.sync_grammar.specs.Scripts.{Block}
@@ -18,6 +19,14 @@ use Rattle.sync_print.specs.ShowScripts.{show_block}
 use Rattle.sync_print.specs.ShowTexts.{show}
 use Rattle.sync_spell.specs.Says.{Says}
 use Rattle.sync_spell.specs.Limits.{Fits, BlockFits, TextFits}
+
+-- no bytes spell two raw trees
+abbrev pub OneTree : Type 0
+OneTree = (text : List ℕ) (one other : RawText) → TextSpells text one → TextSpells text other → one ≡ other
+
+-- what is read of a text is spelled by it
+abbrev pub ReadIsSpelled : Type 0
+ReadIsSpelled = (text : List ℕ) (raw : RawText) → parsed text ≡ Ok raw → TextSpells text raw
 
 -- these words spell, by a production, a raw tree that says this
 pub record Spells {A B : Type 0} (production : Spelled A) (says : A → B) (said : B) (ts rest : List Word) : Type 0 where

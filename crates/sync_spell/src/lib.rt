@@ -1,7 +1,7 @@
 //! The canonical form and its laws: what it spells by the productions of the grammar, and what reading it gives.
 #![tactic(auto)]
 
-ghost use Rattle.sync_spell.specs.Laws.{ShowSpells};
+ghost use Rattle.sync_spell.specs.Laws.{OneTree, ReadIsSpelled, ShowSpells};
 ghost use Rattle.sync_spell.specs.Namings.{SpelledFits};
 
 mod printing;
@@ -16,4 +16,14 @@ pub fn show_spells()
 /// A text spells what is within the limits, and names its names in the order in which they are shown.
 pub fn spelled_fits()
     ensures { SpelledFits }
+{}
+
+/// No bytes spell two trees, whether they are read or refused.
+pub fn no_bytes_spell_two_trees()
+    ensures { OneTree }
+{}
+
+/// A text that is read spells the tree that is read, and by the law before it no other.
+pub fn what_is_read_is_spelled()
+    ensures { ReadIsSpelled }
 {}

@@ -1,4 +1,4 @@
-use Rattle.std.proofs.Common.{◌≡◌, List, Option, Some, slice_index_or, slice_set, length, map, ap, subst, sym, ◌∙◌}
+use Rattle.std.proofs.Common.{◌≡◌, List, Option, Some, slice_index_or, length, map, ap, ◌∙◌}
 use Rattle.std.proofs.lemmas.List.{length-set}
 use Rattle.sync_join.specs.declared.values.Value.{Value}
 use Rattle.sync_join.specs.Views.{value_tree}

@@ -1,14 +1,10 @@
-use Rattle.std.proofs.Common.{◌≡◌, List, slice_index_or, subst, sym, ap, ◌∙◌}
+use Rattle.std.proofs.Common.{◌≡◌, List, slice_index_or, sym, ap, ◌∙◌}
 use Rattle.std.proofs.lemmas.Result.{err_from_is_err_and}
-use Rattle.sync_machine.specs.Machines.{OperationTree}
 use Rattle.sync_machine.specs.declared.machine.Operation.{Operation}
 use Rattle.sync_machine.specs.Views.{operation_tree}
 use Rattle.sync_eval.specs.Narrow.{is_narrow}
 use Rattle.sync_join.specs.declared.values.Value.{Value}
-use Rattle.sync_join.specs.Views.{value_tree, kept_of}
-use Rattle.sync_exchange.specs.Exchange.{exchange_in}
-use Rattle.sync_exchange.specs.Outcomes.{Gives}
-use Rattle.sync_exchange.specs.Works.{finished, under_way, base_of}
+use Rattle.sync_exchange.specs.Works.{finished}
 use Rattle.sync_exchange.proofs.Finishing.{get-map}
 use Rattle.sync_exchange.proofs.Passages.{run-stop, run-done}
 use Rattle.sync_exchange.proofs.exchanging.run.Goals as goal

@@ -1,4 +1,4 @@
-use Rattle.std.proofs.Common.{◌≤◌, ◌<◌, ℤ, pos, length, get_or, sym, ◌∙◌, arith, rules, SFits}
+use Rattle.std.proofs.Common.{◌≤◌, ◌<◌, pos, length, get_or, sym, ◌∙◌, arith, rules, SFits}
 use Rattle.std.specs.Int.{w128}
 use Rattle.std.proofs.lemmas.Int.{to_z-of_z}
 use Rattle.sync_terms.specs.declared.nodes.Sym.{Sym}

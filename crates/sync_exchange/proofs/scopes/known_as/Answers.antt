@@ -1,4 +1,4 @@
-use Rattle.std.proofs.Common.{◌≡◌, ◌+◌, ◌++◌, [], ◌∷◌, pos, take, get_or, Some, if◌then◌else◌, nat_eq, sym, ap, ◌∙◌, rules, SFits}
+use Rattle.std.proofs.Common.{pos, take, get_or, Some, nat_eq, sym, ap, ◌∙◌, rules, SFits}
 use Rattle.std.specs.Int.{w128}
 use Rattle.std.proofs.lemmas.Int.{to_z-of_z}
 use Rattle.std.proofs.lemmas.List.{take_more}

@@ -1,4 +1,4 @@
-use Rattle.std.proofs.Common.{◌≡◌, ℤ, Option, sym, ap, ◌∙◌, rules, SFits, to_z, of_z}
+use Rattle.std.proofs.Common.{ℤ, Option, sym, ap, ◌∙◌, rules, SFits}
 use Rattle.std.specs.Int.{w128}
 use Rattle.std.proofs.lemmas.Int.{to_z-of_z}
 use Rattle.sync_exchange.specs.Works.{outer_meaning, outer_number}

@@ -1,4 +1,4 @@
-use Rattle.std.proofs.Common.{ℕ, ℤ, ◌++◌, [], ◌∷◌, List, Option, option_map, refl, sym, ap, ◌∙◌, rules, SFits}
+use Rattle.std.proofs.Common.{ℤ, ◌++◌, [], ◌∷◌, List, Option, option_map, refl, sym, ap, ◌∙◌, rules, SFits}
 use Rattle.std.specs.Int.{w128}
 use Rattle.std.proofs.lemmas.Int.{to_z-of_z}
 use Rattle.sync_terms.specs.declared.nodes.Sym.{Sym}

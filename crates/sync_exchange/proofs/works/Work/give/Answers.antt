@@ -1,5 +1,4 @@
 use Rattle.std.proofs.Common.{ℕ, ◌++◌, [], ◌∷◌, drop, refl, sym, ap, ◌∙◌}
-use Rattle.sync_exchange.specs.declared.hands.Held.{Held}
 use Rattle.sync_exchange.specs.Works.{base_of}
 use Rattle.sync_exchange.proofs.Walks.{later-at, same-exchanging}
 use Rattle.sync_exchange.proofs.works.Work.give.Goals as goal

@@ -1,6 +1,5 @@
 use Rattle.std.proofs.Common.{ap, ◌∙◌, Option, ℕ}
 use Rattle.std.proofs.lemmas.Result.{err_from_is_err_and}
-use Rattle.sync_machine.specs.Statements.{binds}
 use Rattle.sync_machine.specs.Views.{place_tree}
 use Rattle.sync_eval.specs.Narrow.{is_narrow}
 use Rattle.sync_exchange.specs.Exchange.{binding}

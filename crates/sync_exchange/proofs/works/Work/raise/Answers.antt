@@ -1,4 +1,4 @@
-use Rattle.std.proofs.Common.{◌≡◌, sym, ap, ◌∙◌}
+use Rattle.std.proofs.Common.{sym, ap, ◌∙◌}
 use Rattle.sync_machine.specs.States.{Value}
 use Rattle.sync_machine.specs.declared.fields.Strategy.{Strategy}
 use Rattle.sync_exchange.specs.Exchange.{raised, recording}

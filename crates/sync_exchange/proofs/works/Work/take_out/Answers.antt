@@ -1,6 +1,5 @@
 use Rattle.std.proofs.Common.{ℕ, Option, ap, ◌∙◌}
 use Rattle.std.proofs.lemmas.Result.{err_from_is_err_and}
-use Rattle.sync_machine.specs.Statements.{binds}
 use Rattle.sync_machine.specs.Views.{place_tree}
 use Rattle.sync_eval.specs.Narrow.{is_narrow}
 use Rattle.sync_join.specs.declared.tokens.Token.{Token}
