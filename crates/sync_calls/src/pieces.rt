@@ -25,7 +25,9 @@ fn token_of(held: &[Held], name: u32) -> Option<Token>
 
 /// Splits the token 10, if it has this amount, into tokens 11 and 12.
 fn split(alloc: Global, m: &Machine, hand: &mut Hand, amount: i128) -> Result<()> {
-    let token = token_of(hand.held.as_slice(), 10).context("no token to split")?;
+    let Some(token) = token_of(hand.held.as_slice(), 10) else {
+        bail!("no token to split")
+    };
     if amount < 0 || amount > token.value {
         bail!("another amount");
     }
@@ -35,8 +37,12 @@ fn split(alloc: Global, m: &Machine, hand: &mut Hand, amount: i128) -> Result<()
 
 /// Merges the tokens 11 and 12 into token 13.
 fn merge(m: &Machine, hand: &mut Hand) -> Result<()> {
-    let first = token_of(hand.held.as_slice(), 11).context("no token to merge")?;
-    let second = token_of(hand.held.as_slice(), 12).context("no token to merge")?;
+    let Some(first) = token_of(hand.held.as_slice(), 11) else {
+        bail!("no first token to merge")
+    };
+    let Some(second) = token_of(hand.held.as_slice(), 12) else {
+        bail!("no second token to merge")
+    };
     if first.value.checked_add(second.value).is_none() {
         bail!("too large a sum");
     }
@@ -46,7 +52,9 @@ fn merge(m: &Machine, hand: &mut Hand) -> Result<()> {
 
 /// Copies the token 10 as token 11.
 fn copy(alloc: Global, m: &Machine, hand: &mut Hand) -> Result<()> {
-    let _token = token_of(hand.held.as_slice(), 10).context("no token to copy")?;
+    if token_of(hand.held.as_slice(), 10).is_none() {
+        bail!("no token to copy");
+    }
     copy_token(alloc, m, hand, 10, 11)?;
     Ok(())
 }

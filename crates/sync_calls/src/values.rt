@@ -1,12 +1,15 @@
 //! Values of terms, and the truth of a formula.
-ghost use Rattle.std.specs.Prelude.{pos, nat_eq, if◌then◌else◌};
+ghost use Rattle.std.specs.Prelude.{pos, nat_eq, if◌then◌else◌, IfOk};
+ghost use Rattle.sync_terms.specs.Stored.{IsForm, IsTerm};
 ghost use Rattle.sync_terms.specs.Maps as maps;
 
 use crate::stores::{form, term};
 use anyhow::Result;
+use std::alloc::Global;
+use sync_base::NoMemory;
 use sync_eval::{Meanings, map_of, number_of, truth_of};
 use sync_join::Entries;
-use sync_terms::{FormNode, Node, Sym, Terms};
+use sync_terms::{FormId, FormNode, Node, Sym, TermId, TermStop, Terms};
 
 /// Symbol 0 is a map, and each symbol is its number.
 #[derive(Drop)]
@@ -26,6 +29,21 @@ impl Meanings for OneMap {
     }
 }
 
+/// Prints the number that a term is.
+fn print_number(
+    rt: &HostRuntime,
+    title: &str,
+    terms: &Terms,
+    names: &OneMap,
+    t: TermId,
+) -> Result<()>
+    requires { IsTerm terms.now t }
+{
+    let found = number_of(rt.alloc(), terms, names, t);
+    println!(rt; "{title}: {found:?}")?;
+    Ok(())
+}
+
 /// Prints sums over a map, of which the first leaves signed 128 bits; of the second only a part does.
 fn print_sums(rt: &HostRuntime) -> Result<()> {
     let alloc = rt.alloc();
@@ -37,35 +55,78 @@ fn print_sums(rt: &HostRuntime) -> Result<()> {
     };
     names.map.put(0, i128::MAX)?;
     names.map.put(1, i128::MAX)?;
-    let found = number_of(alloc, &terms, &names, sum);
-    println!(rt; "the sum of 2^127 - 1 and 2^127 - 1: {found:?}")?;
+    print_number(
+        rt,
+        "the sum of 2^127 - 1 and 2^127 - 1",
+        &terms,
+        &names,
+        sum,
+    )?;
     names.map.put(2, -i128::MAX)?;
-    let found = number_of(alloc, &terms, &names, sum);
-    println!(rt; "the sum of 2^127 - 1, 2^127 - 1 and 1 - 2^127: {found:?}")?;
-    Ok(())
+    print_number(
+        rt,
+        "the sum of 2^127 - 1, 2^127 - 1 and 1 - 2^127",
+        &terms,
+        &names,
+        sum,
+    )
+}
+
+/// The map 0 with 3 less at 7.
+fn bumped(terms: &mut Terms) -> Result<TermId, TermStop>
+    ensures { IfOk result (IsTerm terms.new) }
+{
+    let named = term(terms, Node::Name(Sym(0)))?;
+    let key = term(terms, Node::Lit(7))?;
+    let less = term(terms, Node::Lit(-3))?;
+    term(terms, Node::Bump(named, key, less))
+}
+
+/// Whether 7 is a key of a map, as a number.
+fn has_seven(terms: &mut Terms, map: TermId) -> Result<TermId, TermStop>
+    requires { IsTerm terms.old map }
+    ensures { IfOk result (IsTerm terms.new) }
+{
+    let key = term(terms, Node::Lit(7))?;
+    term(terms, Node::Has(map, key))
+}
+
+/// That a number is below 7.
+fn below_seven(terms: &mut Terms, number: TermId) -> Result<FormId, TermStop>
+    requires { IsTerm terms.old number }
+    ensures { IfOk result (IsForm terms.new) }
+{
+    let seven = term(terms, Node::Lit(7))?;
+    form(terms, FormNode::Lt(number, seven))
+}
+
+/// The map 0 with 3 at 7 and 4 at 8.
+fn three_and_four(alloc: Global) -> Result<OneMap, NoMemory> {
+    let mut map = Entries::new(alloc);
+    map.put(7, 3)?;
+    map.put(8, 4)?;
+    Ok(OneMap { map })
 }
 
 /// Prints a map of which a key is taken away, as it comes to 0.
-fn print_bump(rt: &HostRuntime) -> Result<()> {
-    let alloc = rt.alloc();
-    let mut terms = Terms::new(alloc);
-    let named = term(&mut terms, Node::Name(Sym(0)))?;
-    let key = term(&mut terms, Node::Lit(7))?;
-    let less = term(&mut terms, Node::Lit(-3))?;
-    let bumped = term(&mut terms, Node::Bump(named, key, less))?;
-    let there = term(&mut terms, Node::Has(bumped, key))?;
-    let below = form(&mut terms, FormNode::Lt(there, key))?;
-    let mut names = OneMap {
-        map: Entries::new(alloc),
-    };
-    names.map.put(7, 3)?;
-    names.map.put(8, 4)?;
-    let left = map_of(alloc, &terms, &names, bumped)?;
-    let (keys, worth) = (left.len(), left.get(8));
+fn print_bumped(rt: &HostRuntime, names: &OneMap) -> Result<()> {
+    let mut terms = Terms::new(rt.alloc());
+    let map = bumped(&mut terms)?;
+    let left = map_of(rt.alloc(), &terms, names, map)?;
+    let keys = left.len();
+    let worth = left.get(8);
     println!(rt; "3 at 7 and 4 at 8, 3 less at 7: {keys} key, at 8 {worth:?}")?;
-    let found = number_of(alloc, &terms, &names, there);
-    println!(rt; "whether 7 is there: {found:?}")?;
-    let found = truth_of(alloc, &terms, &names, below);
+    let there = has_seven(&mut terms, map)?;
+    print_number(rt, "whether 7 is there", &terms, names, there)
+}
+
+/// Prints the truth of a formula over the same map.
+fn print_truth(rt: &HostRuntime, names: &OneMap) -> Result<()> {
+    let mut terms = Terms::new(rt.alloc());
+    let map = bumped(&mut terms)?;
+    let there = has_seven(&mut terms, map)?;
+    let below = below_seven(&mut terms, there)?;
+    let found = truth_of(rt.alloc(), &terms, names, below);
     println!(rt; "whether that is below 7: {found:?}")?;
     Ok(())
 }
@@ -73,5 +134,7 @@ fn print_bump(rt: &HostRuntime) -> Result<()> {
 /// Prints what is found of values.
 pub(crate) fn print_values(rt: &HostRuntime) -> Result<()> {
     print_sums(rt)?;
-    print_bump(rt)
+    let names = three_and_four(rt.alloc())?;
+    print_bumped(rt, &names)?;
+    print_truth(rt, &names)
 }
