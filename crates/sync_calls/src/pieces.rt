@@ -52,9 +52,9 @@ fn merge(m: &Machine, hand: &mut Hand) -> Result<()> {
 
 /// Copies the token 10 as token 11.
 fn copy(alloc: Global, m: &Machine, hand: &mut Hand) -> Result<()> {
-    if token_of(hand.held.as_slice(), 10).is_none() {
-        bail!("no token to copy");
-    }
+    let Some(_token) = token_of(hand.held.as_slice(), 10) else {
+        bail!("no token to copy")
+    };
     copy_token(alloc, m, hand, 10, 11)?;
     Ok(())
 }
