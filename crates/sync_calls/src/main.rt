@@ -1,7 +1,6 @@
 //! Calls the layers below the checker on small cases, and prints what each call found.
 #![tactic(auto)]
 
-mod conditions;
 mod exchanges;
 mod lines;
 mod machines;
@@ -15,7 +14,6 @@ use anyhow::Result;
 
 fn main(rt: HostRuntime) -> Result<()> {
     lines::print_lines(&rt)?;
-    conditions::print_conditions(&rt)?;
     values::print_values(&rt)?;
     let m = machines::machine(rt.alloc())?;
     slots::print_slots(&rt, &m)?;
