@@ -1,17 +1,14 @@
 -- Lines of terms that change one another: the line of the joined term, and when it fits.
-use Rattle.std.proofs.Common.{rules, ◌≡◌, ◌≢◌, ◌⊎◌, inl, inr, ℕ, ◌<◌, ℤ, pos, ◌+ℤ◌, ◌-ℤ◌, ◌*ℤ◌, [], ◌∷◌, length, refl, sym, ap, subst, ◌∙◌, arith}
-use Rattle.std.specs.Prelude.{FitsSigned}
-use Rattle.std.specs.Int.{w128}
-use Rattle.std.proofs.lemmas.Int.{ints}
+use Rattle.std.proofs.Common.{◌≡◌, ◌≢◌, ◌⊎◌, inl, inr, ℕ, ◌<◌, ℤ, pos, ◌+ℤ◌, ◌-ℤ◌, ◌*ℤ◌, length, refl, sym, ap, subst, ◌∙◌, arith}
 use Rattle.std.proofs.lemmas.Bool.{cases_lt}
 use Rattle.sync_terms.specs.declared.nodes.TermId.{TermId}
 use Rattle.sync_terms.specs.Trees.{Tree, Lit, Name, Add, Sub, Scale, Get, Has, Size, Sum, Nil, Put, Del, Bump}
-use Rattle.sync_terms.specs.Stored.{Stored, tree, IsTerm}
+use Rattle.sync_terms.specs.Stored.{Stored, tree}
 use Rattle.sync_linear.specs.declared.changes.Change.{Change}
 use Rattle.sync_linear.specs.declared.changes.Change.TheVariants.{Plus, Minus, Times}
 use Rattle.sync_linear.specs.Changes.{changed, ChangeFits}
 use Rattle.sync_linear.specs.Lines.{Line, times, IsChanged, LineFits}
-use Rattle.sync_linear.specs.Forms.{tree_eq, constant_of, weighed, one_at, coefficient_of, IsWithin, Narrow}
+use Rattle.sync_linear.specs.Forms.{constant_of, weighed, one_at, coefficient_of}
 use Rattle.sync_linear.specs.Stores.{HasId, HasAtoms, IsLineOf, joined, JoinFits}
 use Rattle.sync_linear.proofs.Ring.{times_zero}
 use Rattle.sync_linear.proofs.Adding.{changed_by_none}

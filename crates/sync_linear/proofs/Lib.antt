@@ -1,7 +1,9 @@
 pub mod Ring
 pub mod Adding
 pub mod Whole
+pub mod OneAtom
 pub mod Trees
 pub mod Joins
-pub mod Leaves
+pub mod LeafLines
+pub mod Multiples
 pub mod Spines

@@ -1,21 +1,19 @@
 -- A term taken apart down its first operands, and its line made again from the innermost one.
-use Rattle.std.proofs.Common.{rules, ◌≡◌, ◌≢◌, ℕ, ◌<◌, ◌≤◌, ℤ, pos, ◌+ℤ◌, ◌*ℤ◌, List, [], ◌∷◌, ◌++◌, length, refl, sym, ap, subst, ◌∙◌, arith}
+use Rattle.std.proofs.Common.{◌≡◌, ℕ, ◌<◌, ◌≤◌, ℤ, pos, ◌+ℤ◌, ◌*ℤ◌, List, [], ◌∷◌, ◌++◌, refl, sym, ap, subst, ◌∙◌, arith}
 use Rattle.std.specs.Prelude.{FitsSigned}
 use Rattle.std.specs.Int.{w128}
 use Rattle.std.specs.List.{AllByRecursion}
 use Rattle.std.proofs.lemmas.Int.{ints}
 use Rattle.sync_terms.specs.declared.nodes.TermId.{TermId}
-use Rattle.sync_terms.specs.Trees.{Tree, Lit, Name, Add, Sub, Scale, Get, Has, Size, Sum, Nil, Put, Del, Bump}
+use Rattle.sync_terms.specs.Trees.{Tree, Lit, Add, Sub, Scale}
 use Rattle.sync_terms.specs.Stored.{Stored, tree, IsTerm}
-use Rattle.sync_linear.specs.declared.changes.Change.{Change}
 use Rattle.sync_linear.specs.declared.changes.Change.TheVariants as change
 use Rattle.sync_linear.specs.declared.terms.Rest.{Rest}
 use Rattle.sync_linear.specs.declared.terms.Rest.TheVariants as rest
-use Rattle.sync_linear.specs.Lines.{Line, times, IsChanged, LineFits}
-use Rattle.sync_linear.specs.Forms.{constant_of, coefficient_of, weighed, IsWithin, Narrow}
-use Rattle.sync_linear.specs.Stores.{HasAtoms, IsLineOf, joined, JoinFits}
+use Rattle.sync_linear.specs.Lines.{Line, IsChanged, LineFits}
+use Rattle.sync_linear.specs.Forms.{constant_of, coefficient_of, IsWithin, Narrow}
+use Rattle.sync_linear.specs.Stores.{IsLineOf}
 use Rattle.sync_linear.specs.Parts.{completed, IsBelow, wrapped, IsTaken}
-use Rattle.sync_linear.proofs.Whole.{zero_fits}
 use Rattle.sync_linear.proofs.Joins.{join_line, join_fits, fits_line}
 
 wrapped_push : (s : Stored) (rs : List Rest) (r : Rest) (t : Tree) → wrapped s (rs ++ r ∷ []) t ≡ wrapped s rs (completed s r t)
@@ -100,17 +98,14 @@ within_zero n a h = record {
   atoms = λ x. subst (FitsSigned w128) (sym (plus_zero (n *ℤ coefficient_of x a))) (h.atoms x);
 }
 
-pub up_plus : (s : Stored) (t b : TermId) (rs : List Rest) (line right new : Line) → IsTaken s t (rs ++ rest.Plus b ∷ []) line → IsLineOf s (tree s b) right → Narrow (tree s b)
-    → IsChanged change.Plus line right new → LineFits change.Plus line right → IsTaken s t rs new
-up_plus s t b rs line right new h l n c f =
-    rises s t rs (rest.Plus b) line h new (join_line change.Plus s h.inner (tree s b) line right new h.has_line l c)
-    (join_fits change.Plus s h.inner (tree s b) line right h.has_line l f, h.narrow, n)
+-- the next line is that of the sum or of the difference with the second operand
+pub up_plus : (s : Stored) (t b : TermId) (rs : List Rest) (line new : Line) → IsTaken s t (rs ++ rest.Plus b ∷ []) line → ((a : Tree) → IsLineOf s a line → IsLineOf s (Add a (tree s b)) new)
+    → ((a : Tree) → IsLineOf s a line → IsWithin (Add a (tree s b))) → Narrow (tree s b) → IsTaken s t rs new
+up_plus s t b rs line new h l f n = rises s t rs (rest.Plus b) line h new (l h.inner h.has_line) (f h.inner h.has_line, h.narrow, n)
 
-pub up_minus : (s : Stored) (t b : TermId) (rs : List Rest) (line right new : Line) → IsTaken s t (rs ++ rest.Minus b ∷ []) line → IsLineOf s (tree s b) right → Narrow (tree s b)
-    → IsChanged change.Minus line right new → LineFits change.Minus line right → IsTaken s t rs new
-up_minus s t b rs line right new h l n c f =
-    rises s t rs (rest.Minus b) line h new (join_line change.Minus s h.inner (tree s b) line right new h.has_line l c)
-    (join_fits change.Minus s h.inner (tree s b) line right h.has_line l f, h.narrow, n)
+pub up_minus : (s : Stored) (t b : TermId) (rs : List Rest) (line new : Line) → IsTaken s t (rs ++ rest.Minus b ∷ []) line → ((a : Tree) → IsLineOf s a line → IsLineOf s (Sub a (tree s b)) new)
+    → ((a : Tree) → IsLineOf s a line → IsWithin (Sub a (tree s b))) → Narrow (tree s b) → IsTaken s t rs new
+up_minus s t b rs line new h l f n = rises s t rs (rest.Minus b) line h new (l h.inner h.has_line) (f h.inner h.has_line, h.narrow, n)
 
 pub up_times : (s : Stored) (t : TermId) (k : ℤ) (rs : List Rest) (line zero new : Line) → IsTaken s t (rs ++ rest.Times k ∷ []) line → zero ≡ record { constant = pos 0; atoms = [] }
     → IsChanged (change.Times k) zero line new → LineFits (change.Times k) zero line → IsTaken s t rs new
@@ -120,13 +115,13 @@ up_times s t k rs line zero new h e c f =
     ((join_fits (change.Times k) s (Lit (pos 0)) h.inner zero line z h.has_line f).0, h.narrow)
 
 -- where the next line does not fit, the term is not narrow
-pub wide_plus : (s : Stored) (t b : TermId) (rs : List Rest) (line right : Line) → IsTaken s t (rs ++ rest.Plus b ∷ []) line → IsLineOf s (tree s b) right
-    → (LineFits change.Plus line right → ⊥) → Narrow (tree s t) → ⊥
-wide_plus s t b rs line right h l leaves n = leaves (fits_line change.Plus s h.inner (tree s b) line right h.has_line l (narrow_next s t rs (rest.Plus b) line h n).0)
+pub wide_plus : (s : Stored) (t b : TermId) (rs : List Rest) (line : Line) → IsTaken s t (rs ++ rest.Plus b ∷ []) line
+    → ((a : Tree) → IsLineOf s a line → IsWithin (Add a (tree s b)) → Narrow (tree s b) → ⊥) → Narrow (tree s t) → ⊥
+wide_plus s t b rs line h leaves n = let w = narrow_next s t rs (rest.Plus b) line h n in leaves h.inner h.has_line w.0 w.2
 
-pub wide_minus : (s : Stored) (t b : TermId) (rs : List Rest) (line right : Line) → IsTaken s t (rs ++ rest.Minus b ∷ []) line → IsLineOf s (tree s b) right
-    → (LineFits change.Minus line right → ⊥) → Narrow (tree s t) → ⊥
-wide_minus s t b rs line right h l leaves n = leaves (fits_line change.Minus s h.inner (tree s b) line right h.has_line l (narrow_next s t rs (rest.Minus b) line h n).0)
+pub wide_minus : (s : Stored) (t b : TermId) (rs : List Rest) (line : Line) → IsTaken s t (rs ++ rest.Minus b ∷ []) line
+    → ((a : Tree) → IsLineOf s a line → IsWithin (Sub a (tree s b)) → Narrow (tree s b) → ⊥) → Narrow (tree s t) → ⊥
+wide_minus s t b rs line h leaves n = let w = narrow_next s t rs (rest.Minus b) line h n in leaves h.inner h.has_line w.0 w.2
 
 pub wide_times : (s : Stored) (t : TermId) (k : ℤ) (rs : List Rest) (line zero : Line) → IsTaken s t (rs ++ rest.Times k ∷ []) line → zero ≡ record { constant = pos 0; atoms = [] }
     → (LineFits (change.Times k) zero line → ⊥) → Narrow (tree s t) → ⊥
@@ -134,12 +129,6 @@ wide_times s t k rs line zero h e leaves n =
     let z : IsLineOf s (Lit (pos 0)) zero = subst (IsLineOf s (Lit (pos 0))) (sym e) (zero_line s) in
     let w = (narrow_next s t rs (rest.Times k) line h n).0 in
     leaves (fits_line (change.Times k) s (Lit (pos 0)) h.inner zero line z h.has_line (w, within_zero k h.inner w))
-
-pub inner_plus : (s : Stored) (t b : TermId) (rs : List Rest) (line : Line) → IsTaken s t (rs ++ rest.Plus b ∷ []) line → Narrow (tree s t) → Narrow (tree s b)
-inner_plus s t b rs line h n = (narrow_next s t rs (rest.Plus b) line h n).2
-
-pub inner_minus : (s : Stored) (t b : TermId) (rs : List Rest) (line : Line) → IsTaken s t (rs ++ rest.Minus b ∷ []) line → Narrow (tree s t) → Narrow (tree s b)
-inner_minus s t b rs line h n = (narrow_next s t rs (rest.Minus b) line h n).2
 
 pub finished : (s : Stored) (t : TermId) (line : Line) → IsTaken s t [] line → IsLineOf s (tree s t) line × Narrow (tree s t)
 finished s t line h = subst (λ (x : Tree). IsLineOf s x line × Narrow x) h.whole (h.has_line, h.narrow)

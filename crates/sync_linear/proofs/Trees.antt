@@ -1,13 +1,10 @@
 -- Equality of trees by a test, and what the coefficients of a term tell.
-use Rattle.std.proofs.Common.{◌≡◌, ◌≢◌, ◌⊎◌, inl, inr, ℕ, ℤ, pos, ◌+ℤ◌, ◌-ℤ◌, ◌*ℤ◌, Bool, true, false, cond, if◌then◌else◌, ◌&&◌, refl, sym, ap, subst, ◌∙◌, arith, eqb}
-use Rattle.std.specs.Prelude.{nat_eq}
+use Rattle.std.proofs.Common.{◌≡◌, ◌≢◌, ◌⊎◌, inl, inr, ℤ, pos, true, false, ◌&&◌, refl, ap, subst, ◌∙◌}
 use Rattle.std.specs.Ordering.{int_eq}
-use Rattle.std.proofs.lemmas.Int.{ints}
 use Rattle.std.proofs.lemmas.Bool.{and_parts, and_from, eqb-true, eq-eqb, cond-true, cond-false, cases_Bool, both_ways, false_from_ne_true}
 use Rattle.std.proofs.lemmas.Bool.Decides.{Decides-int_eq}
 use Rattle.sync_terms.specs.Trees.{Tree, Lit, Name, Add, Sub, Scale, Get, Has, Size, Sum, Nil, Put, Del, Bump}
-use Rattle.sync_linear.specs.Forms.{tree_eq, constant_of, weighed, one_at, coefficient_of}
-use Rattle.sync_linear.proofs.Ring.{times_zero}
+use Rattle.sync_linear.specs.Forms.{tree_eq, one_at}
 
 both : (f : Tree → Tree → Tree) (a b c d : Tree) → a ≡ c → b ≡ d → f a b ≡ f c d
 both f a b c d e g = ap (λ (x : Tree). f x b) e ∙ ap (f c) g

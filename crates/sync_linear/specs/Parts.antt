@@ -1,5 +1,5 @@
 -- A term taken apart down its first operands.
-use Rattle.std.specs.Prelude.{◌≡◌, ℕ, ◌<◌, List, [], ◌∷◌, length}
+use Rattle.std.specs.Prelude.{◌≡◌, ℕ, ◌<◌, List, [], ◌∷◌}
 use Rattle.std.specs.List.{AllByRecursion}
 use Rattle.sync_terms.specs.declared.nodes.TermId.{TermId}
 use Rattle.sync_terms.specs.Trees.{Tree, Add, Sub, Scale}
@@ -9,6 +9,7 @@ use Rattle.sync_linear.specs.declared.terms.Rest.TheVariants.{Plus, Minus, Times
 use Rattle.sync_linear.specs.declared.terms.Part.{Part}
 use Rattle.sync_linear.specs.declared.terms.Part.TheVariants.{Under, Alone}
 use Rattle.sync_linear.specs.Lines.{Line}
+use Rattle.sync_linear.specs.Leaves.{leaf_line}
 use Rattle.sync_linear.specs.Forms.{Narrow}
 use Rattle.sync_linear.specs.Stores.{IsLineOf}
 
@@ -26,7 +27,7 @@ IsBelow s id (Times n) = Unit {0}
 
 abbrev pub IsPartOf : Stored → TermId → Part → Type 0
 IsPartOf s t (Under rest a) = (tree s t ≡ completed s rest (tree s a)) × IsTerm s a × (a.0 < t.0) × IsBelow s t.0 rest
-IsPartOf s t (Alone line) = IsLineOf s (tree s t) line × Narrow (tree s t)
+IsPartOf s t (Alone leaf) = IsLineOf s (tree s t) (leaf_line leaf) × Narrow (tree s t)
 
 -- the term that the rests make of an innermost one, the outermost rest first
 abbrev pub wrapped : Stored → List Rest → Tree → Tree

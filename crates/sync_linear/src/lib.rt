@@ -3,6 +3,7 @@
 
 mod atoms;
 mod changes;
+mod leaves;
 mod lines;
 mod stops;
 mod terms;

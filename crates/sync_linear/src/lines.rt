@@ -1,11 +1,14 @@
 //! Lines: a constant and a number of times each atom.
 ghost use Rattle.std.specs.Prelude.{◌≡◌, ◌<ℤ◌, ◌↔◌, ℕ, pos, [], IsTrue, Err, OnOk, OnErr, IfOk};
-ghost use Rattle.sync_linear.specs.declared.changes.Change.TheVariants.{Times};
+ghost use Rattle.sync_linear.specs.declared.changes.Change.TheVariants.{Plus, Times};
 ghost use Rattle.sync_linear.specs.declared.stops.LinearStop.TheVariants.{Width};
 ghost use Rattle.sync_linear.specs.Lines.{IsLine, IsChanged, LineFits};
+ghost use Rattle.sync_linear.specs.Leaves.{leaf_line};
+ghost use Rattle.sync_linear.specs.declared.leaves.Leaf.TheVariants.{Number, Atom};
 
-use crate::atoms::{Atoms, change_all};
+use crate::atoms::{Atoms, change_all, change_at};
 use crate::changes::{Change, Pair};
+use crate::leaves::Leaf;
 use crate::stops::LinearStop;
 use std::alloc::Global;
 use std::collections::BTreeMap;
@@ -88,6 +91,75 @@ impl Linear {
             None => return Err(LinearStop::Width),
         };
         let atoms = change_all(atoms, how, &other.atoms)?;
+        Ok(Linear {
+            alloc,
+            constant,
+            atoms,
+        })
+    }
+
+    /// The line of a leaf.
+    pub(crate) fn of_leaf(alloc: Global, leaf: Leaf) -> Result<Linear, LinearStop>
+        ensures line { IfOk result (λ line. IsChanged Plus (record { constant = pos 0; atoms = [] }) (leaf_line leaf) line) }
+        ensures memory { result ≡ Err Width → ⊥ }
+    {
+        match leaf {
+            Leaf::Number(constant) => Ok(Linear::number(alloc, constant)),
+            Leaf::Atom(id, times) => {
+                let mut atoms = BTreeMap::new(alloc);
+                change_at(&mut atoms, Change::Plus, id, &times)?;
+                Ok(Linear {
+                    alloc,
+                    constant: 0,
+                    atoms,
+                })
+            }
+        }
+    }
+
+    /// This line, changed by a leaf, as `changed` does it with the leaf's line.
+    pub(crate) fn changed_at(self, how: Change, leaf: Leaf) -> Result<Linear, LinearStop>
+        ensures changed { IfOk result (λ line. IsChanged how self (leaf_line leaf) line) }
+        ensures fits { OnOk result (LineFits how self (leaf_line leaf)) }
+        ensures width { result ≡ Err Width → LineFits how self (leaf_line leaf) → ⊥ }
+    {
+        match leaf {
+            Leaf::Number(by) => self.changed_by_number(how, by),
+            Leaf::Atom(id, times) => self.changed_by_atom(how, id, times),
+        }
+    }
+
+    fn changed_by_number(self, how: Change, by: i128) -> Result<Linear, LinearStop>
+        ensures changed { IfOk result (λ line. IsChanged how self (leaf_line (Number by)) line) }
+        ensures fits { OnOk result (LineFits how self (leaf_line (Number by))) }
+        ensures width { result ≡ Err Width → LineFits how self (leaf_line (Number by)) → ⊥ }
+    {
+        let Linear {
+            alloc,
+            constant,
+            atoms,
+        } = self;
+        match how.of(Pair { old: constant, by }) {
+            Some(constant) => Ok(Linear {
+                alloc,
+                constant,
+                atoms,
+            }),
+            None => Err(LinearStop::Width),
+        }
+    }
+
+    fn changed_by_atom(self, how: Change, id: u32, times: i128) -> Result<Linear, LinearStop>
+        ensures changed { IfOk result (λ line. IsChanged how self (leaf_line (Atom id times)) line) }
+        ensures fits { OnOk result (LineFits how self (leaf_line (Atom id times))) }
+        ensures width { result ≡ Err Width → LineFits how self (leaf_line (Atom id times)) → ⊥ }
+    {
+        let Linear {
+            alloc,
+            constant,
+            mut atoms,
+        } = self;
+        change_at(&mut atoms, how, id, &times)?;
         Ok(Linear {
             alloc,
             constant,

@@ -3,14 +3,16 @@ ghost use Rattle.std.specs.Prelude.{◌≡◌, ◌<◌, length, IfOk, OnOk, Err}
 ghost use Rattle.sync_terms.specs.Stored.{tree, IsTerm};
 ghost use Rattle.sync_linear.specs.declared.stops.LinearStop.TheVariants.{Width};
 ghost use Rattle.sync_linear.specs.Forms.{Narrow};
-ghost use Rattle.sync_linear.specs.Stores.{IsLineOf};
+ghost use Rattle.sync_terms.specs.Trees.{Tree};
+ghost use Rattle.sync_linear.specs.Leaves.{leaf_line};
+ghost use Rattle.sync_linear.specs.Stores.{IsLineOf, joined, JoinFits};
 ghost use Rattle.sync_linear.specs.Parts.{IsPartOf, IsTaken};
 
 use crate::changes::Change;
+use crate::leaves::Leaf;
 use crate::lines::Linear;
 use crate::stops::LinearStop;
 use std::alloc::Global;
-use std::collections::BTreeMap;
 use sync_terms::{Node, TermId, Terms};
 
 /// What is done with the line of a term's first operand.
@@ -21,65 +23,74 @@ pub(crate) enum Rest {
     Times(i128),
 }
 
-/// A term that has a line as a first operand, and what is done with it; or the line of another term.
-#[derive(Debug, Drop)]
+/// A term that has a line as a first operand, and what is done with it; or a leaf that has the term's line.
+#[derive(Clone, Copy, Debug)]
 pub(crate) enum Part {
     Under(Rest, TermId),
-    Alone(Linear),
+    Alone(Leaf),
 }
 
 #[tactic(auto, unfolding(sync_terms::specs::Stored::shape, sync_terms::specs::Stored::tree))]
-fn part_of(alloc: Global, terms: &Terms, t: TermId) -> Result<Part, LinearStop>
+fn node_part(terms: &Terms, t: TermId) -> Part
     requires { IsTerm terms.now t }
-    ensures part { IfOk result (λ part. IsPartOf terms.now t part) }
-    ensures memory { result ≡ Err Width → ⊥ }
+    ensures { IsPartOf terms.now t result }
 {
-    let line = match terms.term(t) {
-        Node::Add(a, b) => return Ok(Part::Under(Rest::Plus(b), a)),
-        Node::Sub(a, b) => return Ok(Part::Under(Rest::Minus(b), a)),
-        Node::Scale(times, a) => return Ok(Part::Under(Rest::Times(times), a)),
-        Node::Lit(constant) => Linear {
-            alloc,
-            constant,
-            atoms: BTreeMap::new(alloc),
-        },
+    match terms.term(t) {
+        Node::Add(a, b) => Part::Under(Rest::Plus(b), a),
+        Node::Sub(a, b) => Part::Under(Rest::Minus(b), a),
+        Node::Scale(times, a) => Part::Under(Rest::Times(times), a),
+        Node::Lit(number) => Part::Alone(Leaf::Number(number)),
         Node::Name(_) | Node::Get(_, _) | Node::Has(_, _) | Node::Size(_) | Node::Sum(_) => {
-            let mut atoms = BTreeMap::new(alloc);
-            atoms.insert(t.0, 1)?;
-            Linear {
-                alloc,
-                constant: 0,
-                atoms,
-            }
+            Part::Alone(Leaf::Atom(t.0, 1))
         }
         Node::Nil | Node::Put(_, _, _) | Node::Del(_, _) | Node::Bump(_, _, _) => {
-            Linear::zero(alloc)
+            Part::Alone(Leaf::Number(0))
         }
-    };
-    Ok(Part::Alone(line))
+    }
 }
 
-/// The rests of a term's first operands, outermost first, and the line of the innermost operand.
+/// As `node_part`; but a multiple of a leaf is a leaf, where it stays within signed 128 bits.
+fn part_of(terms: &Terms, t: TermId) -> Part
+    requires { IsTerm terms.now t }
+    ensures { IsPartOf terms.now t result }
+{
+    let part = node_part(terms, t);
+    let Part::Under(rest, first) = part else {
+        return part;
+    };
+    let Rest::Times(times) = rest else {
+        return part;
+    };
+    let Part::Alone(leaf) = node_part(terms, first) else {
+        return part;
+    };
+    match leaf.scaled(times) {
+        Some(leaf) => Part::Alone(leaf),
+        None => part,
+    }
+}
+
+/// The rests of a term's first operands, outermost first, and the innermost operand's leaf.
 #[derive(Debug, Drop)]
 pub(crate) struct Taken {
     rests: Vec<Rest>,
-    line: Linear,
+    leaf: Leaf,
 }
 
 fn taken_apart(alloc: Global, terms: &Terms, t: TermId) -> Result<Taken, LinearStop>
     requires { IsTerm terms.now t }
-    ensures taken { IfOk result (λ taken. IsTaken terms.now t taken.rests.items taken.line) }
+    ensures taken { IfOk result (λ taken. IsTaken terms.now t taken.rests.items (leaf_line taken.leaf)) }
     ensures memory { result ≡ Err Width → ⊥ }
 {
     let mut rests = Vec::new(alloc);
     let mut at = t;
     loop {
-        match part_of(alloc, terms, at)? {
+        match part_of(terms, at) {
             Part::Under(rest, first) => {
                 rests.push(rest)?;
                 at = first;
             }
-            Part::Alone(line) => return Ok(Taken { rests, line }),
+            Part::Alone(leaf) => return Ok(Taken { rests, leaf }),
         }
     }
 }
@@ -90,29 +101,46 @@ impl Linear {
     /// `Width` comes exactly where a constant or a coefficient of the term or of a part of it, from the leaves upward,
     /// leaves signed 128 bits. A chain of first operands costs its length times a logarithm; other operands take a
     /// call for each level.
+    #[cycle(terms)]
     pub fn of_term(alloc: Global, terms: &Terms, t: TermId) -> Result<Linear, LinearStop>
         requires { IsTerm terms.now t }
         ensures line { IfOk result (λ line. IsLineOf terms.now (tree terms.now t) line) }
         ensures narrow { OnOk result (Narrow (tree terms.now t)) }
         ensures width { result ≡ Err Width → Narrow (tree terms.now t) → ⊥ }
     {
-        let Taken {
-            mut rests,
-            mut line,
-        } = taken_apart(alloc, terms, t)?;
+        let Taken { mut rests, leaf } = taken_apart(alloc, terms, t)?;
+        let mut line = Linear::of_leaf(alloc, leaf)?;
         while let Some(rest) = rests.pop() {
             line = match rest {
-                Rest::Plus(second) => {
-                    let second = Linear::of_term(alloc, terms, second)?;
-                    line.changed(Change::Plus, &second)?
-                }
-                Rest::Minus(second) => {
-                    let second = Linear::of_term(alloc, terms, second)?;
-                    line.changed(Change::Minus, &second)?
-                }
+                Rest::Plus(second) => line.changed_by(alloc, terms, Change::Plus, second)?,
+                Rest::Minus(second) => line.changed_by(alloc, terms, Change::Minus, second)?,
                 Rest::Times(times) => Linear::zero(alloc).changed(Change::Times(times), &line)?,
             };
         }
         Ok(line)
+    }
+
+    /// This line, changed by that of a stored term. Where the term is a leaf, no line is made of it.
+    #[cycle(terms)]
+    fn changed_by(
+        self,
+        alloc: Global,
+        terms: &Terms,
+        how: Change,
+        second: TermId,
+    ) -> Result<Linear, LinearStop>
+        requires { IsTerm terms.now second }
+        ensures line { IfOk result (λ line. (first : Tree) → IsLineOf terms.now first self → IsLineOf terms.now (joined how first (tree terms.now second)) line) }
+        ensures fits { OnOk result ((first : Tree) → IsLineOf terms.now first self → JoinFits how first (tree terms.now second)) }
+        ensures narrow { OnOk result (Narrow (tree terms.now second)) }
+        ensures width { result ≡ Err Width → (first : Tree) → IsLineOf terms.now first self → JoinFits how first (tree terms.now second) → Narrow (tree terms.now second) → ⊥ }
+    {
+        match part_of(terms, second) {
+            Part::Alone(leaf) => self.changed_at(how, leaf),
+            Part::Under(_, _) => {
+                let second = Linear::of_term(alloc, terms, second)?;
+                self.changed(how, &second)
+            }
+        }
     }
 }

@@ -1,7 +1,6 @@
-use Rattle.std.proofs.Common.{◌≡◌, ℕ, ℤ, Ok, Err, ap, sym, subst, ◌∙◌}
+use Rattle.std.proofs.Common.{sym, subst}
 use Rattle.std.proofs.lemmas.Result.{err_from_is_err_and}
-use Rattle.sync_linear.specs.Lines.{Atoms, times}
-use Rattle.sync_linear.specs.declared.stops.LinearStop.TheVariants.{Width}
+use Rattle.sync_linear.specs.Lines.{Atoms}
 use Rattle.sync_linear.proofs.Adding.{Sums, begins, goes_on, ends, all_fit, one_leaves}
 use Rattle.sync_linear.proofs.atoms.change_all.Goals as goal
 

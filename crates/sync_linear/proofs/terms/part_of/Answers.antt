@@ -1,21 +1,27 @@
-use Rattle.std.proofs.Common.{rules, ◌≡◌, ℕ, ◌<◌, ℤ, pos, length, refl, sym, ap, subst, ◌∙◌}
-use Rattle.std.specs.Prelude.{FitsSigned}
+use Rattle.std.proofs.Common.{rules, ◌≡◌, ℤ, sym, subst}
+use Rattle.std.specs.Prelude.{FitsSigned, ◌*ℤ◌}
 use Rattle.std.specs.Int.{w128}
 use Rattle.std.proofs.lemmas.Int.{to_z-of_z}
-use Rattle.sync_linear.specs.Lines.{Line, Atoms}
-use Rattle.sync_linear.proofs.Leaves.{atom_is, is_atom, is_map, is_lit, one_line}
+use Rattle.sync_terms.specs.Stored.{tree}
+use Rattle.sync_linear.specs.declared.leaves.Leaf.{Leaf}
+use Rattle.sync_linear.specs.declared.terms.Rest.{Rest}
+use Rattle.sync_linear.specs.Leaves.{number_of, scaled_leaf, leaf_line}
+use Rattle.sync_linear.specs.Forms.{Narrow}
+use Rattle.sync_linear.specs.Stores.{IsLineOf}
+use Rattle.sync_linear.specs.Parts.{completed}
+use Rattle.sync_linear.proofs.Multiples.{multiple_is}
 use Rattle.sync_linear.proofs.terms.part_of.Goals as goal
-use Rattle.sync_linear.proofs.terms.part_of.Goals.{in-Lit, in-Name+in_ok-insert-in-Name, in-Nil}
 
-pub returns-clause-part : goal.returns-clause-part
-returns-clause-part c =
+pub returns-in-Some : goal.returns-in-Some
+returns-in-Some c =
     let s = c.args.terms.now in
-    let t = c.args.t in
-    let n = c.term.result in
-    let l = c.match-term.line in
-    elim c.match-term.branch [
-      | in-Lit w ↦ (let f : FitsSigned w128 w.in-Lit.constant = search rules in
-          atom_is s t n l c.requires c.term.ensures.shared c.term.ensures.value (is_lit t.0 n l w.in-Lit.constant w.new.result.entries f w.in-Lit.is w.new.ensures.empty w.line-is))
-      | in-Name+in_ok-insert-in-Name w ↦ atom_is s t n l c.requires c.term.ensures.shared c.term.ensures.value (is_atom t.0 n l (one_line t.0 l w.new-atoms.result.entries w.insert.new.self.entries w.new-atoms.ensures.empty w.in_ok-insert-in-Name.ensures.entries w.line-is) w.in-Name.is)
-      | in-Nil w ↦ atom_is s t n l c.requires c.term.ensures.shared c.term.ensures.value (is_map t.0 n l (sym (w.line-is ∙ w.zero-line.ensures)) w.in-Nil.is)
-    ]
+    let first = c.in-Under.first in
+    let times = c.in-Times.times in
+    let fits : FitsSigned w128 times = search rules in
+    let same = to_z-of_z w128 times fits in
+    let e = subst (λ (r : Rest). tree s c.args.t ≡ completed s r (tree s first)) c.in-Times.is c.in-Under.ensures.0 in
+    let n = c.in-Some.ensures in
+    let f = subst (λ (z : ℤ). FitsSigned w128 (z *ℤ number_of c.in-Alone.leaf)) same n.0 in
+    let l = subst (λ (z : ℤ). c.in-Some.leaf ≡ scaled_leaf z c.in-Alone.leaf) same n.1 in
+    subst (λ (x : Leaf). IsLineOf s (tree s c.args.t) (leaf_line x) × Narrow (tree s c.args.t)) (sym l)
+    (multiple_is s c.args.t first times c.in-Alone.leaf e c.in-Alone.ensures f)

@@ -1,8 +1,8 @@
 use Rattle.sync_linear.proofs.Spines.{IsDown}
 use Rattle.sync_linear.proofs.terms.taken_apart.Given as goal
 
-abbrev pub invariant-loop-rests : goal.invariant-loop-rests
-invariant-loop-rests l = IsDown l.terms l.fn.t l.rests.items l.at
+abbrev pub invariant-loop-rest : goal.invariant-loop-rest
+invariant-loop-rest l = IsDown l.terms l.fn.t l.rests.items l.at
 
-abbrev pub decreases-loop-rests : goal.decreases-loop-rests
-decreases-loop-rests l = l.at.0
+abbrev pub decreases-loop-rest : goal.decreases-loop-rest
+decreases-loop-rest l = l.at.0

@@ -1,10 +1,8 @@
-use Rattle.std.proofs.Common.{◌≡◌, ℕ, ℤ, rules, Ok, Err, ap, sym, subst, ◌∙◌}
 use Rattle.std.specs.Prelude.{FitsSigned}
 use Rattle.std.specs.Int.{w128}
 use Rattle.std.proofs.lemmas.Int.{to_z-of_z}
 use Rattle.std.proofs.lemmas.Result.{err_from_is_err_and}
 use Rattle.sync_linear.specs.Lines.{Line}
-use Rattle.sync_linear.specs.declared.stops.LinearStop.TheVariants.{Width}
 use Rattle.sync_linear.proofs.Whole.{line_after, line_made, atoms_fit}
 use Rattle.sync_linear.proofs.lines.Linear.changed.Goals as goal
 

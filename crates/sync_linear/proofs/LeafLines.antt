@@ -1,39 +1,35 @@
 -- The lines of terms that are no sums.
-use Rattle.std.proofs.Common.{rules, ◌≡◌, ◌≢◌, ◌⊎◌, inl, inr, ℕ, ◌<◌, ℤ, pos, [], ◌∷◌, length, refl, sym, ap, subst, ◌∙◌, arith}
+use Rattle.std.proofs.Common.{◌≡◌, ◌≢◌, ◌⊎◌, inl, inr, ℕ, ◌<◌, ℤ, pos, [], ◌∷◌, length, refl, sym, ap, subst, ◌∙◌}
 use Rattle.std.specs.Prelude.{FitsSigned}
 use Rattle.std.specs.Int.{w128}
-use Rattle.std.specs.Ordering.{nat_cmp}
-use Rattle.std.specs.BTreeMap.{insert_entry}
-use Rattle.std.proofs.lemmas.Int.{to_z-of_z}
-use mir.Val.{to_z, of_z}
 use Rattle.std.proofs.lemmas.Bool.{cases_eq}
 use Rattle.sync_terms.specs.declared.nodes.Sym.{Sym}
 use Rattle.sync_terms.specs.declared.nodes.TermId.{TermId}
 use Rattle.sync_terms.specs.declared.nodes.Node.{Node}
 use Rattle.sync_terms.specs.declared.nodes.Node.TheVariants as node
-use Rattle.sync_terms.specs.Trees.{Tree, Lit, Name, Add, Sub, Scale, Get, Has, Size, Sum, Nil, Put, Del, Bump}
+use Rattle.sync_terms.specs.Trees.{Tree}
 use Rattle.sync_terms.specs.Stored.{Stored, tree, shape, IsTerm, IsShared}
-use Rattle.sync_linear.specs.Lines.{Line, Atoms, times}
-use Rattle.sync_linear.specs.Forms.{one_at, coefficient_of, IsWithin, Narrow}
-use Rattle.sync_linear.specs.Stores.{HasId, HasAtoms, IsLineOf}
+use Rattle.sync_linear.specs.Lines.{Line, times}
+use Rattle.sync_linear.specs.declared.leaves.Leaf.{Leaf}
+use Rattle.sync_linear.specs.declared.leaves.Leaf.TheVariants.{Number, Atom}
+use Rattle.sync_linear.specs.Leaves.{leaf_line}
+use Rattle.sync_linear.specs.Forms.{one_at, Narrow}
+use Rattle.sync_linear.specs.Stores.{IsLineOf}
 use Rattle.sync_linear.proofs.Adding.{times_here, times_apart}
-use Rattle.sync_linear.proofs.Whole.{zero_fits, cases_int}
+use Rattle.sync_linear.proofs.Whole.{zero_fits}
 use Rattle.sync_linear.proofs.Trees.{one_here, none_there}
 
 abbrev pub one_atom : ℕ → Line
 one_atom id = record { constant = pos 0; atoms = (id, pos 1) ∷ [] }
 
-abbrev pub none : Line
-none = record { constant = pos 0; atoms = [] }
-
-abbrev pub leaf_line : ℕ → Node → Line
-leaf_line id (node.Lit n) = record { constant = n; atoms = [] }
-leaf_line id (node.Name x) = one_atom id
-leaf_line id (node.Get m k) = one_atom id
-leaf_line id (node.Has m k) = one_atom id
-leaf_line id (node.Size m) = one_atom id
-leaf_line id (node.Sum m) = one_atom id
-leaf_line id _ = record { constant = pos 0; atoms = [] }
+abbrev pub node_leaf : ℕ → Node → Leaf
+node_leaf id (node.Lit n) = Number n
+node_leaf id (node.Name x) = Atom id (pos 1)
+node_leaf id (node.Get m k) = Atom id (pos 1)
+node_leaf id (node.Has m k) = Atom id (pos 1)
+node_leaf id (node.Size m) = Atom id (pos 1)
+node_leaf id (node.Sum m) = Atom id (pos 1)
+node_leaf id _ = Number (pos 0)
 
 abbrev pub IsLeaf : Node → Type 0
 IsLeaf (node.Lit n) = FitsSigned w128 n
@@ -55,7 +51,7 @@ atom_stored s t p id ne = elim (cases_eq id t.0) [ inl e ↦ subst (λ (n : ℕ)
 none_stored : (s : Stored) (id : ℕ) → pos 0 ≢ pos 0 → id < length s.nodes
 none_stored s id h = absurd (h refl)
 
-pub leaf_is : (s : Stored) (t : TermId) (n : Node) → IsTerm s t → IsShared s → IsLeaf n → shape s n ≡ tree s t → IsLineOf s (tree s t) (leaf_line t.0 n) × Narrow (tree s t)
+pub leaf_is : (s : Stored) (t : TermId) (n : Node) → IsTerm s t → IsShared s → IsLeaf n → shape s n ≡ tree s t → IsLineOf s (tree s t) (leaf_line (node_leaf t.0 n)) × Narrow (tree s t)
 unfolding shape
 leaf_is s t (node.Lit n) p shared fits e =
     subst (λ (x : Tree). IsLineOf s x (record { constant = n; atoms = [] }) × Narrow x) e
@@ -91,35 +87,29 @@ leaf_is s t (node.Add a b) p shared fits e = absurd fits
 leaf_is s t (node.Sub a b) p shared fits e = absurd fits
 leaf_is s t (node.Scale n a) p shared fits e = absurd fits
 
--- a node that is one of the terms that count as atoms
-pub atom_is : (s : Stored) (t : TermId) (n : Node) (l : Line) → IsTerm s t → IsShared s → shape s n ≡ tree s t → IsLeaf n × (leaf_line t.0 n ≡ l) → IsLineOf s (tree s t) l × Narrow (tree s t)
-atom_is s t n l p shared e h = subst (λ (x : Line). IsLineOf s (tree s t) x × Narrow (tree s t)) h.1 (leaf_is s t n p shared h.0 e)
+-- a node that is no sum and no multiple
+pub atom_is : (s : Stored) (t : TermId) (n : Node) (l : Leaf) → IsTerm s t → IsShared s → shape s n ≡ tree s t → IsLeaf n × (node_leaf t.0 n ≡ l) → IsLineOf s (tree s t) (leaf_line l) × Narrow (tree s t)
+atom_is s t n l p shared e h = subst (λ (x : Leaf). IsLineOf s (tree s t) (leaf_line x) × Narrow (tree s t)) h.1 (leaf_is s t n p shared h.0 e)
 
-abbrev IsOneOf : ℕ → Line → Node → Type 0
-IsOneOf id l n = IsLeaf n × (leaf_line id n ≡ l)
+abbrev IsOneOf : ℕ → Leaf → Node → Type 0
+IsOneOf id l n = IsLeaf n × (node_leaf id n ≡ l)
 
-pub is_atom : (id : ℕ) (n : Node) (l : Line) → one_atom id ≡ l
+pub is_atom : (id : ℕ) (n : Node) (l : Leaf) → Atom id (pos 1) ≡ l
     → ((x : Sym) × (n ≡ node.Name x)) ⊎ (((m : TermId) × (k : TermId) × (n ≡ node.Get m k)) ⊎ (((m : TermId) × (k : TermId) × (n ≡ node.Has m k)) ⊎ (((m : TermId) × (n ≡ node.Size m)) ⊎ ((m : TermId) × (n ≡ node.Sum m)))))
-    → IsLeaf n × (leaf_line id n ≡ l)
+    → IsLeaf n × (node_leaf id n ≡ l)
 is_atom id n l e (inl h) = subst (IsOneOf id l) (sym h.1) (tt, e)
 is_atom id n l e (inr (inl h)) = subst (IsOneOf id l) (sym h.2) (tt, e)
 is_atom id n l e (inr (inr (inl h))) = subst (IsOneOf id l) (sym h.2) (tt, e)
 is_atom id n l e (inr (inr (inr (inl h)))) = subst (IsOneOf id l) (sym h.1) (tt, e)
 is_atom id n l e (inr (inr (inr (inr h)))) = subst (IsOneOf id l) (sym h.1) (tt, e)
 
-pub is_map : (id : ℕ) (n : Node) (l : Line) → none ≡ l
+pub is_map : (id : ℕ) (n : Node) (l : Leaf) → Number (pos 0) ≡ l
     → (n ≡ node.Nil) ⊎ (((m : TermId) × (k : TermId) × (v : TermId) × (n ≡ node.Put m k v)) ⊎ (((m : TermId) × (k : TermId) × (n ≡ node.Del m k)) ⊎ ((m : TermId) × (k : TermId) × (v : TermId) × (n ≡ node.Bump m k v))))
-    → IsLeaf n × (leaf_line id n ≡ l)
+    → IsLeaf n × (node_leaf id n ≡ l)
 is_map id n l e (inl h) = subst (IsOneOf id l) (sym h) (tt, e)
 is_map id n l e (inr (inl h)) = subst (IsOneOf id l) (sym h.3) (tt, e)
 is_map id n l e (inr (inr (inl h))) = subst (IsOneOf id l) (sym h.2) (tt, e)
 is_map id n l e (inr (inr (inr h))) = subst (IsOneOf id l) (sym h.3) (tt, e)
 
-pub one_line : (id : ℕ) (l : Line) (es new : Atoms) → es ≡ [] → new ≡ insert_entry nat_cmp es id (pos 1) → l ≡ record { constant = pos 0; atoms = new } → one_atom id ≡ l
-one_line id l es new e f g =
-    sym (g ∙ ap (λ (a : Atoms). record { constant = pos 0; atoms = a }) (f ∙ ap (λ (a : Atoms). insert_entry nat_cmp a id (pos 1)) e))
-
-pub is_lit : (id : ℕ) (n : Node) (l : Line) (k : ℤ) (es : Atoms) → FitsSigned w128 k → n ≡ node.Lit k → es ≡ [] → l ≡ record { constant = to_z w128 (of_z w128 k); atoms = es } → IsLeaf n × (leaf_line id n ≡ l)
-is_lit id n l k es fits e f g =
-    subst (IsOneOf id l) (sym e)
-    (fits, sym (g ∙ ap (λ (a : Atoms). record { constant = to_z w128 (of_z w128 k); atoms = a }) f ∙ ap (λ (z : ℤ). record { constant = z; atoms = [] }) (to_z-of_z w128 k fits)))
+pub is_number : (id : ℕ) (n : Node) (k : ℤ) → FitsSigned w128 k → n ≡ node.Lit k → IsLeaf n × (node_leaf id n ≡ Number k)
+is_number id n k fits e = subst (IsOneOf id (Number k)) (sym e) (fits, refl)
