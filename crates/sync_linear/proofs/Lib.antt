@@ -5,5 +5,6 @@ pub mod OneAtom
 pub mod Trees
 pub mod Joins
 pub mod LeafLines
+pub mod Scaling
 pub mod Multiples
 pub mod Spines

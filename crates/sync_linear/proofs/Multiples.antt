@@ -1,5 +1,5 @@
 -- Multiples of leaves: their lines, and when they fit.
-use Rattle.std.proofs.Common.{◌≡◌, inl, inr, ℕ, ℤ, pos, ◌*ℤ◌, [], ◌∷◌, refl, sym, ap, subst, ◌∙◌}
+use Rattle.std.proofs.Common.{◌≡◌, inl, inr, ℕ, ℤ, ◌*ℤ◌, [], ◌∷◌, refl, sym, ap, subst, ◌∙◌}
 use Rattle.std.specs.Prelude.{FitsSigned}
 use Rattle.std.specs.Int.{w128}
 use Rattle.std.proofs.lemmas.Bool.{cases_eq}
@@ -14,7 +14,7 @@ use Rattle.sync_linear.specs.Forms.{coefficient_of, IsWithin, Narrow}
 use Rattle.sync_linear.specs.Stores.{IsLineOf}
 use Rattle.sync_linear.proofs.Ring.{times_zero}
 use Rattle.sync_linear.proofs.Adding.{times_here, times_apart}
-use Rattle.sync_linear.proofs.Whole.{zero_fits}
+use Rattle.sync_linear.proofs.Scaling.{none_fits}
 use Rattle.sync_linear.proofs.Joins.{none_or_stored}
 
 scaled_constant : (c : ℤ) (l : Leaf) → (leaf_line (scaled_leaf c l)).constant ≡ c *ℤ (leaf_line l).constant
@@ -27,9 +27,6 @@ scaled_times c (Atom id n) q = elim (cases_eq q id) [
   | inl e ↦ subst (λ (k : ℕ). times ((k, c *ℤ n) ∷ []) q ≡ c *ℤ times ((k, n) ∷ []) q) e (times_here q (c *ℤ n) [] ∙ ap (λ (x : ℤ). c *ℤ x) (sym (times_here q n [])))
   | inr ne ↦ times_apart q id (c *ℤ n) [] ne ∙ sym (times_zero c) ∙ ap (λ (x : ℤ). c *ℤ x) (sym (times_apart q id n [] ne))
 ]
-
-none_fits : (c : ℤ) → FitsSigned w128 (c *ℤ pos 0)
-none_fits c = subst (FitsSigned w128) (sym (times_zero c)) zero_fits
 
 constant_fits : (c : ℤ) (l : Leaf) → FitsSigned w128 (c *ℤ number_of l) → FitsSigned w128 (c *ℤ (leaf_line l).constant)
 constant_fits c (Number n) f = f

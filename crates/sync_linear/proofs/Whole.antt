@@ -14,6 +14,10 @@ use Rattle.sync_linear.specs.Lines.{Atoms, Line, times, HasNoZero, IsLine, IsCha
 use Rattle.sync_linear.proofs.Ring.{times_zero}
 use Rattle.sync_linear.proofs.Adding.{changed_by_none}
 
+-- the line that is 0
+abbrev pub zero_line : Line
+zero_line = record { constant = pos 0; atoms = [] }
+
 pub fits_after : (how : Change) (x y : ℤ) → ChangeFits how x y → FitsSigned w128 (changed how x y)
 fits_after Plus x y f = f
 fits_after Minus x y f = f
@@ -55,7 +59,7 @@ atoms_fit how a b x y e f fits id =
 pub line_made : (constant : ℤ) (atoms : Atoms) → IsLine (record { constant = constant; atoms = atoms }) → IsLine (record { constant = to_z w128 (of_z w128 constant); atoms = atoms })
 line_made constant atoms is = subst (λ (z : ℤ). IsLine (record { constant = z; atoms = atoms })) (sym (to_z-of_z w128 constant is.constant_fits)) is
 
-plus_zero : (x : ℤ) → pos 0 +ℤ x ≡ x
+pub plus_zero : (x : ℤ) → pos 0 +ℤ x ≡ x
 plus_zero x = omega (arith, ints)
 
 -- a copy that was made by adding to nothing, and what changes it

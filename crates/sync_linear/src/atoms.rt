@@ -1,5 +1,6 @@
 //! Numbers of times of atoms, by their ids.
-ghost use Rattle.std.specs.Prelude.{◌≡◌, ◌≢◌, ℕ, ℤ, pos, Err, OnOk, IfOk, nat_eq, if◌then◌else◌};
+ghost use Rattle.std.specs.Prelude.{◌≡◌, ◌≢◌, ℕ, ℤ, pos, Err, OnOk, IfOk, nat_eq, if◌then◌else◌, IsTrue, ◌↔◌, ◌*ℤ◌, FitsSigned, map};
+ghost use Rattle.std.specs.Int.{w128, int_wrapping_mul};
 ghost use Rattle.sync_linear.specs.Changes.{changed, ChangeFits};
 ghost use Rattle.sync_linear.specs.Lines.{times, HasNoZero};
 ghost use Rattle.sync_linear.specs.declared.stops.LinearStop.TheVariants.{Width};
@@ -50,4 +51,23 @@ pub(crate) fn change_all(atoms: Atoms, how: Change, by: &Atoms) -> Result<Atoms,
         change_at(&mut sum, how, *id, times)?;
     }
     Ok(sum)
+}
+
+/// Whether so many times each number of times stays within signed 128 bits.
+pub(crate) fn all_fit(atoms: &Atoms, factor: i128) -> bool
+    ensures { IsTrue result ↔ ((q : ℕ) → FitsSigned w128 (factor *ℤ times atoms.now.entries q)) }
+{
+    atoms
+        .values()
+        .all(|number| factor.checked_mul(*number).is_some())
+}
+
+/// Multiplies each number of times, whose products are within signed 128 bits.
+pub(crate) fn scale_all(atoms: &mut Atoms, factor: i128)
+    ensures { atoms.new.entries ≡ map (λ e. (e.0, int_wrapping_mul w128 factor e.1)) atoms.old.entries }
+{
+    atoms.retain(|_, number| {
+        *number = factor.wrapping_mul(*number);
+        true
+    });
 }

@@ -6,7 +6,7 @@ ghost use Rattle.sync_linear.specs.Lines.{IsLine, IsChanged, LineFits};
 ghost use Rattle.sync_linear.specs.Leaves.{leaf_line};
 ghost use Rattle.sync_linear.specs.declared.leaves.Leaf.TheVariants.{Number, Atom};
 
-use crate::atoms::{Atoms, change_all, change_at};
+use crate::atoms::{Atoms, all_fit, change_all, change_at, scale_all};
 use crate::changes::{Change, Pair};
 use crate::leaves::Leaf;
 use crate::stops::LinearStop;
@@ -160,6 +160,34 @@ impl Linear {
             mut atoms,
         } = self;
         change_at(&mut atoms, how, id, &times)?;
+        Ok(Linear {
+            alloc,
+            constant,
+            atoms,
+        })
+    }
+
+    /// So many times this line, in place. `Width` comes exactly where one of its numbers leaves signed 128 bits.
+    pub(crate) fn scaled(self, times: i128) -> Result<Linear, LinearStop>
+        ensures changed { IfOk result (λ line. IsChanged (Times times) (record { constant = pos 0; atoms = [] }) self line) }
+        ensures fits { OnOk result (LineFits (Times times) (record { constant = pos 0; atoms = [] }) self) }
+        ensures width { result ≡ Err Width → LineFits (Times times) (record { constant = pos 0; atoms = [] }) self → ⊥ }
+    {
+        let Linear {
+            alloc,
+            constant,
+            mut atoms,
+        } = self;
+        if times == 0 {
+            return Ok(Linear::zero(alloc));
+        }
+        let Some(constant) = times.checked_mul(constant) else {
+            return Err(LinearStop::Width);
+        };
+        if !all_fit(&atoms, times) {
+            return Err(LinearStop::Width);
+        }
+        scale_all(&mut atoms, times);
         Ok(Linear {
             alloc,
             constant,

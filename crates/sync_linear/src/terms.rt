@@ -114,7 +114,7 @@ impl Linear {
             line = match rest {
                 Rest::Plus(second) => line.changed_by(alloc, terms, Change::Plus, second)?,
                 Rest::Minus(second) => line.changed_by(alloc, terms, Change::Minus, second)?,
-                Rest::Times(times) => Linear::zero(alloc).changed(Change::Times(times), &line)?,
+                Rest::Times(times) => line.scaled(times)?,
             };
         }
         Ok(line)
