@@ -1,5 +1,5 @@
 -- The lines of terms that are no sums.
-use Rattle.std.proofs.Common.{◌≡◌, ◌≢◌, ◌⊎◌, inl, inr, ℕ, ◌<◌, ℤ, pos, [], ◌∷◌, length, refl, sym, ap, subst, ◌∙◌}
+use Rattle.std.proofs.Common.{◌≡◌, ◌≢◌, ◌⊎◌, inl, inr, ℕ, ◌<◌, pos, [], ◌∷◌, length, refl, sym, ap, subst, ◌∙◌}
 use Rattle.std.specs.Prelude.{FitsSigned}
 use Rattle.std.specs.Int.{w128}
 use Rattle.std.proofs.lemmas.Bool.{cases_eq}
@@ -102,14 +102,3 @@ is_atom id n l e (inr (inl h)) = subst (IsOneOf id l) (sym h.2) (tt, e)
 is_atom id n l e (inr (inr (inl h))) = subst (IsOneOf id l) (sym h.2) (tt, e)
 is_atom id n l e (inr (inr (inr (inl h)))) = subst (IsOneOf id l) (sym h.1) (tt, e)
 is_atom id n l e (inr (inr (inr (inr h)))) = subst (IsOneOf id l) (sym h.1) (tt, e)
-
-pub is_map : (id : ℕ) (n : Node) (l : Leaf) → Number (pos 0) ≡ l
-    → (n ≡ node.Nil) ⊎ (((m : TermId) × (k : TermId) × (v : TermId) × (n ≡ node.Put m k v)) ⊎ (((m : TermId) × (k : TermId) × (n ≡ node.Del m k)) ⊎ ((m : TermId) × (k : TermId) × (v : TermId) × (n ≡ node.Bump m k v))))
-    → IsLeaf n × (node_leaf id n ≡ l)
-is_map id n l e (inl h) = subst (IsOneOf id l) (sym h) (tt, e)
-is_map id n l e (inr (inl h)) = subst (IsOneOf id l) (sym h.3) (tt, e)
-is_map id n l e (inr (inr (inl h))) = subst (IsOneOf id l) (sym h.2) (tt, e)
-is_map id n l e (inr (inr (inr h))) = subst (IsOneOf id l) (sym h.3) (tt, e)
-
-pub is_number : (id : ℕ) (n : Node) (k : ℤ) → FitsSigned w128 k → n ≡ node.Lit k → IsLeaf n × (node_leaf id n ≡ Number k)
-is_number id n k fits e = subst (IsOneOf id (Number k)) (sym e) (fits, refl)

@@ -17,7 +17,7 @@ use Rattle.std.proofs.lemmas.Map.Views.{IfSome-lookup_from_All, All-values_from_
 use Rattle.sync_linear.specs.declared.changes.Change.TheVariants.{Times}
 use Rattle.sync_linear.specs.Lines.{Atoms, Line, times, HasNoZero, IsLine, IsChanged, LineFits}
 use Rattle.sync_linear.proofs.Ring.{times_zero}
-use Rattle.sync_linear.proofs.Whole.{zero_line, zero_fits, plus_zero, line_made}
+use Rattle.sync_linear.proofs.Whole.{line_of_zero, zero_fits, plus_zero, line_made}
 
 pub none_fits : (c : ℤ) → FitsSigned w128 (c *ℤ pos 0)
 none_fits c = subst (FitsSigned w128) (sym (times_zero c)) zero_fits
@@ -74,7 +74,7 @@ module _ (c : ℤ) (old new : Atoms) (fits : FitsSigned w128 c) (made : new ≡ 
   pub scaled_no_zero : c ≢ pos 0 → HasNoZero old → HasNoZero new
   scaled_no_zero nc z q e = found_nonzero c (lookup (is_at (nat_cmp q)) old) fits (within q) (each q) nc (z q) (sym (found q) ∙ e)
 
-pub products_fit : (c : ℤ) (self old : Line) → old ≡ self → LineFits (Times c) zero_line self → (q : ℕ) → FitsSigned w128 (c *ℤ times old.atoms q)
+pub products_fit : (c : ℤ) (self old : Line) → old ≡ self → LineFits (Times c) line_of_zero self → (q : ℕ) → FitsSigned w128 (c *ℤ times old.atoms q)
 products_fit c self old e f q = subst (λ (l : Line). FitsSigned w128 (c *ℤ times l.atoms q)) (sym e) (f.atoms q).0
 
 -- the line whose constant and atoms were multiplied
@@ -90,8 +90,8 @@ module _ (c k : ℤ) (old : Line) (new : Atoms) (fits : FitsSigned w128 c) (is :
     times_fit = λ q. subst (FitsSigned w128) (sym (scaled_times c old.atoms new fits made is.times_fit each q)) (each q);
   })
 
-  pub scaled_is : (self : Line) → old ≡ self → IsChanged (Times c) zero_line self (record { constant = to_z w128 (of_z w128 k); atoms = new })
-  scaled_is self e = subst (λ (l : Line). IsChanged (Times c) zero_line l (record { constant = to_z w128 (of_z w128 k); atoms = new })) e (record {
+  pub scaled_is : (self : Line) → old ≡ self → IsChanged (Times c) line_of_zero self (record { constant = to_z w128 (of_z w128 k); atoms = new })
+  scaled_is self e = subst (λ (l : Line). IsChanged (Times c) line_of_zero l (record { constant = to_z w128 (of_z w128 k); atoms = new })) e (record {
     constant = to_z-of_z w128 k constant_fits ∙ one.1 ∙ sym (plus_zero (c *ℤ old.constant));
     atoms = λ q. scaled_times c old.atoms new fits made is.times_fit each q ∙ sym (plus_zero (c *ℤ times old.atoms q));
   })

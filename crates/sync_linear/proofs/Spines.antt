@@ -13,7 +13,7 @@ use Rattle.sync_linear.specs.Lines.{Line, IsChanged, LineFits}
 use Rattle.sync_linear.specs.Forms.{constant_of, coefficient_of, IsWithin, Narrow}
 use Rattle.sync_linear.specs.Stores.{IsLineOf}
 use Rattle.sync_linear.specs.Parts.{completed, IsBelow, wrapped, IsTaken}
-use Rattle.sync_linear.proofs.Whole.{zero_line, plus_zero}
+use Rattle.sync_linear.proofs.Whole.{line_of_zero, plus_zero}
 use Rattle.sync_linear.proofs.Joins.{join_line, join_fits, fits_line}
 
 wrapped_push : (s : Stored) (rs : List Rest) (r : Rest) (t : Tree) → wrapped s (rs ++ r ∷ []) t ≡ wrapped s rs (completed s r t)
@@ -78,8 +78,8 @@ module _ (s : Stored) (t : TermId) (rs : List Rest) (r : Rest) (line : Line) (h 
   pub narrow_next : Narrow (tree s t) → Narrow (completed s r h.inner)
   narrow_next n = narrow_inner s rs (completed s r h.inner) (subst Narrow (sym whole_next) n)
 
-zero_is : (s : Stored) → IsLineOf s (Lit (pos 0)) zero_line
-zero_is s = record { constant = refl; atoms = λ id q. refl; stored = λ id ne. absurd (ne refl); has_atoms = tt }
+pub zero_line : (s : Stored) → IsLineOf s (Lit (pos 0)) line_of_zero
+zero_line s = record { constant = refl; atoms = λ id q. refl; stored = λ id ne. absurd (ne refl); has_atoms = tt }
 
 from_zero : (s : Stored) (n : ℤ) (a : Tree) (l : Line) → IsLineOf s (Add (Lit (pos 0)) (Scale n a)) l → IsLineOf s (Scale n a) l
 from_zero s n a l h = record {
@@ -105,10 +105,10 @@ pub up_minus : (s : Stored) (t b : TermId) (rs : List Rest) (line new : Line) �
 up_minus s t b rs line new h l f n = rises s t rs (rest.Minus b) line h new (l h.inner h.has_line) (f h.inner h.has_line, h.narrow, n)
 
 pub up_times : (s : Stored) (t : TermId) (k : ℤ) (rs : List Rest) (line new : Line) → IsTaken s t (rs ++ rest.Times k ∷ []) line
-    → IsChanged (change.Times k) zero_line line new → LineFits (change.Times k) zero_line line → IsTaken s t rs new
+    → IsChanged (change.Times k) line_of_zero line new → LineFits (change.Times k) line_of_zero line → IsTaken s t rs new
 up_times s t k rs line new h c f =
-    rises s t rs (rest.Times k) line h new (from_zero s k h.inner new (join_line (change.Times k) s (Lit (pos 0)) h.inner zero_line line new (zero_is s) h.has_line c))
-    ((join_fits (change.Times k) s (Lit (pos 0)) h.inner zero_line line (zero_is s) h.has_line f).0, h.narrow)
+    rises s t rs (rest.Times k) line h new (from_zero s k h.inner new (join_line (change.Times k) s (Lit (pos 0)) h.inner line_of_zero line new (zero_line s) h.has_line c))
+    ((join_fits (change.Times k) s (Lit (pos 0)) h.inner line_of_zero line (zero_line s) h.has_line f).0, h.narrow)
 
 -- where the next line does not fit, the term is not narrow
 pub wide_plus : (s : Stored) (t b : TermId) (rs : List Rest) (line : Line) → IsTaken s t (rs ++ rest.Plus b ∷ []) line
@@ -120,10 +120,10 @@ pub wide_minus : (s : Stored) (t b : TermId) (rs : List Rest) (line : Line) → 
 wide_minus s t b rs line h leaves n = let w = narrow_next s t rs (rest.Minus b) line h n in leaves h.inner h.has_line w.0 w.2
 
 pub wide_times : (s : Stored) (t : TermId) (k : ℤ) (rs : List Rest) (line : Line) → IsTaken s t (rs ++ rest.Times k ∷ []) line
-    → (LineFits (change.Times k) zero_line line → ⊥) → Narrow (tree s t) → ⊥
+    → (LineFits (change.Times k) line_of_zero line → ⊥) → Narrow (tree s t) → ⊥
 wide_times s t k rs line h leaves n =
     let w = (narrow_next s t rs (rest.Times k) line h n).0 in
-    leaves (fits_line (change.Times k) s (Lit (pos 0)) h.inner zero_line line (zero_is s) h.has_line (w, within_zero k h.inner w))
+    leaves (fits_line (change.Times k) s (Lit (pos 0)) h.inner line_of_zero line (zero_line s) h.has_line (w, within_zero k h.inner w))
 
 pub finished : (s : Stored) (t : TermId) (line : Line) → IsTaken s t [] line → IsLineOf s (tree s t) line × Narrow (tree s t)
 finished s t line h = subst (λ (x : Tree). IsLineOf s x line × Narrow x) h.whole (h.has_line, h.narrow)

@@ -15,8 +15,8 @@ use Rattle.sync_linear.proofs.Ring.{times_zero}
 use Rattle.sync_linear.proofs.Adding.{changed_by_none}
 
 -- the line that is 0
-abbrev pub zero_line : Line
-zero_line = record { constant = pos 0; atoms = [] }
+abbrev pub line_of_zero : Line
+line_of_zero = record { constant = pos 0; atoms = [] }
 
 pub fits_after : (how : Change) (x y : ℤ) → ChangeFits how x y → FitsSigned w128 (changed how x y)
 fits_after Plus x y f = f

@@ -53,7 +53,7 @@ pub(crate) fn change_all(atoms: Atoms, how: Change, by: &Atoms) -> Result<Atoms,
     Ok(sum)
 }
 
-/// Whether so many times each number of times stays within signed 128 bits.
+/// Whether each number of times, multiplied, stays within signed 128 bits.
 pub(crate) fn all_fit(atoms: &Atoms, factor: i128) -> bool
     ensures { IsTrue result ↔ ((q : ℕ) → FitsSigned w128 (factor *ℤ times atoms.now.entries q)) }
 {
@@ -62,7 +62,7 @@ pub(crate) fn all_fit(atoms: &Atoms, factor: i128) -> bool
         .all(|number| factor.checked_mul(*number).is_some())
 }
 
-/// Multiplies each number of times, whose products are within signed 128 bits.
+/// Multiplies each number of times in place. A product that leaves signed 128 bits wraps.
 pub(crate) fn scale_all(atoms: &mut Atoms, factor: i128)
     ensures { atoms.new.entries ≡ map (λ e. (e.0, int_wrapping_mul w128 factor e.1)) atoms.old.entries }
 {

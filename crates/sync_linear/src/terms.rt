@@ -30,6 +30,7 @@ pub(crate) enum Part {
     Alone(Leaf),
 }
 
+/// What a term's own node makes of it.
 #[tactic(auto, unfolding(sync_terms::specs::Stored::shape, sync_terms::specs::Stored::tree))]
 fn node_part(terms: &Terms, t: TermId) -> Part
     requires { IsTerm terms.now t }
@@ -49,7 +50,7 @@ fn node_part(terms: &Terms, t: TermId) -> Part
     }
 }
 
-/// As `node_part`; but a multiple of a leaf is a leaf, where it stays within signed 128 bits.
+/// As `node_part`, but a multiple of a leaf is a leaf where it stays within signed 128 bits.
 fn part_of(terms: &Terms, t: TermId) -> Part
     requires { IsTerm terms.now t }
     ensures { IsPartOf terms.now t result }
@@ -120,7 +121,7 @@ impl Linear {
         Ok(line)
     }
 
-    /// This line, changed by that of a stored term. Where the term is a leaf, no line is made of it.
+    /// This line, changed by that of a stored term. A leaf changes it without a line of its own.
     #[cycle(terms)]
     fn changed_by(
         self,

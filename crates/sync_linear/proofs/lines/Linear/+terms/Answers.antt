@@ -8,7 +8,7 @@ use Rattle.sync_linear.specs.declared.changes.Change.TheVariants as change
 use Rattle.sync_linear.specs.declared.terms.Rest.TheVariants as rest
 use Rattle.sync_linear.specs.Lines.{IsChanged, LineFits}
 use Rattle.sync_linear.specs.Leaves.{leaf_line}
-use Rattle.sync_linear.proofs.Whole.{zero_line}
+use Rattle.sync_linear.proofs.Whole.{line_of_zero}
 use Rattle.sync_linear.proofs.Joins.{join_line, join_fits, fits_line}
 use Rattle.sync_linear.proofs.Spines.{popped, all_last, up_plus, up_minus, up_times, wide_plus, wide_minus, wide_times}
 use Rattle.sync_linear.proofs.lines.Linear.+terms.Goals as goal
@@ -79,7 +79,7 @@ of_term-returns-in_err-line-in-Times-clause-width t c =
     let same = to_z-of_z w128 c.in-Times.times f in
     let h = popped c.args.terms.now c.args.t c.loop-rest.rests.items c.pop.new.self.items (rest.Times c.in-Times.times) c.in-Some.rest c.loop-rest.line c.in-Some.ensures.items c.in-Times.is c.loop-rest.invariant in
     λ e n. wide_times c.args.terms.now c.args.t c.in-Times.times c.pop.new.self.items c.loop-rest.line h
-    (λ l. c.scaled.ensures.width (cc) (subst (λ (z : ℤ). LineFits (change.Times z) zero_line c.loop-rest.line) (sym same) l)) n
+    (λ l. c.scaled.ensures.width (cc) (subst (λ (z : ℤ). LineFits (change.Times z) line_of_zero c.loop-rest.line) (sym same) l)) n
 
 pub of_term-loop-rest-preserved : goal.of_term-loop-rest-preserved
 of_term-loop-rest-preserved t c =
@@ -88,5 +88,5 @@ of_term-loop-rest-preserved t c =
     let h = popped c.args.terms.now c.args.t c.loop-rest.rests.items c.pop.new.self.items (rest.Times c.in-Times.times) c.in-Some.rest c.loop-rest.line c.in-Some.ensures.items c.in-Times.is c.loop-rest.invariant in
     let n = c.in_ok-line-in-Times.ensures in
     up_times c.args.terms.now c.args.t c.in-Times.times c.pop.new.self.items c.loop-rest.line c.in_ok-line-in-Times.line h
-    (subst (λ (z : ℤ). IsChanged (change.Times z) zero_line c.loop-rest.line c.in_ok-line-in-Times.line) same n.changed)
-    (subst (λ (z : ℤ). LineFits (change.Times z) zero_line c.loop-rest.line) same n.fits)
+    (subst (λ (z : ℤ). IsChanged (change.Times z) line_of_zero c.loop-rest.line c.in_ok-line-in-Times.line) same n.changed)
+    (subst (λ (z : ℤ). LineFits (change.Times z) line_of_zero c.loop-rest.line) same n.fits)
