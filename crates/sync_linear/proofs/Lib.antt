@@ -4,7 +4,7 @@ pub mod Whole
 pub mod OneAtom
 pub mod Trees
 pub mod Joins
-pub mod LeafLines
+pub mod AtomLines
 pub mod Scaling
 pub mod Multiples
 pub mod Spines

@@ -78,7 +78,7 @@ module _ (s : Stored) (t : TermId) (rs : List Rest) (r : Rest) (line : Line) (h 
   pub narrow_next : Narrow (tree s t) → Narrow (completed s r h.inner)
   narrow_next n = narrow_inner s rs (completed s r h.inner) (subst Narrow (sym whole_next) n)
 
-pub zero_line : (s : Stored) → IsLineOf s (Lit (pos 0)) line_of_zero
+pub zero_line : (s : Stored) → IsLineOf s (Lit (pos 0)) (record { constant = pos 0; atoms = [] })
 zero_line s = record { constant = refl; atoms = λ id q. refl; stored = λ id ne. absurd (ne refl); has_atoms = tt }
 
 from_zero : (s : Stored) (n : ℤ) (a : Tree) (l : Line) → IsLineOf s (Add (Lit (pos 0)) (Scale n a)) l → IsLineOf s (Scale n a) l
