@@ -20,7 +20,10 @@ fn begins_single(bytes: &[u8]) -> bool
 fn begins_pair(bytes: &[u8]) -> bool
     ensures { result ≡ begins_any pairs bytes.now }
 {
-    PAIRS.iter().any(|pair| bytes.starts_with(pair))
+    match bytes {
+        [_, b'=' | b'>' | b'&' | b'|', ..] => PAIRS.iter().any(|pair| bytes.starts_with(pair)),
+        _ => false,
+    }
 }
 
 /// The length of the longest sign at the front, 0 where there is none.
