@@ -1,5 +1,5 @@
 -- The value of the digits read so far, against that of all digits.
-use Rattle.std.proofs.Common.{◌≡◌, ℕ, zero, suc, ◌+◌, ◌-◌, ◌*◌, ◌<◌, ◌≤◌, ◌/◌, true, leb, List, [], ◌∷◌, length, take, drop, get_or, refl, ap, arith}
+use Rattle.std.proofs.Common.{◌≡◌, ℕ, zero, suc, ◌+◌, ◌-◌, ◌*◌, ◌<◌, ◌≤◌, true, leb, List, [], ◌∷◌, length, take, drop, get_or, refl, ap, arith}
 use Rattle.std.specs.Char.{is_ascii_digit, digit_value}
 use Rattle.std.specs.List.{prefix_len, take_while}
 use Rattle.std.specs.Str.Parse.{digits_value_after}
@@ -47,7 +47,7 @@ module _ (bytes : List ℕ) (i value : ℕ) (lt : i < length bytes) (digit : is_
   counted_step counted = omega (arith, prefix_len-drop_yes is_ascii_digit bytes i 0 lt digit)
 
   -- what passes the limit here passes it with all digits
-  pub is_too_large : i + prefix_len is_ascii_digit (drop i bytes) ≡ prefix_len is_ascii_digit bytes → (largest - (get_or bytes i 0 - 48)) / 10 < value
+  pub is_too_large : i + prefix_len is_ascii_digit (drop i bytes) ≡ prefix_len is_ascii_digit bytes → largest < value * 10 + (get_or bytes i 0 - 48)
       → Broken L3 ≡ number_piece (take_while is_ascii_digit bytes)
   is_too_large counted over =
       let more = counted_step counted in

@@ -59,10 +59,10 @@ fn number_piece(bytes: &[u8]) -> Piece
             break;
         }
         let digit = u128::from(*byte - b'0');
-        if value > (LARGEST - digit) / 10 {
+        value = value.saturating_mul(10).saturating_add(digit);
+        if value > LARGEST {
             return Piece::Broken(Rule::L3);
         }
-        value = value * 10 + digit;
         len += 1;
     }
     Piece::Word(Kind::Number, len)

@@ -4,10 +4,6 @@ ghost use Rattle.sync_lex.specs.Signs.{pairs, singles, begins_any, sign_len};
 
 const SINGLES: [u8; 20] = *b"{}()[],;:?@$!*/%+-=<";
 
-const PAIRS: [[u8; 2]; 9] = [
-    *b"!=", *b"<=", *b">=", *b"+=", *b"-=", *b"->", *b"=>", *b"&&", *b"||",
-];
-
 fn begins_single(bytes: &[u8]) -> bool
     ensures { result ≡ begins_any singles bytes.now }
 {
@@ -20,7 +16,13 @@ fn begins_single(bytes: &[u8]) -> bool
 fn begins_pair(bytes: &[u8]) -> bool
     ensures { result ≡ begins_any pairs bytes.now }
 {
-    PAIRS.iter().any(|pair| bytes.starts_with(pair))
+    matches!(
+        bytes,
+        [b'!' | b'<' | b'>' | b'+' | b'-', b'=', ..]
+            | [b'-' | b'=', b'>', ..]
+            | [b'&', b'&', ..]
+            | [b'|', b'|', ..]
+    )
 }
 
 /// The length of the longest sign at the front, 0 where there is none.

@@ -1,5 +1,5 @@
 -- Cutting a decimal number off on the way or at its end.
-use Rattle.std.proofs.Common.{◌≡◌, ℕ, ◌+◌, ◌-◌, ◌*◌, ◌<◌, ◌≤◌, List, [], ◌∷◌, length, drop, get_or, min, refl, sym, ap, ◌∙◌, arith, add-one, drop-cons}
+use Rattle.std.proofs.Common.{◌≡◌, ℕ, ◌+◌, ◌-◌, ◌*◌, ◌<◌, List, [], ◌∷◌, length, drop, get_or, min, sym, ap, ◌∙◌, arith, add-one, drop-cons}
 use Rattle.sync_tokens.specs.Words.{largest, decimal_after}
 
 -- digits behind two numbers that are alike up to l

@@ -1,5 +1,5 @@
 -- What the lexemes of a text say.
-use Rattle.std.specs.Prelude.{ℕ, ◌+◌, ◌-◌, ◌*◌, ◌<◌, ◌≤◌, Bool, true, false, List, [], ◌∷◌, ◌++◌, length, min, nat_le, slice_range, ◌&&◌, if◌then◌else◌, Option, Some, None, Result, Ok}
+use Rattle.std.specs.Prelude.{ℕ, ◌+◌, ◌-◌, ◌*◌, Bool, false, List, [], ◌∷◌, ◌++◌, length, min, nat_le, slice_range, ◌&&◌, if◌then◌else◌, Option, Some, None, MatchOption, Result, Ok, ◌≡◌}
 use Rattle.std.specs.List.{list_any, position_or_len}
 use Rattle.std.specs.Str.{bytes_eq}
 use Rattle.sync_base.specs.declared.stops.Refusal.{Refusal}
@@ -65,6 +65,10 @@ abbrev pub said : List Name → Kind → List ℕ → What × List Name
 said names kind.Number bytes = (what.Number (number_of bytes), names)
 said names kind.Name bytes = named names bytes (sign_of bytes)
 said names kind.Sign bytes = named names bytes (sign_of bytes)
+
+-- what a table says of bytes is what they say as names and signs, and adds no name; bytes that it lacks are no name so far
+abbrev pub Recalls : List Name → (List ℕ → Option What) → Type 0
+Recalls names table = (bytes : List ℕ) → MatchOption (table bytes) (list_any (spells bytes) names ≡ false) (λ w. (w, names) ≡ named names bytes (sign_of bytes))
 
 -- the words of these lexemes behind some words, with the names so far
 unfoldable pub words_after : List ℕ → List Word → List Name → List Lexeme → List Word × List Name

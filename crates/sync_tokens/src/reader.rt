@@ -1,14 +1,18 @@
 //! From bytes to words.
-ghost use Rattle.std.specs.Prelude.{◌≡◌, ◌≤◌, IfOk, OnOk, map};
+ghost use Rattle.std.specs.Prelude.{◌≡◌, false, IfOk, OnOk};
+ghost use Rattle.std.specs.HashMap.{get_by};
+ghost use Rattle.std.specs.List.{list_any};
+ghost use Rattle.std.specs.Str.{bytes_eq};
 ghost use Rattle.sync_base.specs.Outcome.{Gives};
-ghost use Rattle.sync_tokens.specs.Words.{bytes_at, number_of, name_of, number_in, names_with, said, words_of, worded};
+ghost use Rattle.sync_tokens.specs.Words.{bytes_at, number_of, said, named, spells, Recalls, words_of, worded};
+ghost use Rattle.sync_tokens.specs.Signs.{sign_of};
 
 use crate::signs::sign_of;
 use crate::strategies::strategy_of;
 use crate::words::{What, Word, Words};
-use indexmap::IndexSet;
 use sqlite_items::Items;
 use std::alloc::Global;
+use std::collections::HashMap;
 use sync_base::{Name, NameList, NoMemory, Stop};
 use sync_lex::{Kind, Lexeme, lex};
 
@@ -40,54 +44,46 @@ fn number_of(digits: &[u8]) -> u128
     number.min(LARGEST)
 }
 
-/// The number of a name, which is put to the names where it is not among them.
-#[tactic(auto, unfolding(crate::specs::Words::number_in, crate::specs::Words::names_with))]
-fn intern<'a>(
-    alloc: Global,
-    seen: &mut IndexSet<&'a [u8]>,
-    names: &mut Items<Name>,
-    bytes: &'a [u8],
-) -> Result<u32, NoMemory>
-    requires { names.old ≡ map (λ r. name_of r.now) seen.old.keys }
-    ensures number { IfOk result (λ n. n ≡ number_in names.old bytes.entry.now) }
-    ensures names { OnOk result (names.new ≡ names_with names.old bytes.entry.now) }
-    ensures kept { OnOk result (names.new ≡ map (λ r. name_of r.now) seen.new.keys) }
+/// What bytes say that are met for the first time. A name is put to the names.
+fn said_first(alloc: Global, names: &mut Items<Name>, bytes: &[u8]) -> Result<What, NoMemory>
+    requires { list_any (spells bytes.now) names.old ≡ false }
+    ensures what { IfOk result (λ w. w ≡ (named names.old bytes.now (sign_of bytes.now)).0) }
+    ensures names { OnOk result (names.new ≡ (named names.old bytes.now (sign_of bytes.now)).1) }
 {
-    let (at, is_new) = seen.insert_full(bytes)?;
-    if is_new {
-        names.push(Name {
-            bytes: Items::from_slice(alloc, bytes)?,
-        })?;
+    if let Some(sign) = sign_of(bytes) {
+        return Ok(What::Sign(sign));
     }
-    match u32::try_from(at) {
-        Ok(number) => Ok(number),
-        Err(_) => Err(NoMemory),
-    }
+    let Ok(number) = u32::try_from(names.len()) else {
+        return Err(NoMemory);
+    };
+    names.push(Name {
+        bytes: Items::from_slice(alloc, bytes)?,
+    })?;
+    Ok(What::Name(number, strategy_of(bytes)))
 }
 
-/// What a lexeme says. A new name is put to the names.
+/// What a lexeme says. Bytes that were met before are looked up; a new name is put to the names.
 fn said<'a>(
     alloc: Global,
-    seen: &mut IndexSet<&'a [u8]>,
+    met: &mut HashMap<&'a [u8], What>,
     names: &mut Items<Name>,
     kind: Kind,
     bytes: &'a [u8],
 ) -> Result<What, NoMemory>
-    requires { names.old ≡ map (λ r. name_of r.now) seen.old.keys }
+    requires { Recalls names.old (λ q. get_by (λ r. bytes_eq q r.now) met.old) }
     ensures what { IfOk result (λ w. w ≡ (said names.old kind bytes.entry.now).0) }
     ensures names { OnOk result (names.new ≡ (said names.old kind bytes.entry.now).1) }
-    ensures kept { OnOk result (names.new ≡ map (λ r. name_of r.now) seen.new.keys) }
+    ensures kept { OnOk result (Recalls names.new (λ q. get_by (λ r. bytes_eq q r.now) met.new)) }
 {
     if kind == Kind::Number {
         return Ok(What::Number(number_of(bytes)));
     }
-    match sign_of(bytes) {
-        Some(sign) => Ok(What::Sign(sign)),
-        None => {
-            let number = intern(alloc, seen, names, bytes)?;
-            Ok(What::Name(number, strategy_of(bytes)))
-        }
+    if let Some(what) = met.get(bytes) {
+        return Ok(*what);
     }
+    let what = said_first(alloc, names, bytes)?;
+    met.insert(bytes, what)?;
+    Ok(what)
 }
 
 /// The words of a text that falls into these lexemes, and its names.
@@ -99,12 +95,12 @@ fn words_of(
 ) -> Result<(Items<Word>, Items<Name>), NoMemory>
     ensures { IfOk result (λ w. (w.0, w.1) ≡ words_of text.now lexemes.now) }
 {
-    let mut seen: IndexSet<&[u8]> = IndexSet::new(alloc);
+    let mut met: HashMap<&[u8], What> = HashMap::new(alloc);
     let mut names = Items::new(alloc);
     let mut list = Items::new(alloc);
     for lexeme in lexemes {
         let bytes = bytes_at(text, *lexeme);
-        let what = said(alloc, &mut seen, &mut names, lexeme.kind, bytes)?;
+        let what = said(alloc, &mut met, &mut names, lexeme.kind, bytes)?;
         list.push(Word {
             what,
             line: lexeme.line,

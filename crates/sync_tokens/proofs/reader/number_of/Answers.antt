@@ -1,5 +1,4 @@
-use Rattle.std.proofs.Common.{◌≡◌, ℕ, ◌+◌, ◌-◌, ◌*◌, ◌∙◌, ap, sym, List, drop, min, get_or, arith, add-one, drop-cons}
-use Rattle.sync_tokens.specs.Words.{largest, decimal_after}
+use Rattle.std.proofs.Common.{arith}
 use Rattle.sync_tokens.proofs.Numbers.{goes_on}
 use Rattle.sync_tokens.proofs.reader.number_of.Goals as goal
 

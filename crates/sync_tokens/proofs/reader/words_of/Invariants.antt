@@ -1,6 +1,8 @@
-use Rattle.std.proofs.Common.{◌≡◌, List, [], drop, map}
-use Rattle.sync_tokens.specs.Words.{name_of, words_after}
+use Rattle.std.proofs.Common.{◌≡◌, [], drop}
+use Rattle.std.specs.HashMap.{get_by}
+use Rattle.std.specs.Str.{bytes_eq}
+use Rattle.sync_tokens.specs.Words.{words_after, Recalls}
 use Rattle.sync_tokens.proofs.reader.words_of.Given as goal
 
 abbrev pub invariant-loop-lexeme : goal.invariant-loop-lexeme
-invariant-loop-lexeme l = (l.names ≡ map (λ r. name_of r.now) l.seen.keys) × (words_after l.text l.list l.names (drop l.lexeme-index l.lexemes) ≡ words_after l.text [] [] l.lexemes)
+invariant-loop-lexeme l = Recalls l.names (λ q. get_by (λ r. bytes_eq q r.now) l.met) × (words_after l.text l.list l.names (drop l.lexeme-index l.lexemes) ≡ words_after l.text [] [] l.lexemes)
