@@ -11,11 +11,11 @@ use Rattle.sync_terms.specs.Stored.{Stored, Extends, formula}
 use Rattle.sync_kernel.specs.declared.branches.Said.{Said}
 use Rattle.sync_kernel.specs.declared.hypotheses.Hypotheses.{Hypotheses}
 use Rattle.sync_kernel.specs.declared.sequents.Hyp.{Hyp}
-use Rattle.sync_kernel.specs.Branches.{said_fact, facts_in, IsSaid, AreSaid, said_size, Begins}
+use Rattle.sync_kernel.specs.Branches.{said_fact, facts_in, AreSaid, said_size, Begins}
 use Rattle.sync_kernel.specs.Facts.{Fact, fact_of, denial, facts_size}
 use Rattle.sync_kernel.specs.Hypotheses.{AreReady, known_in}
 use Rattle.sync_kernel.specs.Literals.{literal_form}
-use Rattle.sync_kernel.proofs.Adding.{add_said, start_fact, started_facts}
+use Rattle.sync_kernel.proofs.Adding.{start_fact, started_facts}
 use Rattle.sync_kernel.proofs.Checking.{begins_before}
 use Rattle.sync_kernel.proofs.Fitting.{facts-more, AreSaid-more, size-in}
 
@@ -30,18 +30,12 @@ known_in-more s t h e r = facts-more s t h.branch e r.said
 
 -- ---- none, and one more
 
-pub none_ready : (s : Stored) (h : Hypotheses) → h.branch ≡ [] → AreReady s h
-none_ready s h is = record { said = subst (AreSaid s) (sym is) tt }
-
 pub none_known : (s : Stored) (h : Hypotheses) → h.branch ≡ [] → known_in s h ≡ []
 unfolding known_in
 none_known s h is = ap (facts_in s) is
 
 pub hyp_fact : (s : Stored) (x : Said) (h : Hyp) → x.name ≡ h.name → x.params ≡ h.params → x.says ≡ record { form = h.form; negated = false } → said_fact s x ≡ fact_of s h
 hyp_fact s x h name params says = λ i. record { name = name i; params = map (λ (p : Sym). p.0) (params i); form = literal_form s (says i) }
-
-pub more_ready : (s : Stored) (old new : Hypotheses) (x : Said) → AreReady s old → IsSaid s x → new.branch ≡ old.branch ++ x ∷ [] → AreReady s new
-more_ready s old new x r k is = record { said = add_said s old.branch new.branch x r.said k is }
 
 pub more_known : (s : Stored) (old new : Hypotheses) (x : Said) (f : Fact) → new.branch ≡ old.branch ++ x ∷ [] → said_fact s x ≡ f → known_in s new ≡ known_in s old ++ f ∷ []
 unfolding known_in

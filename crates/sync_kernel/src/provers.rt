@@ -47,7 +47,8 @@ fn readied(alloc: Global, terms: &Terms, hyps: &[Hyp]) -> Result<Hypotheses, All
 /// has another shape or parameters, K3 for another number of terms, K4 where `same` finds no contradiction, K5 to K7
 /// where the parts of a `sum` make none, and K8 where its terms, or the facts of a branch, have more than 1,000,000
 /// nodes. K9 is for a block that does not end in `same`, `sum` or `split`, at its end, or that goes on behind one, at
-/// the next step. The store keeps its trees. The hypotheses are as before, but not behind a refusal.
+/// the next step. The store keeps its trees. The hypotheses stay as they are, for the next claim; behind an error they may
+/// have gained facts, so nothing is to be proved from them any more.
 pub fn prove_from(
     alloc: Global,
     terms: &mut Terms,
@@ -72,7 +73,7 @@ pub fn prove_from(
     Ok(())
 }
 
-/// The same for a sequent.
+/// Checks that the script proves the sequent: its claim from its hypotheses.
 pub fn prove(alloc: Global, terms: &mut Terms, q: &Sequent, s: &Script) -> Result<(), Stop>
     requires hyps { AreForms terms.old q.now.hyps }
     requires claim { IsForm terms.old q.now.claim }
