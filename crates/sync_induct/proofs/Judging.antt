@@ -1,23 +1,20 @@
 -- The first proof of a title, by its place and by its script; and what a duty's proof is worth.
-use Rattle.std.proofs.Common.{◌≡◌, ℕ, suc, ◌+◌, ◌-◌, ◌^◌, ◌<◌, ◌≤◌, min, Bool, true, false, cond, ltb, ◌||◌, List, [], ◌∷◌, map, Option, Some, None, Result, refl, sym, ap, subst, ◌∙◌, inl, inr, arith, add-zero, zero-add}
-use Rattle.std.specs.Prelude.{slice_get, OnOk}
+use Rattle.std.proofs.Common.{◌≡◌, ℕ, suc, ◌+◌, ◌<◌, ◌≤◌, Bool, true, false, cond, ltb, ◌||◌, List, [], ◌∷◌, Option, Some, None, Result, refl, sym, ap, subst, ◌∙◌, inl, inr, arith, add-zero, zero-add}
+use Rattle.std.specs.Prelude.{not, slice_get}
 use Rattle.std.specs.Option.{is_some}
 use Rattle.std.proofs.lemmas.Bool.{cases_Bool, true≢false, false≢true, lt-ltb, le-ltb}
 use Rattle.sync_base.specs.declared.stops.Refusal.{Refusal}
 use Rattle.sync_base.specs.declared.stops.Rule.TheVariants.{I1, K8}
 use Rattle.sync_base.specs.declared.stops.Stop.{Stop}
 use Rattle.sync_base.specs.Outcome.{Passes}
-use Rattle.sync_terms.specs.Trees.{Formula, formula_size}
-use Rattle.sync_terms.specs.Values.{Given, IsValid}
+use Rattle.sync_terms.specs.Trees.{formula_size}
 use Rattle.sync_terms.specs.Stored.{Stored}
 use Rattle.sync_rules.specs.declared.claims.Obligation.{Obligation}
 use Rattle.sync_terms.specs.Plans.{Plan, plan_of}
-use Rattle.sync_kernel.specs.declared.sequents.Hyp.{Hyp}
-use Rattle.sync_kernel.specs.Facts.{fact_of, given}
 use Rattle.sync_kernel.specs.Scripts.{script_fault}
 use Rattle.sync_induct.specs.declared.index.Title.{Title}
 use Rattle.sync_induct.specs.declared.proofs.Proof.{Proof}
-use Rattle.sync_induct.specs.Duties.{Duty, facts_of, givens_of}
+use Rattle.sync_induct.specs.Duties.{Duty}
 use Rattle.sync_induct.specs.Titles.{titled, same_title, first_at}
 use Rattle.sync_induct.proofs.Titles.{none_of}
 use Rattle.sync_induct.specs.Checks.{ProofTree, title_of, titles_of, proofs_in, proof_of, sequent_size, is_large, judged, duty_fault}
@@ -108,8 +105,17 @@ or_right : (a b : Bool) → b ≡ true → (a || b) ≡ true
 or_right true b e = refl
 or_right false b e = e
 
-pub judged-large : (ps : List ProofTree) (d : Duty) (plan : Plan) → proof_of (titled d.obligation) ps ≡ Some plan → 1000000 < sequent_size d.facts d.claim → duty_fault ps d ≡ Some (record { line = d.obligation.line; rule = K8 })
-judged-large ps d plan e large = judged-too-large ps d plan e (or_right (ltb 1000000 (formula_size d.claim)) (ltb 1000000 (sequent_size d.facts d.claim)) (lt-ltb 1000000 (sequent_size d.facts d.claim) large))
+-- the test of the size of a sequent
+is_over : (b : Bool) → false ≡ not b → b ≡ true
+is_over true e = refl
+is_over false e = absurd (false≢true e)
+
+is_within : (b : Bool) → true ≡ not b → b ≡ false
+is_within true e = absurd (true≢false e)
+is_within false e = refl
+
+pub judged-large : (ps : List ProofTree) (d : Duty) (plan : Plan) → proof_of (titled d.obligation) ps ≡ Some plan → false ≡ not (ltb 1000000 (sequent_size d.facts d.claim)) → duty_fault ps d ≡ Some (record { line = d.obligation.line; rule = K8 })
+judged-large ps d plan e large = judged-too-large ps d plan e (or_right (ltb 1000000 (formula_size d.claim)) (ltb 1000000 (sequent_size d.facts d.claim)) (is_over (ltb 1000000 (sequent_size d.facts d.claim)) large))
 
 -- the claim alone is too large
 or_left : (a b : Bool) → a ≡ true → (a || b) ≡ true
@@ -122,20 +128,13 @@ large-claim d large = or_left (ltb 1000000 (formula_size d.claim)) (ltb 1000000 
 small-both : (a b : Bool) → a ≡ false → b ≡ false → (a || b) ≡ false
 small-both a b p q = rw p q
 
-pub judged-script : (ps : List ProofTree) (d : Duty) (plan : Plan) → proof_of (titled d.obligation) ps ≡ Some plan → formula_size d.claim ≤ 1000000 → sequent_size d.facts d.claim ≤ 1000000 → duty_fault ps d ≡ script_fault d.facts d.claim plan
+pub judged-script : (ps : List ProofTree) (d : Duty) (plan : Plan) → proof_of (titled d.obligation) ps ≡ Some plan → formula_size d.claim ≤ 1000000 → true ≡ not (ltb 1000000 (sequent_size d.facts d.claim)) → duty_fault ps d ≡ script_fault d.facts d.claim plan
 judged-script ps d plan e claim small = ap (judged d) e
     ∙ cond_not (is_large d) (Some (record { line = d.obligation.line; rule = K8 })) (script_fault d.facts d.claim plan)
-    (small-both (ltb 1000000 (formula_size d.claim)) (ltb 1000000 (sequent_size d.facts d.claim)) (le-ltb 1000000 (formula_size d.claim) claim) (le-ltb 1000000 (sequent_size d.facts d.claim) small))
+    (small-both (ltb 1000000 (formula_size d.claim)) (ltb 1000000 (sequent_size d.facts d.claim)) (le-ltb 1000000 (formula_size d.claim) claim) (is_within (ltb 1000000 (sequent_size d.facts d.claim)) small))
 
 pub passes-same : {A : Type 0} (r : Result A Stop) (x y : Option Refusal) → x ≡ y → Passes r x → Passes r y
 passes-same r x y e p = subst (λ (z : Option Refusal). Passes r z) e p
-
-givens-same : (s : Stored) (hs : List Hyp) → map (λ (h : Hyp). given (fact_of s h)) hs ≡ givens_of (facts_of s hs)
-givens-same s [] = refl
-givens-same s (h ∷ hs) = ap (λ (gs : List Given). given (fact_of s h) ∷ gs) (givens-same s hs)
-
-pub valid-same : {A : Type 0} (r : Result A Stop) (s : Stored) (hs : List Hyp) (claim : Formula) → OnOk r (IsValid (map (λ (h : Hyp). given (fact_of s h)) hs) claim) → OnOk r (IsValid (givens_of (facts_of s hs)) claim)
-valid-same r s hs claim h = subst (λ (gs : List Given). OnOk r (IsValid gs claim)) (givens-same s hs) h
 
 -- the script at the place that the index gives
 pub script-at : (s : Stored) (ps : List Proof) (t : Title) (i : ℕ) (p : Proof) → first_at t 0 (titles_of ps) ≡ Some i → slice_get ps i ≡ Some p → proof_of t (proofs_in s ps) ≡ Some (plan_of s p.script.block)
@@ -157,12 +156,6 @@ place-there s ps t i e none =
     apart f.proof both where
       apart : (a : Proof) → Some a ≡ None → ⊥
       apart a e = cc
-
-pub too-large : (size denied total : ℕ) → 1000000 < min (min size (2 ^ 64 - 1) + denied) 18446744073709551615 → total ≡ size + denied → 1000000 < total
-too-large size denied total h e = omega arith
-
-pub not-large : (size denied total : ℕ) → min (min size (2 ^ 64 - 1) + denied) 18446744073709551615 ≤ 1000000 → total ≡ size + denied → total ≤ 1000000
-not-large size denied total h e = omega arith
 
 -- ---- a duty whose claim there is not
 

@@ -22,34 +22,31 @@ use Rattle.sync_rules.specs.Obligations.{has_to_keep}
 use Rattle.sync_induct.specs.declared.index.Title.{Title}
 use Rattle.sync_induct.specs.declared.walks.Walk.{Walk}
 use Rattle.sync_induct.specs.Checklist.{Check, Proves, proves}
-use Rattle.sync_induct.specs.Checks.{ProofTree, duty_fault, checks_fault, duty_of, facts_size, capped}
-use Rattle.sync_induct.specs.Duties.{Duty, facts_of, closed_form, kept_duty, keeps_duties, IsProved}
+use Rattle.sync_induct.specs.Checks.{ProofTree, duty_fault, checks_fault, duty_of}
+use Rattle.sync_induct.specs.Duties.{Duty, closed_form, kept_duty, keeps_duties, IsProved}
 use Rattle.sync_induct.specs.Titles.{title}
 use Rattle.sync_induct.specs.Closing.{IsKeepable, AreWanted}
-use Rattle.sync_induct.specs.Walks.{IsWalk, values_of, known_of}
-use Rattle.sync_induct.proofs.Lasting.{walk-stays, facts-stay, known-stays, values-stay}
+use Rattle.sync_induct.specs.Walks.{IsWalk, HasCome, values_of, known_of}
+use Rattle.sync_induct.proofs.Lasting.{known-stays, as-come}
 use Rattle.sync_induct.proofs.Remaining.{Remains, remains-same, remains-past_one, remains-refused_one}
 
 module _ (s t : Stored) (e : Extends s t) (w : Walk) (walk : IsWalk s w) where
-  pub size-stays : w.size ≡ capped (facts_size (facts_of t w.sequent.hyps))
-  size-stays = walk.size ∙ ap (λ (k : List Fact). capped (facts_size k)) (sym (facts-stay s t e w.sequent.hyps walk.hyps))
-
   module _ (claim : FormId) (o : Obligation) (i : InvariantTree) (is : formula t claim ≡ closed_form (values_of s w) i) where
-    duty-is : duty_of t w.sequent.hyps claim o ≡ kept_duty o (known_of s w) (values_of s w) i
-    duty-is = let facts = facts-stay s t e w.sequent.hyps walk.hyps in λ j. record { obligation = o; facts = facts j; claim = is j }
+    duty-is : duty_of t w.hyps claim o ≡ kept_duty o (known_of s w) (values_of s w) i
+    duty-is = let facts = known-stays s t e w walk in λ j. record { obligation = o; facts = facts j; claim = is j }
 
-    pub passes-kept : {A : Type 0} (r : Result A Stop) (ps : List ProofTree) → Passes r (duty_fault ps (duty_of t w.sequent.hyps claim o)) → Passes r (duty_fault ps (kept_duty o (known_of s w) (values_of s w) i))
+    pub passes-kept : {A : Type 0} (r : Result A Stop) (ps : List ProofTree) → Passes r (duty_fault ps (duty_of t w.hyps claim o)) → Passes r (duty_fault ps (kept_duty o (known_of s w) (values_of s w) i))
     passes-kept r ps h = subst (λ (d : Duty). Passes r (duty_fault ps d)) duty-is h
 
-    pub proved-kept : {A : Type 0} (r : Result A Stop) → OnOk r (IsProved (duty_of t w.sequent.hyps claim o)) → OnOk r (IsProved (kept_duty o (known_of s w) (values_of s w) i))
+    pub proved-kept : {A : Type 0} (r : Result A Stop) → OnOk r (IsProved (duty_of t w.hyps claim o)) → OnOk r (IsProved (kept_duty o (known_of s w) (values_of s w) i))
     proved-kept r h = subst (λ (d : Duty). OnOk r (IsProved d)) duty-is h
 
 -- the duty of an invariant in a store that has grown
-pub here-is : (s t : Stored) (w v : Walk) (op line number j : ℕ) (x : Invariant) → Extends s t → IsWalk s w → v.sequent.hyps ≡ w.sequent.hyps → v.current ≡ w.current → IsForm s x.form → number ≡ j
+pub here-is : (s t : Stored) (w v : Walk) (op line number j : ℕ) (x : Invariant) → Extends s t → HasCome t v (known_of s w) (values_of s w) → IsForm s x.form → number ≡ j
     → kept_duty (record { op = op; claim = claims.Keeps number; line = line }) (known_of t v) (values_of t v) (invariant_tree t x) ≡ kept_duty (record { op = op; claim = claims.Keeps j; line = line }) (known_of s w) (values_of s w) (invariant_tree s x)
-here-is s t w v op line number j x e walk hyps current form n =
-    let facts = known-stays s t e w v walk hyps in
-    let last = values-stay s t e w v walk current in
+here-is s t w v op line number j x e come form n =
+    let facts = come.known in
+    let last = come.now in
     let same = (e.forms x.form form).1 in
     λ k. kept_duty (record { op = op; claim = claims.Keeps (n k); line = line }) (facts k) (last k) (record { name = x.name; params = symbols_of x.params; form = same k; line = x.line })
 
@@ -113,39 +110,33 @@ kept-end s o op facts last xs j ps all le h = remains-same ps all (kept_from s o
 -- where the loop stands before the invariant with index j, over the store t, having begun over s
 pub record IsKeeping (s t : Stored) (w v : Walk) (o : OperationTree) (op : ℕ) (xs : List Invariant) (ps : List ProofTree) (j : ℕ) : Type 0 where
   pub keeps : Extends s t
-  pub stands : IsWalk t v
-  pub hyps : v.sequent.hyps ≡ w.sequent.hyps
-  pub current : v.current ≡ w.current
+  pub come : HasCome t v (known_of s w) (values_of s w)
   pub left : Remains ps (kept_from s o op (known_of s w) (values_of s w) xs 0) (kept_from s o op (known_of s w) (values_of s w) xs j)
 
 pub same-keeping : (s t t' : Stored) (w v v' : Walk) (o : OperationTree) (op : ℕ) (xs : List Invariant) (ps : List ProofTree) (j : ℕ) → t' ≡ t → v' ≡ v → IsKeeping s t w v o op xs ps j → IsKeeping s t' w v' o op xs ps j
 same-keeping s t t' w v v' o op xs ps j e f h = subst (λ (u : Stored). IsKeeping s u w v' o op xs ps j) (sym e) (subst (λ (u : Walk). IsKeeping s t w u o op xs ps j) (sym f) h)
 
 module _ (s t : Stored) (w v : Walk) (o : OperationTree) (op : ℕ) (xs : List Invariant) (ps : List ProofTree) (j number : ℕ) (x : Invariant) (lt : j < length xs) (is : x ≡ get_or xs j x) (n : number ≡ j)
-    (walk : IsWalk s w) (keepable : AllByRecursion (IsKeepable s) xs) (h : IsKeeping s t w v o op xs ps j) where
+    (keepable : AllByRecursion (IsKeepable s) xs) (h : IsKeeping s t w v o op xs ps j) where
   -- the duty as the loop meets it
   abbrev pub duty_met : Duty
   duty_met = kept_duty (record { op = op; claim = claims.Keeps number; line = o.line }) (known_of t v) (values_of t v) (invariant_tree t x)
 
   met-is : duty_met ≡ duty_here s o op (known_of s w) (values_of s w) xs j x lt is
-  met-is = here-is s t w v op o.line number j x h.keeps walk h.hyps h.current (keepable-here s o op (known_of s w) (values_of s w) xs j x lt is keepable).form n
+  met-is = here-is s t w v op o.line number j x h.keeps h.come (keepable-here s o op (known_of s w) (values_of s w) xs j x lt is keepable).form n
 
   pub keeping-skips : has_to_keep o (invariant_tree s x) ≡ false → IsKeeping s t w v o op xs ps (j + 1)
   keeping-skips e = record {
     keeps = h.keeps;
-    stands = h.stands;
-    hyps = h.hyps;
-    current = h.current;
+    come = h.come;
     left = kept-skipped s o op (known_of s w) (values_of s w) xs j x lt is ps (kept_from s o op (known_of s w) (values_of s w) xs 0) h.left e;
   }
 
-  pub keeping-passes : (u : Stored) (y : Walk) → has_to_keep o (invariant_tree s x) ≡ true → Extends t u → y.sequent.hyps ≡ v.sequent.hyps → y.current ≡ v.current → y.size ≡ v.size → duty_fault ps duty_met ≡ None → IsProved duty_met
+  pub keeping-passes : (u : Stored) (y : Walk) → has_to_keep o (invariant_tree s x) ≡ true → Extends t u → HasCome u y (known_of t v) (values_of t v) → duty_fault ps duty_met ≡ None → IsProved duty_met
       → IsKeeping s u w y o op xs ps (j + 1)
-  keeping-passes u y e more hyps current size none proved = record {
+  keeping-passes u y e more come none proved = record {
     keeps = Extends-trans h.keeps more;
-    stands = walk-stays t u more v y h.stands hyps current size;
-    hyps = hyps ∙ h.hyps;
-    current = current ∙ h.current;
+    come = as-come u y _ _ _ _ come h.come.known h.come.now;
     left = kept-passed s o op (known_of s w) (values_of s w) xs j x lt is ps (kept_from s o op (known_of s w) (values_of s w) xs 0) h.left e
         (subst (λ (d : Duty). duty_fault ps d ≡ None) met-is none) (subst IsProved met-is proved);
   }

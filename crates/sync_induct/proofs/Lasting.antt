@@ -1,10 +1,12 @@
 -- What stays as it is while a store grows: facts, values, statements, walks.
-use Rattle.std.proofs.Common.{◌≡◌, List, [], ◌∷◌, map, Option, Some, None, refl, sym, ap, subst, ◌∙◌}
+use Rattle.std.proofs.Common.{◌≡◌, List, [], ◌∷◌, map, Option, Some, None, Result, Ok, Err, refl, sym, ap, subst, ◌∙◌}
+use Rattle.std.specs.Prelude.{OnOk}
 use Rattle.std.specs.List.{AllByRecursion}
+use Rattle.sync_base.specs.declared.stops.Stop.{Stop}
 use Rattle.sync_terms.specs.Trees.{Tree}
-use Rattle.sync_terms.specs.Trees as terms
 use Rattle.sync_terms.specs.declared.nodes.TermId.{TermId}
 use Rattle.sync_terms.specs.Stored.{Stored, tree, IsTerm, IsForm, Extends}
+use Rattle.sync_terms.proofs.Extending.{Extends-trans}
 use Rattle.sync_machine.specs.declared.machine.Pattern.{Pattern}
 use Rattle.sync_machine.specs.declared.machine.Pattern.TheVariants as patterns
 use Rattle.sync_machine.specs.declared.machine.Place.{Place}
@@ -16,13 +18,12 @@ use Rattle.sync_machine.specs.Machines.{PatternTree, PlaceTree, ActTree, StepTre
 use Rattle.sync_machine.specs.Machines as trees
 use Rattle.sync_machine.specs.declared.machine.Operation.{Operation}
 use Rattle.sync_machine.specs.Views.{invariant_tree, operation_tree, symbols_of, key_tree, pattern_tree, place_tree, act_tree, step_tree, steps_tree, HasKeyId, HasPatternId, HasPlaceIds, HasActIds}
-use Rattle.sync_kernel.specs.declared.sequents.Hyp.{Hyp}
-use Rattle.sync_kernel.specs.Facts.{Fact, fact_of}
+use Rattle.sync_kernel.specs.Facts.{Fact}
+use Rattle.sync_kernel.specs.Hypotheses.{AreReady, known_in}
+use Rattle.sync_kernel.proofs.Assuming.{AreReady-more, known_in-more}
 use Rattle.sync_induct.specs.declared.walks.Walk.{Walk}
-use Rattle.sync_induct.specs.Checks.{facts_size, capped}
-use Rattle.sync_induct.specs.Duties.{facts_of, HaveForms}
 use Rattle.sync_induct.specs.Closing.{IsKeepable}
-use Rattle.sync_induct.specs.Walks.{values_of, known_of, IsWalk}
+use Rattle.sync_induct.specs.Walks.{values_of, known_of, IsWalk, HasCome}
 
 module _ (s t : Stored) (e : Extends s t) where
   key-stays : (o : Option TermId) → HasKeyId s o → key_tree t o ≡ key_tree s o
@@ -86,17 +87,6 @@ module _ (s t : Stored) (e : Extends s t) where
   keepable-stays [] h = tt
   keepable-stays (i ∷ is) h = (record { form = (e.forms i.form h.0.form).0; names = h.0.names }, keepable-stays is h.1)
 
-  fact-stays : (h : Hyp) → IsForm s h.form → fact_of t h ≡ fact_of s h
-  fact-stays h i = ap (λ (f : terms.Formula). record { name = h.name; params = map (λ x. x.0) h.params; form = f }) (e.forms h.form i).1
-
-  pub facts-stay : (hs : List Hyp) → HaveForms s hs → facts_of t hs ≡ facts_of s hs
-  facts-stay [] h = refl
-  facts-stay (x ∷ hs) h = let one = fact-stays x h.0 in let more = facts-stay hs h.1 in λ i. one i ∷ more i
-
-  pub forms-stay : (hs : List Hyp) → HaveForms s hs → HaveForms t hs
-  forms-stay [] h = tt
-  forms-stay (x ∷ hs) h = ((e.forms x.form h.0).0, forms-stay hs h.1)
-
   pub forms-in : (is : List Invariant) → AllByRecursion (λ (i : Invariant). IsForm s i.form) is → AllByRecursion (λ (i : Invariant). IsForm t i.form) is
   forms-in [] h = tt
   forms-in (i ∷ is) h = ((e.forms i.form h.0).0, forms-in is h.1)
@@ -117,15 +107,29 @@ module _ (s t : Stored) (e : Extends s t) where
   terms-stay (x ∷ xs) h = ((e.terms x h.0).0, terms-stay xs h.1)
 
   -- a walk that has not moved is one over the larger store, with the same facts and values
-  pub walk-stays : (w v : Walk) → IsWalk s w → v.sequent.hyps ≡ w.sequent.hyps → v.current ≡ w.current → v.size ≡ w.size → IsWalk t v
-  walk-stays w v h hyps current size = record {
-    hyps = subst (λ (hs : List Hyp). HaveForms t hs) (sym hyps) (forms-stay w.sequent.hyps h.hyps);
-    values = subst (λ c. AllByRecursion (IsTerm t) c.items) (sym current) (terms-stay w.current.items h.values);
-    size = size ∙ (h.size ∙ ap (λ (k : List Fact). capped (facts_size k)) (sym (ap (facts_of t) hyps ∙ facts-stay w.sequent.hyps h.hyps)));
-  }
+  pub walk-stays : (w : Walk) → IsWalk s w → IsWalk t w
+  walk-stays w h = record { ready = AreReady-more s t w.hyps e h.ready; values = terms-stay w.current.items h.values }
 
-  pub known-stays : (w v : Walk) → IsWalk s w → v.sequent.hyps ≡ w.sequent.hyps → known_of t v ≡ known_of s w
-  known-stays w v h hyps = ap (facts_of t) hyps ∙ facts-stay w.sequent.hyps h.hyps
+  pub known-stays : (w : Walk) → IsWalk s w → known_of t w ≡ known_of s w
+  known-stays w h = known_in-more s t w.hyps e h.ready
 
-  pub values-stay : (w v : Walk) → IsWalk s w → v.current ≡ w.current → values_of t v ≡ values_of s w
-  values-stay w v h current = ap (λ c. map (tree t) c.items) current ∙ trees-stay w.current.items h.values
+  pub values-stay : (w : Walk) → IsWalk s w → values_of t w ≡ values_of s w
+  values-stay w h = trees-stay w.current.items h.values
+
+  pub stands : (w : Walk) → IsWalk s w → HasCome t w (known_of s w) (values_of s w)
+  stands w h = record { walk = walk-stays w h; known = known-stays w h; now = values-stay w h }
+
+-- the same where its hypotheses have been proved from, over a store that has grown again
+pub stands-behind : {A : Type 0} (r : Result A Stop) (s t u : Stored) (w v : Walk) → Extends s t → Extends t u → IsWalk s w → v.current ≡ w.current → OnOk r (AreReady u v.hyps) → OnOk r (known_in u v.hyps ≡ known_in t w.hyps)
+    → OnOk r (HasCome u v (known_of s w) (values_of s w))
+stands-behind (Ok x) s t u w v e more h current ready same =
+    let grown = Extends-trans e more in
+    record {
+      walk = record { ready = ready; values = subst (λ c. AllByRecursion (IsTerm u) c.items) (sym current) (terms-stay s u grown w.current.items h.values) };
+      known = same ∙ known-stays s t e w h;
+      now = ap (λ c. map (tree u) c.items) current ∙ values-stay s u grown w h;
+    }
+stands-behind (Err x) s t u w v e more h current ready same = tt
+
+pub as-come : (s : Stored) (v : Walk) (a b : List Fact) (c d : List Tree) → HasCome s v a c → a ≡ b → c ≡ d → HasCome s v b d
+as-come s v a b c d h e f = record { walk = h.walk; known = h.known ∙ e; now = h.now ∙ f }

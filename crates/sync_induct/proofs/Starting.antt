@@ -13,11 +13,10 @@ use Rattle.sync_machine.specs.Machines.{InvariantTree}
 use Rattle.sync_machine.specs.States.{sort_of, blank, first_values}
 use Rattle.sync_machine.specs.Views.{invariant_tree}
 use Rattle.sync_kernel.specs.Facts.{Fact}
+use Rattle.sync_kernel.specs.Hypotheses.{AreReady, known_in}
 use Rattle.sync_induct.specs.declared.walks.Walk.{Walk}
-use Rattle.sync_induct.specs.Checks.{facts_size, capped}
-use Rattle.sync_induct.specs.Duties.{facts_of, HaveForms, invariant_facts, base_facts}
+use Rattle.sync_induct.specs.Duties.{invariant_facts, base_facts}
 use Rattle.sync_induct.specs.Starts.{first_value, values_from}
-use Rattle.sync_kernel.specs.declared.sequents.Hyp.{Hyp}
 use Rattle.sync_induct.specs.Walks.{HaveTrees, HasCome, known_of, values_of}
 use Rattle.sync_induct.proofs.Lasting.{trees-stay, terms-stay, invariants-stay}
 
@@ -81,17 +80,8 @@ values-end m fs i le = ap (values_from m 0) (take_all i fs le) ∙ values-all m 
 -- ---- the walk
 
 -- nothing is known yet
-pub begins : (t : Stored) (w : Walk) (ts : List Tree) → w.sequent.hyps ≡ [] → w.size ≡ 0 → HaveTrees t w.current.items ts → HasCome t w [] ts
-unfolding facts_size
-begins t w ts hyps size have = record {
-  walk = record {
-    hyps = subst (λ (hs : List Hyp). HaveForms t hs) (sym hyps) tt;
-    values = have.terms;
-    size = size ∙ ap (λ (hs : List Hyp). capped (facts_size (facts_of t hs))) (sym hyps);
-  };
-  known = ap (facts_of t) hyps;
-  now = have.are;
-}
+pub begins : (t : Stored) (w : Walk) (ts : List Tree) → AreReady t w.hyps → known_in t w.hyps ≡ [] → HaveTrees t w.current.items ts → HasCome t w [] ts
+begins t w ts ready none have = record { walk = record { ready = ready; values = have.terms }; known = none; now = have.are }
 
 all-invariants : (m : OpMode) (is : List InvariantTree) → (m ≡ mode.Transition) ⊎ (m ≡ mode.Property) → base_facts m is ≡ invariant_facts is
 all-invariants m is (inl e) = ap (λ (k : OpMode). base_facts k is) e

@@ -16,7 +16,6 @@ use Rattle.sync_terms.specs.Trees.{Tree, Nil, Formula, tree_size, formula_size}
 use Rattle.sync_terms.specs.declared.nodes.TermId.{TermId}
 use Rattle.sync_terms.specs.declared.nodes.FormId.{FormId}
 use Rattle.sync_terms.specs.Stored.{Stored, tree, formula, IsTerm, IsForm, Extends}
-use Rattle.sync_terms.proofs.Extending.{Extends-trans}
 use Rattle.sync_machine.specs.declared.fields.Field.{Field}
 use Rattle.sync_machine.specs.declared.fields.Strategy.{Strategy}
 use Rattle.sync_machine.specs.declared.machine.Step.{Step}
@@ -25,7 +24,6 @@ use Rattle.sync_machine.specs.Statements.{safety, condition, after, field_of}
 use Rattle.sync_machine.specs.States.{strategy_of, current_of, advanced}
 use Rattle.sync_machine.specs.Views.{act_tree, step_tree}
 use Rattle.sync_acts.specs.Building.{HasCondition, Stops, condition_size}
-use Rattle.sync_kernel.specs.Facts.{Fact}
 use Rattle.sync_rules.specs.declared.claims.Claim.TheVariants as claims
 use Rattle.sync_rules.specs.declared.claims.Obligation.{Obligation}
 use Rattle.sync_induct.specs.declared.statements.Statement.{Statement}
@@ -34,7 +32,7 @@ use Rattle.sync_induct.specs.Duties.{Duty, safety_duties, condition_facts, IsPro
 use Rattle.sync_induct.specs.Checklist.{Check, Proves, Fits, proves, AreShown}
 use Rattle.sync_induct.specs.Checks.{ProofTree, duty_of, duty_fault, size_fault, check_fault, checks_fault}
 use Rattle.sync_induct.specs.Walks.{IsWalk, HasCome, IsStatement, values_of, known_of, safety_at, condition_at, value_at, owed, tree_or_nil, values_with, checks_at, facts_after, values_after}
-use Rattle.sync_induct.proofs.Lasting.{act-ids, step-stays, facts-stay, known-stays, values-stay}
+use Rattle.sync_induct.proofs.Lasting.{act-ids, step-stays, known-stays, values-stay, as-come}
 use Rattle.sync_induct.proofs.Remaining.{Remains, remains-whole, remains-past, remains-refused, remains-past_one, remains-refused_one}
 
 on-ok : {A E : Type 0} (r : Result A E) (P Q : Type 0) → (P → Q) → OnOk r P → OnOk r Q
@@ -105,18 +103,18 @@ pub shown-nothing : (s : Stored) (w : Walk) (a : Statement) → safety_at s a �
 shown-nothing s w a e = subst (λ (o : Option Formula). AreShown (owed_for s w a o)) (sym e) tt
 
 module _ (s t : Stored) (e : Extends s t) (w : Walk) (walk : IsWalk s w) (a : Statement) (claim : FormId) (built : HasCondition t (safety_at s a) (Some claim)) where
-  owed-is : owed s w a ≡ Proves (duty_of t w.sequent.hyps claim (obligation_of a)) ∷ []
+  owed-is : owed s w a ≡ Proves (duty_of t w.hyps claim (obligation_of a)) ∷ []
   owed-is =
-      let facts = sym (facts-stay s t e w.sequent.hyps walk.hyps) in
+      let facts = sym (known-stays s t e w walk) in
       owed-one s w a (formula t claim) (built-some t (safety_at s a) claim built).1
       ∙ (λ j. Proves (record { obligation = obligation_of a; facts = facts j; claim = formula t claim }) ∷ [])
 
-  pub passes-owed : {A : Type 0} (r : Result A Stop) (ps : List ProofTree) → Passes r (duty_fault ps (duty_of t w.sequent.hyps claim (obligation_of a))) → Passes r (checks_fault ps (owed s w a))
+  pub passes-owed : {A : Type 0} (r : Result A Stop) (ps : List ProofTree) → Passes r (duty_fault ps (duty_of t w.hyps claim (obligation_of a))) → Passes r (checks_fault ps (owed s w a))
   passes-owed r ps h =
-      subst (λ (x : Option Refusal). Passes r x) (sym (ap (checks_fault ps) owed-is ∙ one-fault ps (Proves (duty_of t w.sequent.hyps claim (obligation_of a))))) h
+      subst (λ (x : Option Refusal). Passes r x) (sym (ap (checks_fault ps) owed-is ∙ one-fault ps (Proves (duty_of t w.hyps claim (obligation_of a))))) h
 
-  pub shown-owed : {A : Type 0} (r : Result A Stop) → OnOk r (IsProved (duty_of t w.sequent.hyps claim (obligation_of a))) → OnOk r (AreShown (owed s w a))
-  shown-owed r h = on-ok r (IsProved (duty_of t w.sequent.hyps claim (obligation_of a))) (AreShown (owed s w a)) (λ p. subst (λ (cs : List Check). AreShown cs) (sym owed-is) (p, tt)) h
+  pub shown-owed : {A : Type 0} (r : Result A Stop) → OnOk r (IsProved (duty_of t w.hyps claim (obligation_of a))) → OnOk r (AreShown (owed s w a))
+  shown-owed r h = on-ok r (IsProved (duty_of t w.hyps claim (obligation_of a))) (AreShown (owed s w a)) (λ p. subst (λ (cs : List Check). AreShown cs) (sym owed-is) (p, tt)) h
 
 -- a safety condition that is too large
 pub large-owed : (s : Stored) (w : Walk) (a : Statement) (ps : List ProofTree) (A : Type 0) (stop : Stop) → limit < condition_size (safety_at s a)
@@ -128,32 +126,29 @@ large-owed s w a ps A stop lt refuses =
 
 -- ---- what is known behind it
 
-as-come : (s : Stored) (v : Walk) (a b : List Fact) (c d : List Tree) → HasCome s v a c → a ≡ b → c ≡ d → HasCome s v b d
-as-come s v a b c d h e f = record { walk = h.walk; known = h.known ∙ e; now = h.now ∙ f }
-
 module _ (s t : Stored) (e : Extends s t) (w v : Walk) (walk : IsWalk s w) (a : Statement) where
   pub learned-some : (form : FormId) → HasCondition t (condition_at s a) (Some form) → HasCome t v (known_of t w ++ condition_facts a.number (Some (formula t form))) (values_of t w)
       → HasCome t v (known_of s w ++ condition_facts a.number (condition_at s a)) (values_of s w)
   learned-some form built c =
-      let known = known-stays s t e w w walk refl in
+      let known = known-stays s t e w walk in
       let some = sym (built-some t (condition_at s a) form built).1 in
-      as-come t v _ _ _ _ c (λ j. known j ++ condition_facts a.number (some j)) (values-stay s t e w w walk refl)
+      as-come t v _ _ _ _ c (λ j. known j ++ condition_facts a.number (some j)) (values-stay s t e w walk)
 
   pub learned-none : HasCondition t (condition_at s a) None → IsWalk t w → HasCome t w (known_of s w ++ condition_facts a.number (condition_at s a)) (values_of s w)
   learned-none built still =
       let none = sym (built-none t (condition_at s a) built) in
       record {
         walk = still;
-        known = known-stays s t e w w walk refl ∙ (sym (append-nil (known_of s w)) ∙ (λ j. known_of s w ++ condition_facts a.number (none j)));
-        now = values-stay s t e w w walk refl;
+        known = known-stays s t e w walk ∙ (sym (append-nil (known_of s w)) ∙ (λ j. known_of s w ++ condition_facts a.number (none j)));
+        now = values-stay s t e w walk;
       }
 
   -- what it leaves
   pub left-behind : (f : Option ℕ) (id : TermId) → f ≡ field_of (act_tree s a.step.act) → tree t id ≡ value_at s a → HasCome t v (known_of t w) (values_with f (tree t id) (values_of t w))
       → HasCome t v (known_of s w) (values_with (field_of (act_tree s a.step.act)) (value_at s a) (values_of s w))
   left-behind f id field value c =
-      let now = values-stay s t e w w walk refl in
-      as-come t v _ _ _ _ c (known-stays s t e w w walk refl) (λ j. values_with (field j) (value j) (now j))
+      let now = values-stay s t e w walk in
+      as-come t v _ _ _ _ c (known-stays s t e w walk) (λ j. values_with (field j) (value j) (now j))
 
 -- ---- a statement as the code holds it
 
@@ -221,7 +216,7 @@ module _ (s t : Stored) (e : Extends s t) (w : Walk) (walk : IsWalk s w) (fs : L
       let owner = is.owner in
       let number = is.number in
       let y = is.is in
-      let known = known-stays s t e w w walk refl in
+      let known = known-stays s t e w walk in
       let form = safety-is t fs op n (values_of s w) (step_tree s x) a is in
       λ j. proves (safety_duties (owner j) (number j) (y j).line (known j) (form j))
 
@@ -259,16 +254,15 @@ module _ (s t : Stored) (e : Extends s t) (w : Walk) (walk : IsWalk s w) (fs : L
       statement-shown r = any-way r (AreShown all) (value_left.shown (tt, tt))
 
       -- the walk w1 behind the safety condition, w2 behind what is known, w3 behind the value
-      pub statement-comes : {A : Type 0} (r : Result A Stop) (w1 w2 w3 : Walk) (z : Stored) → w1.sequent.hyps ≡ w.sequent.hyps → w1.current ≡ w.current
+      pub statement-comes : {A : Type 0} (r : Result A Stop) (w1 w2 w3 : Walk) (z : Stored) → HasCome u w1 (known_of t w) (values_of t w)
           → HasCome v w2 (known_of u w1 ++ condition_facts a.number (condition_at u a)) (values_of u w1)
           → OnOk r (HasCome z w3 (known_of v w2) (values_with (field_of (act_tree v a.step.act)) (value_at v a) (values_of v w2))) → OnOk r (HasCome z w3 (facts_after s fs n w x) (values_after s fs w x))
-      statement-comes r w1 w2 w3 z hyps current come h =
-          let grown = Extends-trans e more in
+      statement-comes r w1 w2 w3 z checked come h =
           let number = is.number in
-          let known = known-stays s u grown w w1 walk hyps in
+          let known = checked.known ∙ known-stays s t e w walk in
           let form = condition-is u fs op n (values_of s w) (step_tree s x) a still in
           let facts : known_of v w2 ≡ facts_after s fs n w x = come.known ∙ (λ j. known j ++ condition_facts (number j) (form j)) in
-          let now : values_of v w2 ≡ values_of s w = come.now ∙ values-stay s u grown w w1 walk current in
+          let now : values_of v w2 ≡ values_of s w = come.now ∙ (checked.now ∙ values-stay s t e w walk) in
           let y = at-last.is in
           let made = value-is v fs op n (values_of s w) (step_tree s x) a at-last in
           on-ok r (HasCome z w3 (known_of v w2) (values_with (field_of (act_tree v a.step.act)) (value_at v a) (values_of v w2))) (HasCome z w3 (facts_after s fs n w x) (values_after s fs w x))

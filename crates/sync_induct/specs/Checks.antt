@@ -1,5 +1,5 @@
 -- Whether a machine's proofs prove its obligations: nothing, or the first line and rule that they break.
-use Rattle.std.specs.Prelude.{ℕ, ◌+◌, ◌-◌, ◌^◌, min, List, [], ◌∷◌, ◌++◌, map, Bool, not, ◌&&◌, ◌||◌, nat_lt, Option, Some, None, if◌then◌else◌}
+use Rattle.std.specs.Prelude.{ℕ, ◌+◌, List, [], ◌∷◌, ◌++◌, map, Bool, not, ◌&&◌, ◌||◌, nat_lt, Option, Some, None, if◌then◌else◌}
 use Rattle.std.specs.List.{AllByRecursion, list_any}
 use Rattle.sync_base.specs.declared.stops.Refusal.{Refusal}
 use Rattle.sync_base.specs.declared.stops.Rule.TheVariants.{I1, I2, K8}
@@ -10,13 +10,14 @@ use Rattle.sync_terms.specs.Stored.{Stored, formula}
 use Rattle.sync_machine.specs.Machines.{MachineTree}
 use Rattle.sync_rules.specs.declared.claims.Obligation.{Obligation}
 use Rattle.sync_rules.specs.Obligations.{obligations_of}
-use Rattle.sync_kernel.specs.Facts.{Fact}
+use Rattle.sync_kernel.specs.Facts.{Fact, facts_size}
+use Rattle.sync_kernel.specs.Hypotheses.{known_in}
 use Rattle.sync_terms.specs.Plans.{Plan, plan_of, IsScriptOf}
 use Rattle.sync_kernel.specs.Scripts.{script_fault}
 use Rattle.sync_induct.specs.declared.proofs.Proof.{Proof}
 use Rattle.sync_induct.specs.declared.index.Title.{Title}
-use Rattle.sync_kernel.specs.declared.sequents.Hyp.{Hyp}
-use Rattle.sync_induct.specs.Duties.{Duty, facts_of}
+use Rattle.sync_kernel.specs.declared.hypotheses.Hypotheses.{Hypotheses}
+use Rattle.sync_induct.specs.Duties.{Duty}
 use Rattle.sync_induct.specs.Checklist.{Check, Proves, Fits, checks_of}
 use Rattle.sync_induct.specs.Titles.{titled, same_title}
 
@@ -58,11 +59,6 @@ unfoldable pub proof_of : Title → List ProofTree → Option Plan
 proof_of t [] = None
 proof_of t (p ∷ ps) = if same_title (titled p.title) t then Some p.plan else proof_of t ps
 
--- the nodes of all hypotheses
-unfoldable pub facts_size : List Fact → ℕ
-facts_size [] = 0
-facts_size (f ∷ fs) = formula_size f.form + facts_size fs
-
 -- the nodes of a sequent: of its hypotheses and of the denied claim
 abbrev pub sequent_size : List Fact → Formula → ℕ
 sequent_size facts claim = facts_size facts + formula_size (neg claim)
@@ -95,10 +91,6 @@ checks_fault ps (c ∷ cs) = first (check_fault ps c) (checks_fault ps cs)
 abbrev pub proof_fault : MachineTree → List ProofTree → Option Refusal
 proof_fault m ps = first (stray_fault (obligations_of m) [] (map (λ (p : ProofTree). p.title) ps)) (checks_fault ps (checks_of m))
 
--- a count that stands still at the end of its type
-abbrev pub capped : ℕ → ℕ
-capped n = min n (2 ^ 64 - 1)
-
 -- a duty as hypotheses and a claim of a store
-abbrev pub duty_of : Stored → List Hyp → FormId → Obligation → Duty
-duty_of s hyps claim o = record { obligation = o; facts = facts_of s hyps; claim = formula s claim }
+abbrev pub duty_of : Stored → Hypotheses → FormId → Obligation → Duty
+duty_of s hyps claim o = record { obligation = o; facts = known_in s hyps; claim = formula s claim }

@@ -14,9 +14,7 @@ use Rattle.sync_rules.specs.declared.claims.Claim.TheVariants as claims
 use Rattle.sync_rules.specs.declared.claims.Obligation.{Obligation}
 use Rattle.sync_rules.specs.Obligations.{has_to_keep}
 use Rattle.sync_terms.specs.Values.{Given}
-use Rattle.sync_terms.specs.Stored.{Stored, IsForm}
-use Rattle.sync_kernel.specs.declared.sequents.Hyp.{Hyp}
-use Rattle.sync_kernel.specs.Facts.{Fact, fact_of, given}
+use Rattle.sync_kernel.specs.Facts.{Fact, given}
 
 -- an obligation as a sequent: what may be used, and what has to follow from it
 pub record Duty : Type 0 where
@@ -93,14 +91,6 @@ duties_from fs is op (o ∷ os) = operation_duties fs is op o ++ duties_from fs 
 -- everything that has to be proved of a machine, in order
 abbrev pub duties_of : MachineTree → List Duty
 duties_of m = duties_from m.fields m.invariants 0 m.ops
-
--- hypotheses of a store as facts
-abbrev pub facts_of : Stored → List Hyp → List Fact
-facts_of s hs = map (fact_of s) hs
-
--- their formulas are of the store
-abbrev pub HaveForms : Stored → List Hyp → Type 0
-HaveForms s hs = AllByRecursion (λ (h : Hyp). IsForm s h.form) hs
 
 abbrev pub givens_of : List Fact → List Given
 givens_of facts = map given facts

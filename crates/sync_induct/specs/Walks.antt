@@ -11,11 +11,11 @@ use Rattle.sync_machine.specs.Statements.{safety, condition, after}
 use Rattle.sync_machine.specs.States.{strategy_of, current_of, advanced}
 use Rattle.sync_machine.specs.Views.{act_tree, step_tree, HasActIds}
 use Rattle.sync_kernel.specs.Facts.{Fact}
+use Rattle.sync_kernel.specs.Hypotheses.{AreReady, known_in}
 use Rattle.sync_induct.specs.declared.statements.Statement.{Statement}
 use Rattle.sync_induct.specs.declared.walks.Walk.{Walk}
-use Rattle.sync_induct.specs.Duties.{facts_of, HaveForms, safety_duties, step_facts}
+use Rattle.sync_induct.specs.Duties.{safety_duties, step_facts}
 use Rattle.sync_induct.specs.Checklist.{Check, proves, statement_checks}
-use Rattle.sync_induct.specs.Checks.{facts_size, capped}
 
 -- the fields' values so far
 abbrev pub values_of : Stored → Walk → List Tree
@@ -23,18 +23,17 @@ values_of s w = map (tree s) w.current.items
 
 -- the facts so far
 abbrev pub known_of : Stored → Walk → List Fact
-known_of s w = facts_of s w.sequent.hyps
+known_of s w = known_in s w.hyps
 
 -- ids of a store with these trees
 pub record HaveTrees (s : Stored) (ids : List TermId) (trees : List Tree) : Type 0 where
   pub terms : AllByRecursion (IsTerm s) ids
   pub are : map (tree s) ids ≡ trees
 
--- a walk over a store: its ids are of the store, and it has the size of its hypotheses
+-- a walk over a store: its ids are of the store
 pub record IsWalk (s : Stored) (w : Walk) : Type 0 where
-  pub hyps : HaveForms s w.sequent.hyps
+  pub ready : AreReady s w.hyps
   pub values : AllByRecursion (IsTerm s) w.current.items
-  pub size : w.size ≡ capped (facts_size (known_of s w))
 
 -- the walk has come to these facts and values
 pub record HasCome (s : Stored) (w : Walk) (facts : List Fact) (values : List Tree) : Type 0 where

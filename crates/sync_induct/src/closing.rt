@@ -16,7 +16,7 @@ ghost use Rattle.sync_induct.specs.Closing.{HavePairs, IsKeepable, AreWanted, do
 ghost use Rattle.sync_induct.specs.Closing as closing;
 ghost use Rattle.sync_induct.specs.Duties.{IsProved, closed_form, kept_duty, keeps_duties};
 ghost use Rattle.sync_induct.specs.Titles.{same_title, first_at};
-ghost use Rattle.sync_induct.specs.Walks.{IsWalk, known_of, values_of};
+ghost use Rattle.sync_induct.specs.Walks.{IsWalk, HasCome, known_of, values_of};
 
 use crate::index::{Book, Title};
 use crate::judges::{judge, too_large};
@@ -98,24 +98,19 @@ impl Walk {
         requires placed { (t : Named) → get same_title book.places.now t ≡ first_at t 0 (titles_of book.proofs.now) }
         ensures exact { Passes result (duty_fault (proofs_in terms.old book.entry.proofs.now) (kept_duty obligation (known_of terms.old self.old) (values_of terms.old self.old) (invariant_tree terms.old invariant.now))) }
         ensures proved { OnOk result (IsProved (kept_duty obligation (known_of terms.old self.old) (values_of terms.old self.old) (invariant_tree terms.old invariant.now))) }
+        ensures come { OnOk result (HasCome terms.new self.new (known_of terms.old self.old) (values_of terms.old self.old)) }
         ensures keeps { Extends terms.old terms.new }
-        ensures hyps { self.new.sequent.hyps ≡ self.old.sequent.hyps }
-        ensures size { self.new.size ≡ self.old.size }
-        ensures current { self.new.current ≡ self.old.current }
     {
         match self.closed(alloc, terms, invariant) {
-            Ok(claim) => {
-                self.sequent.claim = claim;
-                judge(
-                    alloc,
-                    terms,
-                    &self.sequent,
-                    self.size,
-                    book.proofs,
-                    book.places,
-                    obligation,
-                )
-            }
+            Ok(claim) => judge(
+                alloc,
+                terms,
+                &mut self.hyps,
+                claim,
+                book.proofs,
+                book.places,
+                obligation,
+            ),
             Err(TermStop::TooLarge) => Err(too_large(book, obligation)),
             Err(TermStop::Memory) => Err(Stop::Memory),
         }

@@ -4,19 +4,20 @@ ghost use Rattle.std.specs.HashMap.{get};
 ghost use Rattle.sync_base.specs.Outcome.{Passes};
 ghost use Rattle.sync_terms.specs.Stored.{Stored, Extends, IsForm, formula};
 ghost use Rattle.sync_terms.specs.Values.{IsValid};
-ghost use Rattle.sync_induct.specs.Checks.{titles_of, AreScriptsOf, proofs_in, duty_fault, duty_of, facts_size, is_large, capped};
-ghost use Rattle.sync_induct.specs.Duties.{Duty, facts_of, givens_of, HaveForms};
+ghost use Rattle.sync_kernel.specs.Hypotheses.{AreReady, known_in};
+ghost use Rattle.sync_induct.specs.Checks.{titles_of, AreScriptsOf, proofs_in, duty_fault, duty_of, is_large};
+ghost use Rattle.sync_induct.specs.Duties.{Duty, givens_of};
 ghost use Rattle.sync_induct.specs.Titles.{same_title, first_at};
 ghost use Rattle.sync_induct.specs.declared.index.Title.{Title};
 
 use crate::index::{Book, Places, Title};
 use crate::proofs::Proof;
-use crate::sizes::{LIMIT, denied_size};
+use crate::sizes::denied_size;
 use std::alloc::Global;
 use sync_base::{Refusal, Rule, Stop};
-use sync_kernel::{Sequent, prove};
+use sync_kernel::{Hypotheses, prove_from};
 use sync_rules::Obligation;
-use sync_terms::Terms;
+use sync_terms::{FormId, Terms};
 
 pub fn refused(line: u32, rule: Rule) -> Stop
     ensures { result ≡ Stop.Refused (record { line = line; rule = rule }) }
@@ -37,23 +38,24 @@ pub fn too_large(book: Book<'_>, obligation: Obligation) -> Stop
     }
 }
 
-/// Checks the proof of an obligation whose sequent is given, with the number of nodes of its hypotheses.
+/// Checks the proof of an obligation: that it proves the claim from the hypotheses, which stay as they are.
 pub fn judge(
     alloc: Global,
     terms: &mut Terms,
-    q: &Sequent,
-    size: u64,
+    hyps: &mut Hypotheses,
+    claim: FormId,
     proofs: &[Proof],
     places: &Places,
     obligation: Obligation,
 ) -> Result<(), Stop>
-    requires hyps { HaveForms terms.old q.now.hyps }
-    requires claim { IsForm terms.old q.now.claim }
-    requires size { size ≡ capped (facts_size (facts_of terms.old q.now.hyps)) }
+    requires ready { AreReady terms.old hyps.old }
+    requires claim { IsForm terms.old claim }
     requires scripts { AreScriptsOf terms.old proofs.now }
     requires placed { (t : Title) → get same_title places.now t ≡ first_at t 0 (titles_of proofs.now) }
-    ensures exact { Passes result (duty_fault (proofs_in terms.old proofs.now) (duty_of terms.old q.now.hyps q.now.claim obligation)) }
-    ensures valid { OnOk result (IsValid (givens_of (facts_of terms.old q.now.hyps)) (formula terms.old q.now.claim)) }
+    ensures exact { Passes result (duty_fault (proofs_in terms.old proofs.now) (duty_of terms.old hyps.old claim obligation)) }
+    ensures valid { OnOk result (IsValid (givens_of (known_in terms.old hyps.old)) (formula terms.old claim)) }
+    ensures ready { OnOk result (AreReady terms.new hyps.new) }
+    ensures same { OnOk result (known_in terms.new hyps.new ≡ known_in terms.old hyps.old) }
     ensures keeps { Extends terms.old terms.new }
 {
     let Some(&at) = places.get(&Title::new(obligation.op, obligation.claim)) else {
@@ -62,8 +64,8 @@ pub fn judge(
     let Some(proof) = sqlite_items::at(proofs, at) else {
         return Err(refused(obligation.line, Rule::I1));
     };
-    if LIMIT < size.saturating_add(denied_size(terms, q.claim)) {
+    if !hyps.fit(denied_size(terms, claim)) {
         return Err(refused(obligation.line, Rule::K8));
     }
-    prove(alloc, terms, q, &proof.script)
+    prove_from(alloc, terms, hyps, claim, &proof.script)
 }

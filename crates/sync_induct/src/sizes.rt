@@ -1,12 +1,9 @@
-//! How large a sequent is.
-ghost use Rattle.std.specs.Prelude.{◌≡◌, ◌+◌, ◌≤◌};
+//! How large a denied claim is.
+ghost use Rattle.std.specs.Prelude.{◌≡◌, ◌≤◌};
 ghost use Rattle.sync_terms.specs.Stored.{IsForm, formula};
 ghost use Rattle.sync_terms.specs.Trees.{formula_size, neg};
 
 use sync_terms::{FormId, FormNode, Terms};
-
-/// The most nodes of a sequent.
-pub const LIMIT: u64 = 1_000_000;
 
 /// The nodes of the negation of a claim.
 pub fn denied_size(terms: &Terms, claim: FormId) -> u64

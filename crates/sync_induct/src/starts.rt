@@ -13,9 +13,9 @@ use crate::walks::Walk;
 use sqlite_items::Items;
 use std::alloc::Global;
 use sync_base::{NoMemory, place_number};
-use sync_kernel::{Hyp, Sequent};
+use sync_kernel::{Hyp, Hypotheses};
 use sync_machine::{Field, Invariant, OpMode, Strategy};
-use sync_terms::{FormId, HypName, Node, Sym, TermId, Terms};
+use sync_terms::{HypName, Node, Sym, TermId, Terms};
 
 /// The node of a field's value before an init.
 #[tactic(auto, unfolding(sync_terms::specs::Stored::shape, sync_machine::specs::States::sort_of))]
@@ -87,11 +87,7 @@ impl Walk {
         ensures keeps { Extends terms.old terms.new }
     {
         let mut walk = Walk {
-            sequent: Sequent {
-                hyps: Items::new(alloc),
-                claim: FormId(0),
-            },
-            size: 0,
+            hyps: Hypotheses::new(alloc),
             current: first_values(alloc, terms, fields, mode)?,
         };
         match mode {

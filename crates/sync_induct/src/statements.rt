@@ -115,10 +115,8 @@ impl Walk {
         requires placed { (t : Named) → get same_title book.places.now t ≡ first_at t 0 (titles_of book.proofs.now) }
         ensures exact { Passes result (checks_fault (proofs_in terms.old book.entry.proofs.now) (owed terms.old self.old statement)) }
         ensures shown { OnOk result (AreShown (owed terms.old self.old statement)) }
+        ensures come { OnOk result (HasCome terms.new self.new (known_of terms.old self.old) (values_of terms.old self.old)) }
         ensures keeps { Extends terms.old terms.new }
-        ensures hyps { self.new.sequent.hyps ≡ self.old.sequent.hyps }
-        ensures size { self.new.size ≡ self.old.size }
-        ensures current { self.new.current ≡ self.old.current }
     {
         let Statement {
             op,
@@ -133,18 +131,15 @@ impl Walk {
             line: step.line,
         };
         match safety(terms, strategy, current, step.act) {
-            Ok(Some(claim)) => {
-                self.sequent.claim = claim;
-                judge(
-                    alloc,
-                    terms,
-                    &self.sequent,
-                    self.size,
-                    book.proofs,
-                    book.places,
-                    obligation,
-                )
-            }
+            Ok(Some(claim)) => judge(
+                alloc,
+                terms,
+                &mut self.hyps,
+                claim,
+                book.proofs,
+                book.places,
+                obligation,
+            ),
             Ok(None) => Ok(()),
             Err(TermStop::TooLarge) => Err(too_large(book, obligation)),
             Err(TermStop::Memory) => Err(Stop::Memory),

@@ -15,16 +15,14 @@ ghost use Rattle.sync_induct.specs.Titles.{same_title, first_at};
 use crate::index::Book;
 use std::alloc::Global;
 use sync_base::{NoMemory, Stop, place_number};
-use sync_kernel::{Hyp, Sequent};
+use sync_kernel::{Hyp, Hypotheses};
 use sync_machine::{Field, Step};
 use sync_terms::{TermId, Terms};
 
-/// What is known at a place of an operation: the hypotheses with their number of nodes, and each field's value so far
-/// as a term over the state before.
+/// What is known at a place of an operation: the hypotheses, and each field's value so far as a term over the state before.
 #[derive(Drop)]
 pub struct Walk {
-    pub sequent: Sequent,
-    pub size: u64,
+    pub hyps: Hypotheses,
     pub current: Vec<TermId>,
 }
 
@@ -37,9 +35,7 @@ impl Walk {
         requires form { IsForm terms.now hyp.form }
         ensures { OnOk result (HasCome terms.now self.new (known_of terms.now self.old ++ fact_of terms.now hyp ∷ []) (values_of terms.now self.old)) }
     {
-        let size = self.size.saturating_add(terms.size_of(hyp.form));
-        self.sequent.hyps.push(hyp)?;
-        self.size = size;
+        self.hyps.push(terms, hyp)?;
         Ok(())
     }
 

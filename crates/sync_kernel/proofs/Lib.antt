@@ -19,3 +19,4 @@ pub mod Keeping
 pub mod Parts
 pub mod LineRows
 pub mod SameSteps
+pub mod Assuming

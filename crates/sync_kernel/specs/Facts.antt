@@ -1,5 +1,5 @@
 -- What a proof step may use: the hypotheses of a sequent and the negation of its claim, newest last.
-use Rattle.std.specs.Prelude.{ℕ, ◌+◌, Bool, true, false, nat_eq, List, [], ◌∷◌, ◌++◌, map, Option, Some, None, if◌then◌else◌}
+use Rattle.std.specs.Prelude.{ℕ, ◌+◌, Bool, true, false, nat_eq, List, [], ◌∷◌, map, Option, Some, None, if◌then◌else◌}
 use Rattle.sync_base.specs.Outcome.{first}
 use Rattle.sync_terms.specs.declared.nodes.Sym.{Sym}
 use Rattle.sync_terms.specs.declared.nodes.FormId.{FormId}
@@ -9,7 +9,6 @@ use Rattle.sync_terms.specs.Trees.{Formula, neg, formula_size}
 use Rattle.sync_terms.specs.Values.{Given}
 use Rattle.sync_terms.specs.Stored.{Stored, formula}
 use Rattle.sync_kernel.specs.declared.sequents.Hyp.{Hyp}
-use Rattle.sync_kernel.specs.declared.sequents.Sequent.{Sequent}
 
 pub record Fact : Type 0 where
   pub name : HypName
@@ -39,15 +38,8 @@ denial claim = record { name = Denied; params = []; form = neg claim }
 abbrev pub denied : Stored → FormId → Fact
 denied s claim = denial (formula s claim)
 
-abbrev pub facts : Stored → Sequent → List Fact
-facts s q = map (fact_of s) q.hyps ++ denied s q.claim ∷ []
-
 abbrev pub given : Fact → Given
 given f = record { params = f.params; form = f.form }
-
--- the hypotheses of a sequent
-abbrev pub givens : Stored → Sequent → List Given
-givens s q = map (λ (h : Hyp). given (fact_of s h)) q.hyps
 
 -- a fact that a step gives a name
 abbrev pub named : ℕ → Formula → Fact

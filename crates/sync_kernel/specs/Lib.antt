@@ -11,3 +11,4 @@ pub mod Holding
 pub mod Stacks
 pub mod Opposed
 pub mod Kept
+pub mod Hypotheses

@@ -3,6 +3,7 @@
 
 mod blocks;
 mod branches;
+mod hypotheses;
 mod lines;
 mod literals;
 mod provers;
@@ -14,6 +15,7 @@ mod steps;
 mod stops;
 mod sums;
 
-pub use provers::prove;
+pub use hypotheses::Hypotheses;
+pub use provers::{prove, prove_from};
 pub use sequents::{Hyp, Sequent};
 pub use sync_terms::{Block, HypName, Part, Script, ScriptStep, StepKind};

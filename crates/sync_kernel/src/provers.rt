@@ -1,48 +1,79 @@
-//! The proof of a sequent by a script.
+//! The proof of a claim by a script.
 ghost use Rattle.std.specs.Prelude.{◌≡◌, OnOk, IfOk, map};
 ghost use Rattle.sync_base.specs.Outcome.{Passes};
 ghost use Rattle.sync_terms.specs.Stored.{Extends, IsForm, formula};
 ghost use Rattle.sync_terms.specs.Plans.{plan_of, IsScriptOf};
 ghost use Rattle.sync_terms.specs.Values.{IsValid};
-ghost use Rattle.sync_kernel.specs.Branches.{facts_in, AreSaid};
-ghost use Rattle.sync_kernel.specs.Facts.{facts, fact_of, given};
+ghost use Rattle.sync_kernel.specs.Facts.{fact_of, given};
 ghost use Rattle.sync_kernel.specs.Holding.{AreForms};
+ghost use Rattle.sync_kernel.specs.Hypotheses.{AreReady, known_in};
 ghost use Rattle.sync_kernel.specs.Scripts.{script_fault};
 
 use crate::blocks::check_block;
-use crate::branches::{Branch, Said};
+use crate::branches::Said;
+use crate::hypotheses::Hypotheses;
 use crate::literals::Literal;
-use crate::sequents::Sequent;
+use crate::sequents::{Hyp, Sequent};
 use sqlite_items::Items;
 use std::alloc::{AllocError, Global};
 use sync_base::Stop;
-use sync_terms::{HypName, Script, Terms};
+use sync_terms::{FormId, HypName, Script, Terms};
 
-/// The branch that a script begins with: the hypotheses, and the negation of the claim.
-fn started(alloc: Global, terms: &Terms, q: &Sequent) -> Result<Branch, AllocError>
-    requires hyps { AreForms terms.now q.now.hyps }
-    requires claim { IsForm terms.now q.now.claim }
-    ensures facts { IfOk result (λ b. facts_in terms.now b ≡ facts terms.now q.now) }
-    ensures said { IfOk result (AreSaid terms.now) }
+/// The hypotheses of a sequent, ready for a proof.
+fn readied(alloc: Global, terms: &Terms, hyps: &[Hyp]) -> Result<Hypotheses, AllocError>
+    requires { AreForms terms.now hyps.now }
+    ensures ready { IfOk result (AreReady terms.now) }
+    ensures known { IfOk result (λ h. known_in terms.now h ≡ map (fact_of terms.now) hyps.now) }
 {
-    let mut branch = Branch::new(alloc);
-    for hyp in q.hyps.as_slice() {
+    let mut ready = Hypotheses::new(alloc);
+    for hyp in hyps {
         let params = Items::from_slice(alloc, hyp.params.as_slice())?;
-        branch.push(Said::new(terms, hyp.name, params, Literal::plain(hyp.form)))?;
+        ready.push(
+            terms,
+            Hyp {
+                name: hyp.name,
+                params,
+                form: hyp.form,
+            },
+        )?;
     }
-    let denied = Literal::denial(terms, q.claim);
-    branch.push(Said::new(terms, HypName::Denied, Items::new(alloc), denied))?;
-    Ok(branch)
+    Ok(ready)
 }
 
-/// Checks that the script proves the sequent: its claim holds wherever its hypotheses do, those with parameters for all
+/// Checks that the script proves the claim from the hypotheses: it holds wherever they do, those with parameters for all
 /// that these may stand for.
 ///
 /// The refusal is the first broken rule, at its line. A step is refused with K1 where no fact has its name, K2 where the fact
 /// has another shape or parameters, K3 for another number of terms, K4 where `same` finds no contradiction, K5 to K7
 /// where the parts of a `sum` make none, and K8 where its terms, or the facts of a branch, have more than 1,000,000
 /// nodes. K9 is for a block that does not end in `same`, `sum` or `split`, at its end, or that goes on behind one, at
-/// the next step. The store keeps its trees.
+/// the next step. The store keeps its trees. The hypotheses stay as they are, for the next claim; behind an error they may
+/// have gained facts, so nothing is to be proved from them any more.
+pub fn prove_from(
+    alloc: Global,
+    terms: &mut Terms,
+    hyps: &mut Hypotheses,
+    claim: FormId,
+    s: &Script,
+) -> Result<(), Stop>
+    requires ready { AreReady terms.old hyps.old }
+    requires claim { IsForm terms.old claim }
+    requires script { IsScriptOf terms.old s.now.block }
+    ensures valid { OnOk result (IsValid (map given (known_in terms.old hyps.old)) (formula terms.old claim)) }
+    ensures exact { Passes result (script_fault (known_in terms.old hyps.old) (formula terms.old claim) (plan_of terms.old s.now.block)) }
+    ensures ready { OnOk result (AreReady terms.new hyps.new) }
+    ensures same { OnOk result (known_in terms.new hyps.new ≡ known_in terms.old hyps.old) }
+    ensures keeps { Extends terms.old terms.new }
+{
+    let len = hyps.branch.len();
+    let denied = Literal::denial(terms, claim);
+    hyps.branch.push(Said::new(terms, HypName::Denied, Items::new(alloc), denied))?;
+    check_block(alloc, terms, &mut hyps.branch, &s.block)?;
+    hyps.branch.cut_back(len);
+    Ok(())
+}
+
+/// Checks that the script proves the sequent: its claim from its hypotheses.
 pub fn prove(alloc: Global, terms: &mut Terms, q: &Sequent, s: &Script) -> Result<(), Stop>
     requires hyps { AreForms terms.old q.now.hyps }
     requires claim { IsForm terms.old q.now.claim }
@@ -51,6 +82,6 @@ pub fn prove(alloc: Global, terms: &mut Terms, q: &Sequent, s: &Script) -> Resul
     ensures exact { Passes result (script_fault (map (fact_of terms.old) q.now.hyps) (formula terms.old q.now.claim) (plan_of terms.old s.now.block)) }
     ensures keeps { Extends terms.old terms.new }
 {
-    let mut branch = started(alloc, terms, q)?;
-    check_block(alloc, terms, &mut branch, &s.block)
+    let mut hyps = readied(alloc, terms, q.hyps.as_slice())?;
+    prove_from(alloc, terms, &mut hyps, q.claim, s)
 }

@@ -1,17 +1,14 @@
+use Rattle.std.proofs.Common.{refl}
 use Rattle.sync_terms.proofs.Extending.{Extends-trans}
 use Rattle.sync_induct.specs.Checks.{proofs_in, duty_of}
 use Rattle.sync_induct.proofs.Judging.{large-claim}
-use Rattle.sync_induct.proofs.Keeping.{size-stays}
-use Rattle.sync_induct.proofs.Lasting.{forms-stay}
+use Rattle.sync_induct.proofs.Lasting.{walk-stays, stands, stands-behind}
 use Rattle.sync_induct.proofs.Scripts.{scripts-stay, duty-over}
 use Rattle.sync_induct.proofs.Stating.{answer-is, stop-is, built-none, obligation_of, passes-owed, shown-owed, owed-nothing, shown-nothing, large-owed}
 use Rattle.sync_induct.proofs.walks.Walk.check.Goals as goal
 
-pub judge-requires-clause-hyps : goal.judge-requires-clause-hyps
-judge-requires-clause-hyps c = forms-stay c.args.terms.now c.safety.new.terms c.in-Ok-Some.ensures.keeps c.args.self.now.sequent.hyps c.requires.walk.hyps
-
-pub judge-requires-clause-size : goal.judge-requires-clause-size
-judge-requires-clause-size c = size-stays c.args.terms.now c.safety.new.terms c.in-Ok-Some.ensures.keeps c.args.self.now c.requires.walk
+pub judge-requires-clause-ready : goal.judge-requires-clause-ready
+judge-requires-clause-ready c = (walk-stays c.args.terms.now c.safety.new.terms c.in-Ok-Some.ensures.keeps c.args.self.now c.requires.walk).ready
 
 pub judge-requires-clause-scripts : goal.judge-requires-clause-scripts
 judge-requires-clause-scripts c = scripts-stay c.args.terms.now c.safety.new.terms c.in-Ok-Some.ensures.keeps c.args.book.proofs.now c.requires.scripts
@@ -21,12 +18,16 @@ returns-in-Ok-Some-clause-exact c =
     passes-owed c.args.terms.now c.safety.new.terms c.in-Ok-Some.ensures.keeps c.args.self.now c.requires.walk c.args.statement c.in-Ok-Some.claim
     (answer-is c.safety.new.terms _ _ _ c.in-Ok-Some.field-0-is c.in-Ok-Some.ensures.built.value) c.judge.result (proofs_in c.args.terms.now c.args.book.proofs.now)
     (duty-over c.args.terms.now c.safety.new.terms c.in-Ok-Some.ensures.keeps c.args.book.proofs.now c.requires.scripts c.judge.result
-    (duty_of c.safety.new.terms c.args.self.now.sequent.hyps c.in-Ok-Some.claim (obligation_of c.args.statement)) c.judge.ensures.exact)
+    (duty_of c.safety.new.terms c.args.self.now.hyps c.in-Ok-Some.claim (obligation_of c.args.statement)) c.judge.ensures.exact)
 
 pub returns-in-Ok-Some-clause-shown : goal.returns-in-Ok-Some-clause-shown
 returns-in-Ok-Some-clause-shown c =
     shown-owed c.args.terms.now c.safety.new.terms c.in-Ok-Some.ensures.keeps c.args.self.now c.requires.walk c.args.statement c.in-Ok-Some.claim
     (answer-is c.safety.new.terms _ _ _ c.in-Ok-Some.field-0-is c.in-Ok-Some.ensures.built.value) c.judge.result c.judge.ensures.valid
+
+pub returns-in-Ok-Some-clause-come : goal.returns-in-Ok-Some-clause-come
+returns-in-Ok-Some-clause-come c =
+    stands-behind c.judge.result c.args.terms.now c.safety.new.terms c.judge.new.terms c.args.self.now _ c.in-Ok-Some.ensures.keeps c.judge.ensures.keeps c.requires.walk refl c.judge.ensures.ready c.judge.ensures.same
 
 pub returns-in-Ok-Some-clause-keeps : goal.returns-in-Ok-Some-clause-keeps
 returns-in-Ok-Some-clause-keeps c = Extends-trans c.in-Ok-Some.ensures.keeps c.judge.ensures.keeps
@@ -40,6 +41,9 @@ pub returns-in-Ok-None-clause-shown : goal.returns-in-Ok-None-clause-shown
 returns-in-Ok-None-clause-shown c =
     shown-nothing c.args.terms.now c.args.self.now c.args.statement
     (built-none c.safety.new.terms _ (answer-is c.safety.new.terms _ _ _ c.in-Ok-None.field-0-is c.in-Ok-None.ensures.built.value))
+
+pub returns-in-Ok-None-clause-come : goal.returns-in-Ok-None-clause-come
+returns-in-Ok-None-clause-come c = stands c.args.terms.now c.safety.new.terms c.in-Ok-None.ensures.keeps c.args.self.now c.requires.walk
 
 pub returns-in-Err-TooLarge-clause-exact : goal.returns-in-Err-TooLarge-clause-exact
 returns-in-Err-TooLarge-clause-exact c =

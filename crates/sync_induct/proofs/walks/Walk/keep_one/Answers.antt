@@ -5,16 +5,13 @@ use Rattle.sync_induct.specs.Checks.{proofs_in, duty_of}
 use Rattle.sync_induct.specs.Duties.{kept_duty}
 use Rattle.sync_induct.specs.Walks.{values_of, known_of}
 use Rattle.sync_induct.proofs.Judging.{large-claim}
-use Rattle.sync_induct.proofs.Keeping.{size-stays, passes-kept, proved-kept}
-use Rattle.sync_induct.proofs.Lasting.{forms-stay}
+use Rattle.sync_induct.proofs.Keeping.{passes-kept, proved-kept}
+use Rattle.sync_induct.proofs.Lasting.{walk-stays, stands-behind}
 use Rattle.sync_induct.proofs.Scripts.{scripts-stay, duty-over}
 use Rattle.sync_induct.proofs.walks.Walk.keep_one.Goals as goal
 
-pub judge-requires-clause-hyps : goal.judge-requires-clause-hyps
-judge-requires-clause-hyps c = forms-stay c.args.terms.now c.closed.new.terms c.in-Ok.ensures.keeps c.args.self.now.sequent.hyps c.requires.walk.hyps
-
-pub judge-requires-clause-size : goal.judge-requires-clause-size
-judge-requires-clause-size c = size-stays c.args.terms.now c.closed.new.terms c.in-Ok.ensures.keeps c.args.self.now c.requires.walk
+pub judge-requires-clause-ready : goal.judge-requires-clause-ready
+judge-requires-clause-ready c = (walk-stays c.args.terms.now c.closed.new.terms c.in-Ok.ensures.keeps c.args.self.now c.requires.walk).ready
 
 pub judge-requires-clause-scripts : goal.judge-requires-clause-scripts
 judge-requires-clause-scripts c = scripts-stay c.args.terms.now c.closed.new.terms c.in-Ok.ensures.keeps c.args.book.proofs.now c.requires.scripts
@@ -24,12 +21,16 @@ returns-in-Ok-clause-exact c =
     passes-kept c.args.terms.now c.closed.new.terms c.in-Ok.ensures.keeps c.args.self.now c.requires.walk c.in-Ok.claim c.args.obligation (invariant_tree c.args.terms.now c.args.invariant.now) c.in-Ok.ensures.value.1
     c.judge.result (proofs_in c.args.terms.now c.args.book.proofs.now)
     (duty-over c.args.terms.now c.closed.new.terms c.in-Ok.ensures.keeps c.args.book.proofs.now c.requires.scripts c.judge.result
-    (duty_of c.closed.new.terms c.args.self.now.sequent.hyps c.in-Ok.claim c.args.obligation) c.judge.ensures.exact)
+    (duty_of c.closed.new.terms c.args.self.now.hyps c.in-Ok.claim c.args.obligation) c.judge.ensures.exact)
 
 pub returns-in-Ok-clause-proved : goal.returns-in-Ok-clause-proved
 returns-in-Ok-clause-proved c =
     proved-kept c.args.terms.now c.closed.new.terms c.in-Ok.ensures.keeps c.args.self.now c.requires.walk c.in-Ok.claim c.args.obligation (invariant_tree c.args.terms.now c.args.invariant.now) c.in-Ok.ensures.value.1
     c.judge.result c.judge.ensures.valid
+
+pub returns-in-Ok-clause-come : goal.returns-in-Ok-clause-come
+returns-in-Ok-clause-come c =
+    stands-behind c.judge.result c.args.terms.now c.closed.new.terms c.judge.new.terms c.args.self.now _ c.in-Ok.ensures.keeps c.judge.ensures.keeps c.requires.walk refl c.judge.ensures.ready c.judge.ensures.same
 
 pub returns-in-Ok-clause-keeps : goal.returns-in-Ok-clause-keeps
 returns-in-Ok-clause-keeps c = Extends-trans c.in-Ok.ensures.keeps c.judge.ensures.keeps

@@ -1,10 +1,9 @@
-use Rattle.std.proofs.Common.{refl}
 use Rattle.sync_induct.proofs.Lasting.{walk-stays}
 use Rattle.sync_induct.proofs.Stating.{left-behind}
 use Rattle.sync_induct.proofs.walks.Walk.leave.Goals as goal
 
 pub assign-requires-clause-walk : goal.assign-requires-clause-walk
-assign-requires-clause-walk c = walk-stays c.args.terms.now c.after.new.terms c.in-Ok.ensures.keeps c.args.self.now c.args.self.now c.requires.walk refl refl refl
+assign-requires-clause-walk c = walk-stays c.args.terms.now c.after.new.terms c.in-Ok.ensures.keeps c.args.self.now c.requires.walk
 
 pub returns-clause-come : goal.returns-clause-come
 returns-clause-come c =

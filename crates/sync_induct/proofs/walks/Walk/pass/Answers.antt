@@ -1,4 +1,4 @@
-use Rattle.std.proofs.Common.{Err, refl, rules}
+use Rattle.std.proofs.Common.{Err, rules}
 use Rattle.sync_terms.proofs.Extending.{Extends-trans}
 use Rattle.sync_induct.specs.Checks.{proofs_in}
 use Rattle.sync_induct.proofs.Lasting.{walk-stays}
@@ -7,7 +7,7 @@ use Rattle.sync_induct.proofs.Stating.{safety-refused, known-refused, statement-
 use Rattle.sync_induct.proofs.walks.Walk.pass.Goals as goal
 
 pub check-requires-clause-walk : goal.check-requires-clause-walk
-check-requires-clause-walk c = walk-stays c.args.terms.now c.meet.new.terms c.in_ok-statement.ensures.keeps c.args.self.now c.args.self.now c.requires.walk refl refl refl
+check-requires-clause-walk c = walk-stays c.args.terms.now c.meet.new.terms c.in_ok-statement.ensures.keeps c.args.self.now c.requires.walk
 
 pub check-requires-clause-scripts : goal.check-requires-clause-scripts
 check-requires-clause-scripts c = scripts-stay c.args.terms.now c.meet.new.terms c.in_ok-statement.ensures.keeps c.args.book.proofs.now c.requires.scripts
@@ -23,9 +23,7 @@ pub returns-in_err-check-clause-keeps : goal.returns-in_err-check-clause-keeps
 returns-in_err-check-clause-keeps c = Extends-trans c.in_ok-statement.ensures.keeps c.in_err-check.ensures.keeps
 
 pub learn-requires-clause-walk : goal.learn-requires-clause-walk
-learn-requires-clause-walk c =
-    let e = c.in_ok-check.ensures in
-    walk-stays c.args.terms.now c.check.new.terms (Extends-trans c.in_ok-statement.ensures.keeps e.keeps) c.args.self.now c.check.new.self c.requires.walk e.hyps e.current e.size
+learn-requires-clause-walk c = c.in_ok-check.ensures.come.walk
 
 pub returns-in_err-learn-clause-exact : goal.returns-in_err-learn-clause-exact
 returns-in_err-learn-clause-exact c =
@@ -57,7 +55,7 @@ returns-clause-come c =
     let l = c.in_ok-learn.ensures in
     statement-comes c.args.terms.now c.meet.new.terms c.in_ok-statement.ensures.keeps c.args.self.now c.requires.walk c.args.fields.now c.args.op c.args.number c.args.step c.in_ok-statement.statement c.in_ok-statement.ensures.is
     (proofs_in c.args.terms.now c.args.book.proofs.now) (none-over c.args.terms.now c.meet.new.terms c.in_ok-statement.ensures.keeps c.args.book.proofs.now c.requires.scripts _ e.exact) e.shown c.check.new.terms e.keeps l.exact c.learn.new.terms l.keeps c.leave.result
-    c.check.new.self c.learn.new.self c.leave.new.self c.leave.new.terms e.hyps e.current l.come c.leave.ensures.come
+    c.check.new.self c.learn.new.self c.leave.new.self c.leave.new.terms e.come l.come c.leave.ensures.come
 
 pub returns-clause-keeps : goal.returns-clause-keeps
 returns-clause-keeps c = Extends-trans c.in_ok-statement.ensures.keeps (Extends-trans c.in_ok-check.ensures.keeps (Extends-trans c.in_ok-learn.ensures.keeps c.leave.ensures.keeps))

@@ -1,0 +1,51 @@
+//! Hypotheses that are ready for the proofs of many claims.
+ghost use Rattle.std.specs.Prelude.{◌≡◌, ◌+◌, ◌++◌, ◌∷◌, [], not, nat_lt, OnOk};
+ghost use Rattle.sync_terms.specs.Kept.{limit};
+ghost use Rattle.sync_terms.specs.Stored.{Stored, IsForm};
+ghost use Rattle.sync_kernel.specs.Facts.{fact_of, facts_size};
+
+use crate::branches::{Branch, Said};
+use crate::literals::Literal;
+use crate::sequents::Hyp;
+use std::alloc::{AllocError, Global};
+use sync_terms::Terms;
+
+/// Hypotheses by their names, newest last, from which scripts may prove.
+#[derive(Drop)]
+pub struct Hypotheses {
+    pub(crate) branch: Branch,
+}
+
+impl Hypotheses {
+    ghost use Rattle.sync_kernel.specs.Hypotheses.{AreReady, known_in};
+
+    /// No hypotheses.
+    pub fn new(alloc: Global) -> Hypotheses
+        ensures ready { (s : Stored) → AreReady s result }
+        ensures known { (s : Stored) → known_in s result ≡ [] }
+    {
+        Hypotheses {
+            branch: Branch::new(alloc),
+        }
+    }
+
+    /// Adds a hypothesis, the newest.
+    pub fn push(&mut self, terms: &Terms, hyp: Hyp) -> Result<(), AllocError>
+        requires ready { AreReady terms.now self.old }
+        requires form { IsForm terms.now hyp.form }
+        ensures ready { OnOk result (AreReady terms.now self.new) }
+        ensures known { OnOk result (known_in terms.now self.new ≡ known_in terms.now self.old ++ fact_of terms.now hyp ∷ []) }
+    {
+        let says = Literal::plain(hyp.form);
+        self.branch
+            .push(Said::new(terms, hyp.name, hyp.params, says))?;
+        Ok(())
+    }
+
+    /// Whether their formulas have at most 1,000,000 nodes together with so many more.
+    pub fn fit(&self, more: u64) -> bool
+        ensures { (s : Stored) → AreReady s self.now → result ≡ not (nat_lt limit (facts_size (known_in s self.now) + more)) }
+    {
+        self.branch.fits(more)
+    }
+}
