@@ -19,3 +19,6 @@ pub mod Keeping
 pub mod Parts
 pub mod LineRows
 pub mod SameSteps
+pub mod Trailing
+pub mod Closed
+pub mod Seeing

@@ -11,3 +11,5 @@ pub mod Holding
 pub mod Stacks
 pub mod Opposed
 pub mod Kept
+pub mod Trails
+pub mod Seen

@@ -8,11 +8,13 @@ mod literals;
 mod provers;
 mod rows;
 mod sames;
+mod seen;
 mod sequents;
 mod splits;
 mod steps;
 mod stops;
 mod sums;
+mod trails;
 
 pub use provers::prove;
 pub use sequents::{Hyp, Sequent};

@@ -12,6 +12,7 @@ ghost use Rattle.sync_kernel.specs.Scripts.{script_fault};
 use crate::blocks::check_block;
 use crate::branches::{Branch, Said};
 use crate::literals::Literal;
+use crate::seen::Seen;
 use crate::sequents::Sequent;
 use sqlite_items::Items;
 use std::alloc::{AllocError, Global};
@@ -52,5 +53,6 @@ pub fn prove(alloc: Global, terms: &mut Terms, q: &Sequent, s: &Script) -> Resul
     ensures keeps { Extends terms.old terms.new }
 {
     let mut branch = started(alloc, terms, q)?;
-    check_block(alloc, terms, &mut branch, &s.block)
+    let mut seen = Seen::new(alloc);
+    check_block(alloc, terms, &mut branch, &mut seen, &s.block)
 }
