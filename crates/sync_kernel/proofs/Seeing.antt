@@ -1,8 +1,9 @@
 -- What was seen of facts, while facts come and go and the store grows.
 use Rattle.std.proofs.Common.{◌≡◌, ℕ, zero, suc, ◌+◌, ◌-◌, ◌<◌, ◌≤◌, Bool, true, false, ◌&&◌, ◌||◌, if◌then◌else◌, List, [], ◌∷◌, ◌++◌, map, length, take, get_or, Option, Some, None, refl, sym, ap, subst, ◌∙◌, arith}
-use Rattle.std.specs.List.{list_any}
+use Rattle.std.specs.List.{list_any, AllZip}
 use Rattle.std.proofs.lemmas.Bool.{cond-true, cond-false}
 use Rattle.std.proofs.lemmas.List.{length_push, length-map, length-take, length-take-le, take_all, take-take, take-append-le, take-map, take_more, map_push, get_or-map}
+use Rattle.std.proofs.lemmas.Slice.Zip.{AllZip-long}
 use Rattle.sync_terms.specs.Trees.{Formula, Le, Lt, Eq, Not, And, Or, Imp}
 use Rattle.sync_terms.specs.Stored.{Stored, IsShared, Extends}
 use Rattle.sync_kernel.specs.declared.literals.Literal.{Literal}
@@ -17,7 +18,7 @@ use Rattle.sync_kernel.specs.Steps.{is_plain}
 use Rattle.sync_kernel.specs.Opposed.{is_fact, is_undone, is_closing_with}
 use Rattle.sync_kernel.specs.Stacks.{saids}
 use Rattle.sync_kernel.specs.Trails.{has_entry}
-use Rattle.sync_kernel.specs.Seen.{denied_by, says, denies, IsEntry, AreEntries, is_closed, HasSeen, looked, IsSeen}
+use Rattle.sync_kernel.specs.Seen.{denied_by, says, denies, IsEntry, is_closed, HasSeen, looked, IsSeen}
 use Rattle.sync_kernel.proofs.Fitting.{facts-more, literal-more, IsLiteral-more}
 use Rattle.sync_kernel.proofs.SameSteps.{literals_tell}
 use Rattle.sync_kernel.proofs.Closed.{closed_with, closed_take, open_before}
@@ -29,6 +30,9 @@ abbrev Wanted : Type 0
 Wanted = List (Option Formula)
 
 -- ---- entries
+
+abbrev AreEntries : Stored → Entries → Wanted → Type 0
+AreEntries s es fs = AllZip (IsEntry s) es fs
 
 entry-more : (s t : Stored) (e : Option Literal) (f : Option Formula) → Extends s t → IsEntry s e f → IsEntry t e f
 entry-more s t None None more h = tt
@@ -57,10 +61,7 @@ entries-take s (suc n) (e ∷ es) [] h = absurd h
 entries-take s (suc n) (e ∷ es) (f ∷ fs) h = (h.0, entries-take s n es fs h.1)
 
 entries_long : (s : Stored) (es : Entries) (fs : Wanted) → AreEntries s es fs → length es ≡ length fs
-entries_long s [] [] h = refl
-entries_long s [] (f ∷ fs) h = absurd h
-entries_long s (e ∷ es) [] h = absurd h
-entries_long s (e ∷ es) (f ∷ fs) h = ap suc (entries_long s es fs h.1)
+entries_long s es fs h = sym (AllZip-long (IsEntry s) es fs h)
 
 -- ---- a literal among them
 

@@ -1,6 +1,6 @@
 -- What `same` keeps of the facts that it looked at.
-use Rattle.std.specs.Prelude.{◌≡◌, ℕ, ◌-◌, ◌≤◌, Bool, false, List, [], ◌∷◌, map, length, take, Option, Some, None, if◌then◌else◌}
-use Rattle.std.specs.List.{list_any}
+use Rattle.std.specs.Prelude.{◌≡◌, ℕ, ◌-◌, ◌≤◌, Bool, false, List, map, length, take, Option, Some, None, if◌then◌else◌}
+use Rattle.std.specs.List.{list_any, AllZip}
 use Rattle.sync_terms.specs.Trees.{Formula, Le, Lt, Eq, Not, And, Or, Imp}
 use Rattle.sync_terms.specs.Stored.{Stored}
 use Rattle.sync_kernel.specs.declared.literals.Literal.{Literal}
@@ -34,21 +34,14 @@ IsEntry s None (Some f) = ⊥
 IsEntry s (Some l) None = ⊥
 IsEntry s (Some l) (Some f) = (literal_form s l ≡ f) × IsLiteral s l × IsBare s l
 
--- those of a list of formulas, place by place
-abbrev pub AreEntries : Stored → List (Option Literal) → List (Option Formula) → Type 0
-AreEntries s [] [] = Unit {0}
-AreEntries s [] (f ∷ fs) = ⊥
-AreEntries s (e ∷ es) [] = ⊥
-AreEntries s (e ∷ es) (f ∷ fs) = IsEntry s e f × AreEntries s es fs
-
 -- `same` closes a branch with these facts
 abbrev pub is_closed : List Fact → Bool
 is_closed facts = list_any (closes_same facts) facts
 
 -- all of these facts were looked at, and none before the newest closed the branch
 pub record HasSeen (s : Stored) (facts : List Fact) (seen : Seen) : Type 0 where
-  pub said : AreEntries s seen.said (map says facts)
-  pub denied : AreEntries s seen.denied (map denies facts)
+  pub said : AllZip (IsEntry s) seen.said (map says facts)
+  pub denied : AllZip (IsEntry s) seen.denied (map denies facts)
   pub before : is_closed (take (length facts - 1) facts) ≡ false
   pub closed : seen.closed ≡ is_closed facts
 

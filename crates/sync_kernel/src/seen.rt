@@ -12,7 +12,7 @@ use crate::trails::Trail;
 use std::alloc::{AllocError, Global};
 
 /// What the oldest facts of a branch say and deny, a place for each, and whether the newest of them made a
-/// contradiction. A fact with parameters has no part in it.
+/// contradiction. The places of a fact with parameters have no literals.
 #[derive(Drop)]
 pub(crate) struct Seen {
     pub said: Trail,
