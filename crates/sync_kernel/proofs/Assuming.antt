@@ -1,7 +1,7 @@
 -- Hypotheses that are ready: over a store that grows, with one more, and behind a proof.
 use Rattle.std.proofs.Common.{◌≡◌, ℕ, ◌+◌, Bool, false, List, [], ◌∷◌, ◌++◌, map, length, take, refl, sym, ap, subst, ◌∙◌}
 use Rattle.std.specs.Prelude.{not, nat_lt}
-use Rattle.std.proofs.lemmas.List.{map_push}
+use Rattle.std.proofs.lemmas.List.{map_push, take-map}
 use Rattle.sync_terms.specs.declared.nodes.Sym.{Sym}
 use Rattle.sync_terms.specs.declared.nodes.FormId.{FormId}
 use Rattle.sync_terms.specs.declared.scripts.HypName.TheVariants.{Denied}
@@ -11,18 +11,24 @@ use Rattle.sync_terms.specs.Stored.{Stored, Extends, formula}
 use Rattle.sync_kernel.specs.declared.branches.Said.{Said}
 use Rattle.sync_kernel.specs.declared.hypotheses.Hypotheses.{Hypotheses}
 use Rattle.sync_kernel.specs.declared.sequents.Hyp.{Hyp}
-use Rattle.sync_kernel.specs.Branches.{said_fact, facts_in, AreSaid, said_size, Begins}
+use Rattle.sync_terms.proofs.Extending.{Extends-refl}
+use Rattle.sync_kernel.specs.Branches.{said_fact, facts_in, IsSaid, AreSaid, said_size, Begins}
 use Rattle.sync_kernel.specs.Facts.{Fact, fact_of, denial, facts_size}
 use Rattle.sync_kernel.specs.Hypotheses.{AreReady, known_in}
 use Rattle.sync_kernel.specs.Literals.{literal_form}
+use Rattle.sync_kernel.specs.Seen.{IsSeen}
 use Rattle.sync_kernel.proofs.Adding.{start_fact, started_facts}
 use Rattle.sync_kernel.proofs.Checking.{begins_before}
-use Rattle.sync_kernel.proofs.Fitting.{facts-more, AreSaid-more, size-in}
+use Rattle.sync_kernel.proofs.Fitting.{facts-more, AreSaid-more, AreSaid-push, size-in, Begins-refl, Begins-push}
+use Rattle.sync_kernel.proofs.Seeing.{seen_grows}
 
 -- ---- over a store that grows
 
 pub AreReady-more : (s t : Stored) (h : Hypotheses) → Extends s t → AreReady s h → AreReady t h
-AreReady-more s t h e r = record { said = AreSaid-more s t h.branch e r.said }
+AreReady-more s t h e r = record {
+  said = AreSaid-more s t h.branch e r.said;
+  seen = seen_grows s t h.branch h.branch h.seen e r.said (Begins-refl h.branch) r.seen;
+}
 
 pub known_in-more : (s t : Stored) (h : Hypotheses) → Extends s t → AreReady s h → known_in t h ≡ known_in s h
 unfolding known_in
@@ -30,9 +36,19 @@ known_in-more s t h e r = facts-more s t h.branch e r.said
 
 -- ---- none, and one more
 
+pub none_ready : (s : Stored) (h : Hypotheses) → h.branch ≡ [] → IsSeen s (facts_in s h.branch) h.seen → AreReady s h
+none_ready s h is seen = record { said = subst (AreSaid s) (sym is) tt; seen = seen }
+
 pub none_known : (s : Stored) (h : Hypotheses) → h.branch ≡ [] → known_in s h ≡ []
 unfolding known_in
 none_known s h is = ap (facts_in s) is
+
+pub more_ready : (s : Stored) (old new : Hypotheses) (x : Said) → new.branch ≡ old.branch ++ x ∷ [] → new.seen ≡ old.seen → IsSaid s x → AreReady s old → AreReady s new
+more_ready s old new x is same said r = record {
+  said = subst (AreSaid s) (sym is) (AreSaid-push s old.branch x r.said said);
+  seen = subst (IsSeen s (facts_in s new.branch)) (sym same) (seen_grows s s old.branch new.branch old.seen (Extends-refl s) r.said
+      (subst (Begins old.branch) (sym is) (Begins-push old.branch old.branch x (Begins-refl old.branch))) r.seen);
+}
 
 pub hyp_fact : (s : Stored) (x : Said) (h : Hyp) → x.name ≡ h.name → x.params ≡ h.params → x.says ≡ record { form = h.form; negated = false } → said_fact s x ≡ fact_of s h
 hyp_fact s x h name params says = λ i. record { name = name i; params = map (λ (p : Sym). p.0) (params i); form = literal_form s (says i) }
@@ -55,8 +71,15 @@ begun s h new x claim is name params form = started_facts s h.branch new x (fact
 pub cut_is : (h : Hypotheses) (pushed ys new : List Said) (x : Said) (len : ℕ) → len ≡ length h.branch → pushed ≡ h.branch ++ x ∷ [] → Begins pushed ys → new ≡ take len ys → new ≡ h.branch
 cut_is h pushed ys new x len is push begins cut = cut ∙ ap (λ (n : ℕ). take n ys) is ∙ begins_before h.branch ys x (subst (λ (zs : List Said). Begins zs ys) push begins)
 
-pub cut_ready : (s t : Stored) (old new : Hypotheses) → Extends s t → AreReady s old → new.branch ≡ old.branch → AreReady t new
-cut_ready s t old new e r is = record { said = subst (AreSaid t) (sym is) (AreSaid-more s t old.branch e r.said) }
+pub begun_seen : (s : Stored) (h : Hypotheses) (new : List Said) (x : Said) → new ≡ h.branch ++ x ∷ [] → AreReady s h → IsSeen s (facts_in s new) h.seen
+begun_seen s h new x is r =
+    seen_grows s s h.branch new h.seen (Extends-refl s) r.said (subst (Begins h.branch) (sym is) (Begins-push h.branch h.branch x (Begins-refl h.branch))) r.seen
+
+pub cut_ready : (s t : Stored) (old new : Hypotheses) (ys : List Said) (len : ℕ) → Extends s t → AreReady s old → new.branch ≡ old.branch → new.branch ≡ take len ys → IsSeen t (take len (facts_in t ys)) new.seen → AreReady t new
+cut_ready s t old new ys len e r is cut seen = record {
+  said = subst (AreSaid t) (sym is) (AreSaid-more s t old.branch e r.said);
+  seen = subst (λ (fs : List Fact). IsSeen t fs new.seen) (take-map (said_fact t) len ys ∙ ap (facts_in t) (sym cut)) seen;
+}
 
 pub cut_known : (s t : Stored) (old new : Hypotheses) → Extends s t → AreReady s old → new.branch ≡ old.branch → known_in t new ≡ known_in s old
 unfolding known_in

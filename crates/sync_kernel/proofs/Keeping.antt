@@ -21,7 +21,7 @@ same_sign false false e = refl
 same_sign true false e = absurd (cc)
 same_sign false true e = absurd (cc)
 
-literal_is : (a b : Literal) → same_literal a b ≡ true → a ≡ b
+pub literal_is : (a b : Literal) → same_literal a b ≡ true → a ≡ b
 literal_is a b e =
     let p = and_parts (nat_eq a.form.0 b.form.0) (beq a.negated b.negated) e in
     ap (λ (n : ℕ). record { form = record { 0 = n }; negated = a.negated }) (eqb-true a.form.0 b.form.0 p.0) ∙ ap (λ (x : Bool). record { form = b.form; negated = x }) (same_sign a.negated b.negated p.1)

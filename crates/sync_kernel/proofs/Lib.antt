@@ -19,4 +19,7 @@ pub mod Keeping
 pub mod Parts
 pub mod LineRows
 pub mod SameSteps
+pub mod Trailing
+pub mod Closed
+pub mod Seeing
 pub mod Assuming

@@ -48,16 +48,16 @@ same_bool false true f g = g refl
 same_bool false false f g = refl
 
 -- ---- a fact of a list
-abbrev Among : Fact → List Fact → Type 0
+abbrev pub Among : Fact → List Fact → Type 0
 Among f [] = ⊥
 Among f (x ∷ xs) = (f ≡ x) ⊎ Among f xs
 
-any_from : (test : Fact → Bool) (f : Fact) (fs : List Fact) → Among f fs → test f ≡ true → list_any test fs ≡ true
+pub any_from : (test : Fact → Bool) (f : Fact) (fs : List Fact) → Among f fs → test f ≡ true → list_any test fs ≡ true
 any_from test f [] m t = absurd m
 any_from test f (x ∷ xs) (inl e) t = or_left (test x) (list_any test xs) (subst (λ (y : Fact). test y ≡ true) e t)
 any_from test f (x ∷ xs) (inr m) t = or_right (test x) (list_any test xs) (any_from test f xs m t)
 
-any_to : (test : Fact → Bool) (fs : List Fact) → list_any test fs ≡ true → (f : Fact) × Among f fs × (test f ≡ true)
+pub any_to : (test : Fact → Bool) (fs : List Fact) → list_any test fs ≡ true → (f : Fact) × Among f fs × (test f ≡ true)
 any_to test [] h = absurd (cc)
 any_to test (x ∷ xs) h = elim (or_cases (test x) (list_any test xs) h) [
   | inl e ↦ (x, inl refl, e)

@@ -1,10 +1,10 @@
 -- `same`, one fact after the other: what the code answers against what is defined.
-use Rattle.std.proofs.Common.{◌≡◌, ℕ, zero, suc, ◌<◌, length, get_or, ℤ, pos, Bool, true, false, cond, ◌&&◌, ◌||◌, if◌then◌else◌, List, [], ◌∷◌, ◌++◌, Option, Some, None, refl, sym, ap, subst, ◌∙◌, arith}
+use Rattle.std.proofs.Common.{◌≡◌, ℕ, ℤ, pos, Bool, true, false, ◌&&◌, if◌then◌else◌, List, [], Option, Some, None, refl, sym, ap, subst, ◌∙◌}
 use Rattle.std.specs.Prelude.{nat_eq, not, int_lt, ◌<ℤ◌, option_map}
 use Rattle.std.specs.Bool.{beq}
 use Rattle.std.specs.Ordering.{int_eq}
 use Rattle.std.specs.List.{list_any}
-use Rattle.std.proofs.lemmas.Bool.{and_parts, and_from, or_left, or_right, false_from_ne_true, both_ways}
+use Rattle.std.proofs.lemmas.Bool.{and_parts, and_from, false_from_ne_true, both_ways}
 use Rattle.std.proofs.lemmas.Bool.Decides.{Decides-int_eq}
 use Rattle.sync_base.specs.declared.stops.Rule.TheVariants.{K4}
 use Rattle.sync_terms.specs.declared.nodes.FormId.{FormId}
@@ -14,23 +14,18 @@ use Rattle.sync_linear.specs.Lines.{Line, IsLine}
 use Rattle.sync_linear.specs.Forms.{constant_of, Narrow}
 use Rattle.sync_linear.specs.Stores.{IsLineOf}
 use Rattle.sync_kernel.specs.declared.literals.Literal.{Literal}
-use Rattle.std.proofs.lemmas.List.{length-map, get_or-map}
-use Rattle.sync_kernel.specs.declared.branches.Said.{Said}
-use Rattle.sync_kernel.specs.declared.branches.Held.{Held}
-use Rattle.sync_kernel.specs.Stacks.{saids}
 use Rattle.sync_kernel.specs.declared.rows.Shape.{Shape}
 use Rattle.sync_kernel.specs.declared.rows.Kind.{Kind}
 use Rattle.sync_kernel.specs.declared.rows.Kind.TheVariants.{AtMostZero, Zero, NotZero}
 use Rattle.sync_kernel.specs.Facts.{Fact}
 use Rattle.sync_kernel.specs.Rows.{Row, narrow, no_atom, is_false, formula_eq}
-use Rattle.sync_kernel.specs.Steps.{at_line, is_false_row, same_fault, is_plain}
+use Rattle.sync_kernel.specs.Steps.{at_line, is_false_row, same_fault}
 use Rattle.sync_kernel.specs.Shapes.{row_shaped}
 use Rattle.sync_kernel.specs.Literals.{literal_form, IsLiteral, IsBare, same_literal, is_negation}
-use Rattle.sync_kernel.specs.Branches.{said_fact, facts_in}
-use Rattle.sync_kernel.specs.Opposed.{is_fact, is_undone, closes_same}
+use Rattle.sync_kernel.specs.Opposed.{closes_same}
 use Rattle.sync_kernel.proofs.Atoms.{is_narrow, narrow_is}
 use Rattle.sync_kernel.proofs.Closing.{empty_is, is_empty, shown, above}
-use Rattle.sync_kernel.proofs.Opposing.{same_bool, ids_tell, same_test, any_push}
+use Rattle.sync_kernel.proofs.Opposing.{same_bool, ids_tell, same_test}
 
 -- ---- lines without atoms
 module _ (s : Stored) (t : Tree) (l : Line) (is : IsLine l) (i : IsLineOf s t l) where
@@ -121,69 +116,9 @@ signs_tell s a b false false shared p q f g = and_yes (nat_eq a.0 b.0) ∙ ids_t
 pub literals_tell : (s : Stored) (a b : Literal) → IsShared s → IsLiteral s a → IsLiteral s b → IsBare s a → IsBare s b → same_literal a b ≡ formula_eq (literal_form s a) (literal_form s b)
 literals_tell s a b shared p q f g = signs_tell s a.form b.form a.negated b.negated shared p q f g
 
-not_undone : (fs : List Fact) (f : Formula) → is_negation f ≡ false → is_undone fs f ≡ false
-not_undone fs (Not f) h = absurd (cc)
-not_undone fs (Le a b) h = refl
-not_undone fs (Lt a b) h = refl
-not_undone fs (Eq a b) h = refl
-not_undone fs (And a b) h = refl
-not_undone fs (Or a b) h = refl
-not_undone fs (Imp a b) h = refl
-
-sign_undone : (fs : List Fact) (f : Formula) (m c : Bool) → (m ≡ false → is_negation f ≡ false) → c ≡ is_fact fs f → (m && c) ≡ is_undone fs (if m then Not f else f)
-sign_undone fs f true c h e = e
-sign_undone fs f false c h e = sym (not_undone fs f (h refl))
-
-pub undone_is : (s : Stored) (fs : List Fact) (says bare : Literal) (c : Bool) → literal_form s bare ≡ literal_form s says → IsBare s bare → c ≡ is_fact fs (formula s bare.form)
-    → (bare.negated && c) ≡ is_undone fs (literal_form s says)
-undone_is s fs says bare c same h e = sign_undone fs (formula s bare.form) bare.negated c h e ∙ ap (is_undone fs) same
-
--- ---- one fact after the other
-pub fact_more : (fs : List Fact) (f : Fact) (form : Formula) (b : Bool) → is_plain f ≡ true → b ≡ formula_eq f.form form → (is_fact fs form || b) ≡ is_fact (fs ++ f ∷ []) form
-fact_more fs f form b p e =
-    ap (λ (x : Bool). is_fact fs form || x) (e ∙ sym (ap (λ (x : Bool). x && formula_eq f.form form) p)) ∙ sym (any_push (λ (g : Fact). is_plain g && formula_eq g.form form) fs f)
-
-pub fact_less : (fs : List Fact) (f : Fact) (form : Formula) → is_plain f ≡ false → is_fact fs form ≡ is_fact (fs ++ f ∷ []) form
-fact_less fs f form p =
-    or_last (is_fact fs form) ∙ ap (λ (x : Bool). is_fact fs form || x) (sym (ap (λ (x : Bool). x && formula_eq f.form form) p)) ∙ sym (any_push (λ (g : Fact). is_plain g && formula_eq g.form form) fs f)
-  where
-    or_last : (b : Bool) → b ≡ (b || false)
-    or_last true = refl
-    or_last false = refl
-
 -- ---- the whole step
 pub fault_none : (line : ℕ) (fs : List Fact) → list_any (closes_same fs) fs ≡ true → at_line line (same_fault fs) ≡ None
 fault_none line fs h = ap (λ (b : Bool). at_line line (if b then None else Some K4)) (sym (same_test fs) ∙ h)
 
 pub fault_some : (line : ℕ) (fs : List Fact) → list_any (closes_same fs) fs ≡ false → at_line line (same_fault fs) ≡ Some (record { line = line; rule = K4 })
 fault_some line fs h = ap (λ (b : Bool). at_line line (if b then None else Some K4)) (sym (same_test fs) ∙ h)
-
-pub one_closes : (test : Fact → Bool) (s : Stored) (xs : List Said) (i : ℕ) (d : Said) → i < length xs → test (said_fact s (get_or xs i d)) ≡ true → list_any test (facts_in s xs) ≡ true
-one_closes test s [] i d lt t = absurd (omega arith)
-one_closes test s (x ∷ xs) zero d lt t = or_left (test (said_fact s x)) (list_any test (facts_in s xs)) t
-one_closes test s (x ∷ xs) (suc i) d lt t = or_right (test (said_fact s x)) (list_any test (facts_in s xs)) (one_closes test s xs i d (omega arith) t)
-
-or_none : (a b : Bool) → a ≡ false → b ≡ false → (a || b) ≡ false
-or_none true b e f = absurd (cc)
-or_none false b e f = f
-
-pub none_closes : (test : Fact → Bool) (fs : List Fact) (f : Fact) → list_any test fs ≡ false → test f ≡ false → list_any test (fs ++ f ∷ []) ≡ false
-none_closes test fs f h t = any_push test fs f ∙ or_none (list_any test fs) (test f) h t
-
--- ---- over the stack
-pub held_closes : (test : Fact → Bool) (s : Stored) (hs : List Held) (i : ℕ) (x : Held) → i < length hs → x ≡ get_or hs i x → test (said_fact s x.said) ≡ true → list_any test (facts_in s (saids hs)) ≡ true
-held_closes test s hs i x lt e t =
-    one_closes test s (saids hs) i x.said (omega (arith, length-map hs (λ (y : Held). y.said), lt))
-    (ap (λ (y : Said). test (said_fact s y)) (get_or-map (λ (y : Held). y.said) hs i x x.said lt) ∙ ap (λ (y : Held). test (said_fact s y.said)) (sym e) ∙ t)
-
-pub and_left_no : (a b : Bool) → a ≡ false → (a && b) ≡ false
-and_left_no a b e = ap (λ (x : Bool). x && b) e
-
-pub and_right_no : (a b : Bool) → b ≡ false → (a && b) ≡ false
-and_right_no a b e = ap (λ (x : Bool). a && x) e ∙ and_no a
-
-pub cond_or : (a b : Bool) → cond a true b ≡ (b || a)
-cond_or true true = refl
-cond_or true false = refl
-cond_or false true = refl
-cond_or false false = refl

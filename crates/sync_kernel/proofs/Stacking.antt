@@ -2,7 +2,7 @@
 use Rattle.std.proofs.Common.{rules, ◌≡◌, ◌⊎◌, inl, inr, ℕ, zero, suc, ◌+◌, ◌-◌, ◌<◌, ◌≤◌, Bool, true, false, cond, if◌then◌else◌, List, [], ◌∷◌, ◌++◌, length, take, get_or, Option, Some, None, Result, Ok, Err, refl, sym, ap, subst, ◌∙◌, arith}
 use Rattle.std.specs.Prelude.{option_map, OnOk, OnErr, IsOk, is_ok}
 use Rattle.std.proofs.lemmas.Bool.{cases_lt, cond-true, cond-false, eqb-true, eq-eqb}
-use Rattle.std.proofs.lemmas.List.{map_push, length-map, length_push, get_or_append_left, get_or_push, take-append-le, take_all, take_more}
+use Rattle.std.proofs.lemmas.List.{map_push, length-map, length_push, get_or_append_left, get_or_push, take-append-le, take_all}
 use Rattle.sync_base.specs.Outcome.{first}
 use Rattle.sync_terms.specs.declared.scripts.HypName.{HypName}
 use Rattle.sync_terms.specs.declared.scripts.HypName.TheVariants.{Label, Denied, At, Low, High}
@@ -27,7 +27,7 @@ name_is _ _ h = absurd (cc)
 
 -- ---- the newest of a name
 
-first_if : {A : Type 0} (b : Bool) (x : A) (o p : Option A) → first (if b then Some x else o) p ≡ (if b then Some x else first o p)
+pub first_if : {A : Type 0} (b : Bool) (x : A) (o p : Option A) → first (if b then Some x else o) p ≡ (if b then Some x else first o p)
 first_if true x o p = refl
 first_if false x o p = refl
 
@@ -223,8 +223,8 @@ pub on_ok : {A E : Type 0} (r : Result A E) (a : A) (P : Type 0) → r ≡ Ok a 
 on_ok (Ok x) a P e h = h
 on_ok (Err x) a P e h = absurd (cc)
 
-pub after_push : {E : Type 0} (r : Result (Unit {0}) E) (u : Unit {0}) (new old was : List Held) (h : Held) → r ≡ Ok u → new ≡ (if is_ok r then old ++ h ∷ [] else old) → old ≡ was → new ≡ was ++ h ∷ []
-after_push (Ok x) u new old was h e f g = f ∙ ap (λ (hs : List Held). hs ++ h ∷ []) g
+pub after_push : {A E : Type 0} (r : Result (Unit {0}) E) (u : Unit {0}) (new old was : List A) (h : A) → r ≡ Ok u → new ≡ (if is_ok r then old ++ h ∷ [] else old) → old ≡ was → new ≡ was ++ h ∷ []
+after_push (Ok x) u new old was h e f g = f ∙ ap (λ (hs : List _). hs ++ h ∷ []) g
 after_push (Err x) u new old was h e f g = absurd (cc)
 
 -- the fact at a place
@@ -232,9 +232,3 @@ pub said_at : (s : Stored) (hs : List Held) (i : ℕ) (d : Held) → AreSaid s (
 said_at s [] i d h lt = absurd (omega (arith, lt))
 said_at s (x ∷ xs) zero d h lt = h.0
 said_at s (x ∷ xs) (suc i) d h lt = said_at s xs i d h.1 (omega (arith, lt))
-
--- one fact more of a list
-pub said_more : (s : Stored) (hs : List Held) (i : ℕ) (x : Held) → i < length hs → x ≡ get_or hs i x → facts_in s (saids (take (i + 1) hs)) ≡ facts_in s (saids (take i hs)) ++ said_fact s x.said ∷ []
-said_more s hs i x lt e =
-    ap (λ (ys : List Held). facts_in s (saids ys)) (take_more hs i x lt) ∙ ap (facts_in s) (saids_push (take i hs) (get_or hs i x)) ∙ map_push (said_fact s) (saids (take i hs)) (get_or hs i x).said
-    ∙ ap (λ (y : Held). facts_in s (saids (take i hs)) ++ said_fact s y.said ∷ []) (sym e)

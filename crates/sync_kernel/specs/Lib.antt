@@ -11,4 +11,6 @@ pub mod Holding
 pub mod Stacks
 pub mod Opposed
 pub mod Kept
+pub mod Trails
+pub mod Seen
 pub mod Hypotheses

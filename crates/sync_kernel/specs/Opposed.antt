@@ -24,5 +24,9 @@ is_undone facts (Imp f g) = false
 abbrev pub is_closing : List Fact → Formula → Bool
 is_closing facts form = is_undone facts form || is_false_row (row_of form)
 
+-- the formula alone, or with such a fact on either side, is a contradiction
+abbrev pub is_closing_with : List Fact → Formula → Bool
+is_closing_with facts form = (is_undone facts form || is_fact facts (Not form)) || is_false_row (row_of form)
+
 abbrev pub closes_same : List Fact → Fact → Bool
 closes_same facts f = is_plain f && is_closing facts f.form

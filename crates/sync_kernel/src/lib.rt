@@ -9,11 +9,13 @@ mod literals;
 mod provers;
 mod rows;
 mod sames;
+mod seen;
 mod sequents;
 mod splits;
 mod steps;
 mod stops;
 mod sums;
+mod trails;
 
 pub use hypotheses::Hypotheses;
 pub use provers::{prove, prove_from};

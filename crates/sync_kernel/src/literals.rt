@@ -2,6 +2,7 @@
 ghost use Rattle.std.specs.Prelude.{◌≡◌, ◌≤◌, false};
 ghost use Rattle.sync_terms.specs.Stored.{IsForm, IsShared, formula};
 ghost use Rattle.sync_terms.specs.Trees.{neg, formula_size};
+ghost use Rattle.sync_kernel.specs.Seen.{IsEntry, denied_by};
 
 use sync_terms::{FormId, FormNode, Terms};
 
@@ -68,6 +69,19 @@ impl Literal {
             | FormNode::And(_, _)
             | FormNode::Or(_, _)
             | FormNode::Imp(_, _) => self,
+        }
+    }
+
+    /// What a bare literal denies: of `!F` it is F.
+    pub(crate) fn denied(self, terms: &Terms) -> Option<Literal>
+        requires stored { IsLiteral terms.now self }
+        requires bare { IsBare terms.now self }
+        ensures { IsEntry terms.now result (denied_by (literal_form terms.now self)) }
+    {
+        if self.negated {
+            Some(Literal::plain(self.form).bare(terms))
+        } else {
+            None
         }
     }
 

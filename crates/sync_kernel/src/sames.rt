@@ -1,42 +1,27 @@
 //! The step `same`.
-ghost use Rattle.std.specs.Prelude.{◌≡◌, ◌&&◌, IfOk};
-ghost use Rattle.std.specs.HashSet.{contains};
+ghost use Rattle.std.specs.Prelude.{◌≡◌, ◌+◌, ◌&&◌, ◌++◌, ◌∷◌, [], false, List, IfOk, OnOk};
 ghost use Rattle.sync_base.specs.Outcome.{Passes};
 ghost use Rattle.sync_terms.specs.Stored.{Stored, IsShared};
 ghost use Rattle.sync_terms.specs.Trees.{Tree};
 ghost use Rattle.sync_linear.specs.Forms.{constant_of};
 ghost use Rattle.sync_linear.specs.Stores.{IsLineOf};
-ghost use Rattle.sync_kernel.specs.declared.literals.Literal.{Literal};
-ghost use Rattle.sync_kernel.specs.Branches.{facts_in, AreSaid};
-ghost use Rattle.sync_kernel.specs.Stacks.{saids};
-ghost use Rattle.sync_kernel.specs.Literals.{literal_form, IsLiteral, IsBare, same_literal};
+ghost use Rattle.sync_kernel.specs.Facts.{Fact};
+ghost use Rattle.sync_kernel.specs.Branches.{said_fact, facts_in, IsSaid, AreSaid};
+ghost use Rattle.sync_kernel.specs.Literals.{literal_form, IsLiteral, IsBare};
 ghost use Rattle.sync_kernel.specs.Rows.{no_atom, is_false, row_of};
 ghost use Rattle.sync_kernel.specs.Steps.{at_line, is_false_row, same_fault};
-ghost use Rattle.sync_kernel.specs.Opposed.{is_fact, is_undone as undone, is_closing};
+ghost use Rattle.sync_kernel.specs.Opposed.{is_closing_with};
+ghost use Rattle.sync_kernel.specs.Seen.{denied_by, IsEntry, HasSeen, IsSeen, looked};
 
-use crate::branches::{Branch, Held};
+use crate::branches::{Branch, Said};
 use crate::literals::Literal;
 use crate::rows::{Kind, shape_of};
+use crate::seen::Seen;
 use crate::stops::refusal;
-use std::alloc::{AllocError, Global};
-use std::collections::HashSet;
+use std::alloc::Global;
 use sync_base::{NoMemory, Rule, Stop};
 use sync_linear::{Linear, LinearStop};
 use sync_terms::Terms;
-
-/// What the facts without parameters say.
-fn literals_of(alloc: Global, terms: &Terms, facts: &[Held]) -> Result<HashSet<Literal>, AllocError>
-    requires { AreSaid terms.now (saids facts.now) }
-    ensures { IfOk result (λ literals. (l : Literal) → IsShared terms.now → IsLiteral terms.now l → IsBare terms.now l → contains same_literal literals l ≡ is_fact (facts_in terms.now (saids facts.now)) (literal_form terms.now l)) }
-{
-    let mut literals = HashSet::new(alloc);
-    for held in facts {
-        if held.said.params.is_empty() {
-            literals.insert(held.said.says.bare(terms))?;
-        }
-    }
-    Ok(literals)
-}
 
 /// Whether a line that says this is a false one without atoms.
 fn is_false_line(kind: Kind, line: &Linear) -> bool
@@ -64,47 +49,64 @@ fn is_false_fact(alloc: Global, terms: &Terms, says: Literal) -> Result<bool, No
     }
 }
 
-/// Whether what is said is the negation of a fact without parameters.
-fn is_undone(terms: &Terms, facts: &[Held], literals: &HashSet<Literal>, says: Literal) -> bool
-    requires literals { (l : Literal) → IsShared terms.now → IsLiteral terms.now l → IsBare terms.now l → contains same_literal literals.now l ≡ is_fact (facts_in terms.now (saids facts.now)) (literal_form terms.now l) }
-    requires says { IsLiteral terms.now says }
-    ensures { result ≡ undone (facts_in terms.now (saids facts.now)) (literal_form terms.now says) }
-{
-    let says = says.bare(terms);
-    says.negated && literals.contains(&Literal::plain(says.form).bare(terms))
-}
-
-/// Whether what is said is a contradiction, alone or with a fact without parameters.
+/// Whether what is said is a contradiction, alone or with a fact that was looked at.
 fn is_closing(
     alloc: Global,
     terms: &Terms,
-    facts: &[Held],
-    literals: &HashSet<Literal>,
+    seen: &Seen,
     says: Literal,
+    denies: Option<Literal>,
 ) -> Result<bool, NoMemory>
-    requires literals { (l : Literal) → IsShared terms.now → IsLiteral terms.now l → IsBare terms.now l → contains same_literal literals.now l ≡ is_fact (facts_in terms.now (saids facts.now)) (literal_form terms.now l) }
     requires says { IsLiteral terms.now says }
-    ensures { IfOk result (λ b. b ≡ is_closing (facts_in terms.now (saids facts.now)) (literal_form terms.now says)) }
+    requires bare { IsBare terms.now says }
+    requires denies { IsEntry terms.now denies (denied_by (literal_form terms.now says)) }
+    ensures { (facts : List Fact) → IsShared terms.now → HasSeen terms.now facts seen.now → IfOk result (λ b. b ≡ is_closing_with facts (literal_form terms.now says)) }
 {
-    if is_undone(terms, facts, literals, says) {
+    if seen.opposes(says, denies) {
         return Ok(true);
     }
     is_false_fact(alloc, terms, says)
 }
 
-/// Whether two facts without parameters are a formula and its negation, or one is a false line; else K4.
-pub(crate) fn same(alloc: Global, terms: &Terms, branch: &Branch, line: u32) -> Result<(), Stop>
-    requires { AreSaid terms.now branch.now }
-    ensures { Passes result (at_line line (same_fault (facts_in terms.now branch.now))) }
+/// Looks at the next fact.
+fn look_at(alloc: Global, terms: &Terms, said: &Said, seen: &mut Seen) -> Result<(), NoMemory>
+    requires said { IsSaid terms.now said.now }
+    requires open { seen.old.closed ≡ false }
+    ensures seen { (facts : List Fact) → HasSeen terms.now facts seen.old → OnOk result (HasSeen terms.now (facts ++ said_fact terms.now said.now ∷ []) seen.new) }
+    ensures more { OnOk result (looked seen.new ≡ looked seen.old + 1) }
+{
+    if !said.params.is_empty() {
+        seen.push(None, None, false)?;
+        return Ok(());
+    }
+    let says = said.says.bare(terms);
+    let denies = says.denied(terms);
+    let closed = is_closing(alloc, terms, seen, says, denies)?;
+    seen.push(Some(says), denies, closed)?;
+    Ok(())
+}
+
+/// Whether two facts without parameters are a formula and its negation, or one is a false line; else K4. Only facts
+/// that were not seen are looked at.
+pub(crate) fn same(
+    alloc: Global,
+    terms: &Terms,
+    branch: &Branch,
+    seen: &mut Seen,
+    line: u32,
+) -> Result<(), Stop>
+    requires said { AreSaid terms.now branch.now }
+    requires seen { IsSeen terms.now (facts_in terms.now branch.now) seen.old }
+    ensures exact { Passes result (at_line line (same_fault (facts_in terms.now branch.now))) }
+    ensures seen { OnOk result (IsSeen terms.now (facts_in terms.now branch.now) seen.new) }
 {
     let facts = branch.held();
-    let literals = literals_of(alloc, terms, facts)?;
-    for held in facts {
-        if held.said.params.is_empty()
-            && is_closing(alloc, terms, facts, &literals, held.said.says)?
-        {
-            return Ok(());
-        }
+    while !seen.closed && seen.len() < facts.len() {
+        look_at(alloc, terms, &facts[seen.len()].said, seen)?;
     }
-    Err(refusal(line, Rule::K4))
+    if seen.closed {
+        Ok(())
+    } else {
+        Err(refusal(line, Rule::K4))
+    }
 }

@@ -1,5 +1,6 @@
 use Rattle.std.proofs.Common.{rules, ◌≡◌, ℕ, List, [], ◌∷◌, ◌++◌, take, None, Err, refl, sym, ap, subst, ◌∙◌}
 use Rattle.std.specs.List.{All}
+use Rattle.std.proofs.lemmas.List.{take-map}
 use Rattle.std.proofs.lemmas.Result.{err_from_is_err_and}
 use Rattle.sync_base.specs.Outcome.{Passes}
 use Rattle.sync_terms.specs.declared.scripts.StepKind.TheOpen.{StepKind-F}
@@ -13,12 +14,15 @@ use Rattle.sync_terms.proofs.Extending.{Extends-trans}
 use Rattle.sync_facts.specs.Lemmas.{read_fact, size_fact, total_fact, cong_fact}
 use Rattle.sync_kernel.specs.declared.steps.Left.{Left}
 use Rattle.sync_kernel.specs.declared.branches.Said.{Said}
-use Rattle.sync_kernel.specs.Branches.{facts_in, AreSaid, Begins}
+use Rattle.sync_kernel.specs.Facts.{Fact}
+use Rattle.sync_kernel.specs.Seen.{IsSeen}
+use Rattle.sync_kernel.specs.Branches.{said_fact, facts_in, AreSaid, Begins}
 use Rattle.sync_kernel.specs.Scripts.{then_of, with_fact, fitting, after, block_fault}
-use Rattle.sync_kernel.proofs.Fitting.{AreSaid-more, IsLiteral-more}
+use Rattle.sync_kernel.proofs.Fitting.{Begins-refl, AreSaid-more, IsLiteral-more}
 use Rattle.sync_kernel.proofs.Scripting.{script-more, step-more, inst_ids, cut_id, cut_script, split_scripts, read_ids, size_ids, total_ids, cong_ids}
 use Rattle.sync_kernel.proofs.Stepping.{passes_err, err_refuses}
 use Rattle.sync_kernel.proofs.Adding.{add_said}
+use Rattle.sync_kernel.proofs.Seeing.{seen_grows}
 use Rattle.sync_kernel.proofs.Checking.{Checking, begins_before, checking_more, checking_stops, left_open, drop_item, item_of, step_err, refuses_as, case_of, case_is, case_later, left_stops, right_stops, split_closes, cut_stops, cut_goes, fact_stops}
 use Rattle.sync_kernel.proofs.blocks.+blocks.Goals as goal
 
@@ -26,7 +30,7 @@ pub check_block-check_step-requires : goal.check_block-check_step-requires
 check_block-check_step-requires t c =
     let s = c.args.terms.now in
     let of = item_of s c.args.block.now c.as_slice-step-items.result.now c.loop-step.step-index c.step-item.result c.requires.script c.as_slice-step-items.ensures c.step-item.is c.loop-step-test.true in
-    (search (rules, kind.the_lemmas, step.the_lemmas, block.the_lemmas), (c.loop-step.invariant.said, step-more s c.loop-step.terms c.step-item.result c.loop-step.invariant.extends of))
+    (search (rules, kind.the_lemmas, step.the_lemmas, block.the_lemmas), (c.loop-step.invariant.checking.said, (c.loop-step.invariant.seen, step-more s c.loop-step.terms c.step-item.result c.loop-step.invariant.checking.extends of)))
 
 pub check_block-returns-in_err-left-clause-exact : goal.check_block-returns-in_err-left-clause-exact
 check_block-returns-in_err-left-clause-exact t c =
@@ -36,7 +40,7 @@ check_block-returns-in_err-left-clause-exact t c =
     let l = c.loop-step in
     let of = item_of s b c.as_slice-step-items.result.now l.step-index c.step-item.result c.requires.script c.as_slice-step-items.ensures c.step-item.is c.loop-step-test.true in
     let e = drop_item c.as_slice-step-items.result.now _ l.step-index c.step-item.result c.as_slice-step-items.ensures c.step-item.is c.loop-step-test.true in
-    let h = subst (λ (x : Left). Checking s xs b l.terms l.branch l.step-index x) (left_open l.left c.eq.result c.eq.ensures c.if-eq.false) l.invariant in
+    let h = subst (λ (x : Left). Checking s xs b l.terms l.branch l.step-index x) (left_open l.left c.eq.result c.eq.ensures c.if-eq.false) l.invariant.checking in
     let q = err_from_is_err_and c.from_residual.result c.from_residual.ensures.1 in
     passes_err c.from_residual.result c.in_err-left.field-0.0 (block_fault (facts_in s xs) (plan_of s b)) (cc)
     (checking_stops s xs b l.terms l.branch l.step-index h c.step-item.result e of c.in_err-left.field-0.0 (c.in_err-left.ensures.exact _))
@@ -49,9 +53,12 @@ check_block-loop-step-preserved t c =
     let l = c.loop-step in
     let of = item_of s b c.as_slice-step-items.result.now l.step-index c.step-item.result c.requires.script c.as_slice-step-items.ensures c.step-item.is c.loop-step-test.true in
     let e = drop_item c.as_slice-step-items.result.now _ l.step-index c.step-item.result c.as_slice-step-items.ensures c.step-item.is c.loop-step-test.true in
-    let h = subst (λ (x : Left). Checking s xs b l.terms l.branch l.step-index x) (left_open l.left c.eq.result c.eq.ensures c.if-eq.false) l.invariant in
-    checking_more s xs b l.terms l.branch l.step-index h c.step-item.result e of c.in_ok-left.left c.check_step.new.terms c.check_step.new.branch c.in_ok-left.ensures.keeps c.in_ok-left.ensures.said c.in_ok-left.ensures.begins
-    (c.in_ok-left.ensures.exact _)
+    let h = subst (λ (x : Left). Checking s xs b l.terms l.branch l.step-index x) (left_open l.left c.eq.result c.eq.ensures c.if-eq.false) l.invariant.checking in
+    record {
+      checking = checking_more s xs b l.terms l.branch l.step-index h c.step-item.result e of c.in_ok-left.left c.check_step.new.terms c.check_step.new.branch c.in_ok-left.ensures.keeps c.in_ok-left.ensures.said c.in_ok-left.ensures.begins
+          (c.in_ok-left.ensures.exact _);
+      seen = c.in_ok-left.ensures.seen;
+    }
 
 pub check_case-returns-clause-branch : goal.check_case-returns-clause-branch
 check_case-returns-clause-branch t c =
@@ -59,6 +66,13 @@ check_case-returns-clause-branch t c =
     let ys = c.check_block.new.branch in
     c.cut_back.ensures ∙ ap (λ (n : ℕ). take n ys) c.len-len.ensures
     ∙ begins_before xs ys c.said.result (subst (λ (zs : List Said). Begins zs ys) c.in_ok-push.ensures.ok c.in_ok-check_block.ensures.begins)
+
+pub check_case-returns-clause-seen : goal.check_case-returns-clause-seen
+check_case-returns-clause-seen t c =
+    let u = c.check_block.new.terms in
+    let ys = c.check_block.new.branch in
+    let n = c.len-len.result in
+    subst (λ (fs : List Fact). IsSeen u fs c.cut_back-2.new.self) (take-map (said_fact u) n ys ∙ ap (facts_in u) (sym c.cut_back.ensures)) (c.cut_back-2.ensures u (facts_in u ys) c.in_ok-check_block.ensures.seen)
 
 pub check_step-inst-requires-clause-list : goal.check_step-inst-requires-clause-list
 check_step-inst-requires-clause-list t c =
@@ -73,7 +87,10 @@ check_step-check_case-requires t c =
       search (rules, kind.the_lemmas, step.the_lemmas, block.the_lemmas),
       (
         AreSaid-more s c.split.new.terms c.args.branch.now c.split.ensures.keeps c.requires.branch,
-        (c.in_ok-cases-in-Split.ensures.stored.0, script-more s c.split.new.terms i.first c.split.ensures.keeps scripts.0),
+        (
+          seen_grows s c.split.new.terms c.args.branch.now c.args.branch.now c.args.seen.now c.split.ensures.keeps c.requires.branch (Begins-refl c.args.branch.now) c.requires.seen,
+          (c.in_ok-cases-in-Split.ensures.stored.0, script-more s c.split.new.terms i.first c.split.ensures.keeps scripts.0),
+        ),
       ),
     )
 
@@ -106,7 +123,10 @@ check_step-check_case-requires-in-Split t c =
       search (rules, kind.the_lemmas, step.the_lemmas, block.the_lemmas),
       (
         subst (AreSaid w) (sym c.in_ok-check_case-in-Split.ensures.branch) (AreSaid-more s w c.args.branch.now more c.requires.branch),
-        (IsLiteral-more c.split.new.terms w c.in_ok-cases-in-Split.cases.right c.check_case.ensures.keeps c.in_ok-cases-in-Split.ensures.stored.1, script-more s w i.second more scripts.1),
+        (
+          c.in_ok-check_case-in-Split.ensures.seen,
+          (IsLiteral-more c.split.new.terms w c.in_ok-cases-in-Split.cases.right c.check_case.ensures.keeps c.in_ok-cases-in-Split.ensures.stored.1, script-more s w i.second more scripts.1),
+        ),
       ),
     )
 
@@ -175,7 +195,7 @@ check_step-returns-in_err-cases-in-Cut-clause-exact t c = λ rest.
 pub check_step-check_case-requires-in-Cut : goal.check_step-check_case-requires-in-Cut
 check_step-check_case-requires-in-Cut t c =
     let i = c.in-Cut in
-    (search (rules, kind.the_lemmas, step.the_lemmas, block.the_lemmas), (c.requires.branch, (c.in_ok-cases-in-Cut.ensures.stored.0, cut_script c.args.terms.now c.args.step.now c.requires.step i.form i.name i.block (i.is ∙ sym (rolls-Cut i.form i.name i.block)))))
+    (search (rules, kind.the_lemmas, step.the_lemmas, block.the_lemmas), (c.requires.branch, (c.requires.seen, (c.in_ok-cases-in-Cut.ensures.stored.0, cut_script c.args.terms.now c.args.step.now c.requires.step i.form i.name i.block (i.is ∙ sym (rolls-Cut i.form i.name i.block))))))
 
 pub check_step-returns-in_ok-push-in-Cut-clause-exact : goal.check_step-returns-in_ok-push-in-Cut-clause-exact
 check_step-returns-in_ok-push-in-Cut-clause-exact t c = λ rest.
@@ -282,3 +302,23 @@ check_step-returns-in_err-cong-in-Cong-clause-exact t c = λ rest.
     step_err c.from_residual-in_err-cong-in-Cong.result e (block_fault (facts_in s xs) (then_of s c.args.step.now rest)) (block_fault (facts_in c.cong.new.terms c.cong.new.branch) rest) (after rest) (cc)
     (fact_stops s xs c.args.step.now (StepKind-F.Cong i.map i.left i.right i.name) rest (fitting (with_fact (facts_in s xs) i.name (cong_fact (tree s i.map) (tree s i.left) (tree s i.right)))) e (i.is ∙ sym (rolls-Cong i.map i.left i.right i.name)) refl
     c.in_err-cong-in-Cong.ensures.leaves))
+
+pub check_step-returns-in_ok-inst-in-Inst-clause-seen : goal.check_step-returns-in_ok-inst-in-Inst-clause-seen
+check_step-returns-in_ok-inst-in-Inst-clause-seen t c =
+    seen_grows c.args.terms.now c.inst.new.terms c.args.branch.now c.inst.new.branch c.args.seen.now c.inst.ensures.keeps c.requires.branch c.in_ok-inst-in-Inst.ensures.begins c.requires.seen
+
+pub check_step-returns-in_ok-read-in-Read-clause-seen : goal.check_step-returns-in_ok-read-in-Read-clause-seen
+check_step-returns-in_ok-read-in-Read-clause-seen t c =
+    seen_grows c.args.terms.now c.read.new.terms c.args.branch.now c.read.new.branch c.args.seen.now c.read.ensures.keeps c.requires.branch c.in_ok-read-in-Read.ensures.begins c.requires.seen
+
+pub check_step-returns-in_ok-size-in-Size-clause-seen : goal.check_step-returns-in_ok-size-in-Size-clause-seen
+check_step-returns-in_ok-size-in-Size-clause-seen t c =
+    seen_grows c.args.terms.now c.size.new.terms c.args.branch.now c.size.new.branch c.args.seen.now c.size.ensures.keeps c.requires.branch c.in_ok-size-in-Size.ensures.begins c.requires.seen
+
+pub check_step-returns-in_ok-total-in-Total-clause-seen : goal.check_step-returns-in_ok-total-in-Total-clause-seen
+check_step-returns-in_ok-total-in-Total-clause-seen t c =
+    seen_grows c.args.terms.now c.total.new.terms c.args.branch.now c.total.new.branch c.args.seen.now c.total.ensures.keeps c.requires.branch c.in_ok-total-in-Total.ensures.begins c.requires.seen
+
+pub check_step-returns-in_ok-cong-in-Cong-clause-seen : goal.check_step-returns-in_ok-cong-in-Cong-clause-seen
+check_step-returns-in_ok-cong-in-Cong-clause-seen t c =
+    seen_grows c.args.terms.now c.cong.new.terms c.args.branch.now c.cong.new.branch c.args.seen.now c.cong.ensures.keeps c.requires.branch c.in_ok-cong-in-Cong.ensures.begins c.requires.seen
