@@ -1,5 +1,5 @@
 -- The commands, the words that ask for them, and what each gives for a text.
-use Rattle.std.specs.Prelude.{◌≡◌, ℕ, List, [], ◌∷◌, map, codes, Option, None, Result, Ok, String}
+use Rattle.std.specs.Prelude.{◌≡◌, ℕ, List, [], ◌∷◌, map, codes, None, Result, Ok, String}
 use Rattle.std.specs.String.{string_bytes}
 use Rattle.std.specs.declared.alloc.Global.{Global}
 use Rattle.sync_base.specs.declared.stops.Refusal.{Refusal}
