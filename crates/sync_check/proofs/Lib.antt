@@ -1,2 +1,3 @@
 mod Named
 mod Accepting
+pub mod Formed

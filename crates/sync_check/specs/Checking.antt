@@ -11,7 +11,6 @@ use Rattle.sync_parse.specs.Machines.{parsed}
 use Rattle.sync_parse.specs.declared.trees.RawText.{RawText}
 use Rattle.sync_grammar.specs.Texts.{Spells, HasScripts}
 use Rattle.sync_machine.specs.Machines.{MachineTree}
-use Rattle.sync_machine.specs.Naming.{machine_fault}
 use Rattle.sync_machine.specs.States.{HoldsAlways}
 use Rattle.sync_rules.specs.Faults.{strategy_fault}
 use Rattle.sync_induct.specs.Checks.{proof_fault}
@@ -25,18 +24,14 @@ most_bytes = 1048576
 abbrev pub spelled : List ℕ → Result TextTree Refusal
 spelled bytes = parsed bytes >>= resolved
 
--- the first rule of names or of strategies that a machine breaks
-abbrev pub form_fault : MachineTree → Option Refusal
-form_fault m = first (machine_fault m) (strategy_fault m)
-
 -- the answer, where no rule is broken
 abbrev pub unless : {A : Type 0} → Option Refusal → A → Result A Refusal
 unless None answer = Ok answer
 unless (Some refusal) answer = Err refusal
 
--- the first rule of names, of strategies or of proofs that a text breaks
+-- the first rule of strategies or of proofs that a text breaks; a machine that is meant breaks no rule of names
 abbrev pub fault_of : TextTree → Option Refusal
-fault_of t = first (form_fault t.machine) (proof_fault t.machine t.proofs)
+fault_of t = first (strategy_fault t.machine) (proof_fault t.machine t.proofs)
 
 -- the number of a text's scripts, or the first rule that it breaks
 abbrev pub judged : TextTree → Result ℕ Refusal

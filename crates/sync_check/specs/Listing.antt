@@ -10,9 +10,10 @@ use Rattle.sync_machine.specs.Machines.{OperationTree, InvariantTree}
 use Rattle.sync_rules.specs.declared.claims.Claim.{Claim}
 use Rattle.sync_rules.specs.declared.claims.Claim.TheVariants.{At, Keeps}
 use Rattle.sync_rules.specs.declared.claims.Obligation.{Obligation}
+use Rattle.sync_rules.specs.Faults.{strategy_fault}
 use Rattle.sync_rules.specs.Obligations.{obligations_of}
 use Rattle.sync_read.specs.Texts.{TextTree}
-use Rattle.sync_check.specs.Checking.{spelled, form_fault, unless}
+use Rattle.sync_check.specs.Checking.{spelled, unless}
 
 -- how the name with this number is spelled; a number that no name has is spelled by no byte
 abbrev pub spelling : NameList → ℕ → List ℕ
@@ -41,9 +42,9 @@ obligation_line t o =
 abbrev pub obligation_lines : TextTree → List (List ℕ)
 obligation_lines t = map (obligation_line t) (obligations_of t.machine)
 
--- the lines of what has to be proved, where the machine breaks no rule of names or of strategies
+-- the lines of what has to be proved, where the machine breaks no rule of strategies
 abbrev pub listed : TextTree → Result (List (List ℕ)) Refusal
-listed t = unless (form_fault t.machine) (obligation_lines t)
+listed t = unless (strategy_fault t.machine) (obligation_lines t)
 
 -- the lines of what has to be proved of a text's machine, whatever its proofs are, or the first rule that the text breaks
 unfoldable pub listing_of : List ℕ → Result (List (List ℕ)) Refusal

@@ -3,22 +3,23 @@ ghost use Rattle.std.specs.Prelude.{◌≡◌, length, None, IfOk, OnOk};
 ghost use Rattle.std.specs.List.{AllByRecursion};
 ghost use Rattle.sync_base.specs.Outcome.{Gives, Passes};
 ghost use Rattle.sync_machine.specs.Machines.{OperationTree};
-ghost use Rattle.sync_machine.specs.Naming.{AreTextNames};
+ghost use Rattle.sync_machine.specs.Naming.{machine_fault, AreTextNames};
 ghost use Rattle.sync_machine.specs.Scope.{IsNamed, ChangesNothing};
 ghost use Rattle.sync_machine.specs.States.{HoldsAlways};
 ghost use Rattle.sync_machine.specs.Views.{HasOwnIds, machine_tree};
+ghost use Rattle.sync_rules.specs.Faults.{strategy_fault};
 ghost use Rattle.sync_rules.specs.Strategies.{AreAllowed};
 ghost use Rattle.sync_induct.specs.Checks.{AreScriptsOf};
 ghost use Rattle.sync_induct.specs.Grown.{HasGrown};
 ghost use Rattle.sync_read.specs.Texts.{text_tree};
 ghost use Rattle.sync_read.specs.declared.texts.Text.{Text};
-ghost use Rattle.sync_check.specs.Checking.{spelled, fault_of, form_fault, machine_of, verdict_of, IsAccepted, IsMeant, Means};
+ghost use Rattle.sync_check.specs.Checking.{spelled, fault_of, machine_of, verdict_of, IsAccepted, IsMeant, Means};
 
 use std::alloc::Global;
 use sync_base::Stop;
 use sync_grammar::read_tree;
 use sync_induct::{Inductive, inductive};
-use sync_machine::{Machine, well_formed};
+use sync_machine::Machine;
 use sync_read::{Text, resolve};
 use sync_rules::check_ops;
 
@@ -29,26 +30,25 @@ pub fn read(alloc: Global, bytes: &[u8]) -> Result<Text, Stop>
     ensures means { IfOk result (λ (t : Text). Means bytes.now (text_tree t)) }
     ensures ids { IfOk result (λ (t : Text). HasOwnIds t.machine) }
     ensures names { IfOk result (λ (t : Text). AreTextNames (machine_tree t.machine)) }
+    ensures formed { IfOk result (λ (t : Text). machine_fault (machine_tree t.machine) ≡ None) }
     ensures scripts { IfOk result (λ (t : Text). AreScriptsOf t.machine.terms t.proofs.list) }
 {
     let raw = read_tree(alloc, bytes)?;
     resolve(alloc, raw)
 }
 
-/// Whether a machine keeps the rules of names and of strategies; else the first that it breaks.
+/// Whether a machine that keeps the rules of names keeps those of strategies; else the first that it breaks.
 pub(crate) fn has_form(m: &Machine) -> Result<(), Stop>
     requires ids { HasOwnIds m.now }
     requires names { AreTextNames (machine_tree m.now) }
-    ensures exact { Passes result (form_fault (machine_tree m.now)) }
+    requires formed { machine_fault (machine_tree m.now) ≡ None }
+    ensures exact { Passes result (strategy_fault (machine_tree m.now)) }
     ensures named { OnOk result (IsNamed (machine_tree m.now)) }
     ensures allowed { OnOk result (AllByRecursion (λ (o : OperationTree). AreAllowed m.now.fields o.steps) (machine_tree m.now).ops) }
     ensures still { OnOk result (AllByRecursion ChangesNothing (machine_tree m.now).ops) }
 {
-    match well_formed(m) {
-        Ok(()) => match check_ops(m) {
-            Ok(()) => Ok(()),
-            Err(refusal) => Err(Stop::Refused(refusal)),
-        },
+    match check_ops(m) {
+        Ok(()) => Ok(()),
         Err(refusal) => Err(Stop::Refused(refusal)),
     }
 }
@@ -57,10 +57,11 @@ pub(crate) fn has_form(m: &Machine) -> Result<(), Stop>
 fn judge(alloc: Global, text: Text) -> Result<Inductive, Stop>
     requires ids { HasOwnIds text.machine }
     requires names { AreTextNames (machine_tree text.machine) }
+    requires formed { machine_fault (machine_tree text.machine) ≡ None }
     requires scripts { AreScriptsOf text.machine.terms text.proofs.list }
     ensures exact { Passes result (fault_of (text_tree text)) }
     ensures holds { OnOk result (HoldsAlways (machine_tree text.machine)) }
-    ensures form { OnOk result (form_fault (machine_tree text.machine) ≡ None) }
+    ensures form { OnOk result (strategy_fault (machine_tree text.machine) ≡ None) }
     ensures same { IfOk result (λ i. machine_tree i ≡ machine_tree text.machine) }
     ensures grown { IfOk result (HasGrown text.machine) }
 {
@@ -99,7 +100,8 @@ pub fn accepted_machine(alloc: Global, text: &[u8]) -> Result<Inductive, Stop>
     ensures means { IfOk result (λ i. IsMeant text.now (machine_tree i)) }
     ensures ids { IfOk result HasOwnIds }
     ensures names { IfOk result (λ i. AreTextNames (machine_tree i)) }
-    ensures form { IfOk result (λ i. form_fault (machine_tree i) ≡ None) }
+    ensures formed { IfOk result (λ i. machine_fault (machine_tree i) ≡ None) }
+    ensures form { IfOk result (λ i. strategy_fault (machine_tree i) ≡ None) }
     ensures holds { IfOk result (λ i. HoldsAlways (machine_tree i)) }
 {
     let text = read(alloc, text)?;

@@ -1,18 +1,14 @@
 -- The verdict takes the layers one after another.
-use Rattle.std.proofs.Common.{◌≡◌, ℕ, List, Option, Some, None, Result, Ok, Err, refl, sym, ap, ◌∙◌, length}
+use Rattle.std.proofs.Common.{◌≡◌, ℕ, List, Option, Some, None, Result, Ok, Err, refl, ap, ◌∙◌, length}
 use Rattle.sync_base.specs.declared.stops.Refusal.{Refusal}
 use Rattle.sync_base.specs.Outcome.{first, ◌>>=◌}
 use Rattle.sync_tokens.specs.declared.words.Words.{Words}
 use Rattle.sync_tokens.specs.Words.{worded}
-use Rattle.sync_parse.specs.declared.trees.RawText.{RawText}
 use Rattle.sync_parse.specs.Faults.{refused}
 use Rattle.sync_parse.specs.Machines.{text_of, parsed}
-use Rattle.sync_machine.specs.Naming.{machine_fault}
-use Rattle.sync_rules.specs.Faults.{strategy_fault}
-use Rattle.sync_induct.specs.Checks.{proof_fault}
 use Rattle.sync_read.specs.Texts.{TextTree, resolved}
 use Rattle.sync_check.specs.Checking.{spelled, judged, unless, fault_of, verdict_of}
-use Rattle.sync_faults.specs.Faults.{fault_in, behind, lex_fault, grammar_fault, machine_faults, first_fault, VerdictIsFirstFault}
+use Rattle.sync_faults.specs.Faults.{fault_in, behind, lex_fault, grammar_fault, name_fault, machine_faults, first_fault, VerdictIsFirstFault}
 
 -- one layer, and then the next
 fault-then : {A B : Type 0} (r : Result A Refusal) (f : A → Result B Refusal) → fault_in (r >>= f) ≡ first (fault_in r) (behind r (λ x. fault_in (f x)))
@@ -31,10 +27,6 @@ behind-same : {A : Type 0} (r : Result A Refusal) (f g : A → Option Refusal) �
 behind-same (Ok x) f g same = same x
 behind-same (Err e) f g same = refl
 
-behind-first : {A : Type 0} (r : Result A Refusal) (f g : A → Option Refusal) → behind r (λ x. first (f x) (g x)) ≡ first (behind r f) (behind r g)
-behind-first (Ok x) f g = refl
-behind-first (Err e) f g = refl
-
 fault-unless : (fault : Option Refusal) (n : ℕ) → fault_in (unless fault n) ≡ fault
 fault-unless None n = refl
 fault-unless (Some r) n = refl
@@ -47,31 +39,19 @@ parsed-fault bytes =
     fault-then (worded bytes) _
     ∙ ap (first (lex_fault bytes)) (behind-same (worded bytes) _ _ (λ (ws : Words). fault-kept (refused ws.last_line (text_of ws.list)) _))
 
-spelled-fault : (bytes : List ℕ) → fault_in (spelled bytes) ≡ first (first (lex_fault bytes) (grammar_fault bytes)) (behind (parsed bytes) (λ (raw : RawText). fault_in (resolved raw)))
-spelled-fault bytes = fault-then (parsed bytes) resolved ∙ ap (λ f. first f (behind (parsed bytes) (λ (raw : RawText). fault_in (resolved raw)))) (parsed-fault bytes)
+spelled-fault : (bytes : List ℕ) → fault_in (spelled bytes) ≡ first (first (lex_fault bytes) (grammar_fault bytes)) (name_fault bytes)
+spelled-fault bytes = fault-then (parsed bytes) resolved ∙ ap (λ f. first f (name_fault bytes)) (parsed-fault bytes)
 
--- the faults of a text that is spelled
-last-faults : (bytes : List ℕ) → behind (spelled bytes) fault_of ≡ first (behind (spelled bytes) (λ (t : TextTree). machine_fault t.machine)) (machine_faults bytes)
-last-faults bytes =
-    behind-same (spelled bytes) fault_of _ (λ (t : TextTree). first-first (machine_fault t.machine) (strategy_fault t.machine) (proof_fault t.machine t.proofs))
-    ∙ behind-first (spelled bytes) (λ (t : TextTree). machine_fault t.machine) (λ (t : TextTree). first (strategy_fault t.machine) (proof_fault t.machine t.proofs))
-
-regrouped : (a b c d e : Option Refusal) → first (first (first a b) c) (first d e) ≡ first a (first b (first (first c d) e))
-regrouped a b c d e =
-    first-first (first a b) c (first d e)
-    ∙ first-first a b (first c (first d e))
-    ∙ ap (λ f. first a (first b f)) (sym (first-first c d e))
+regrouped : (a b c d : Option Refusal) → first (first (first a b) c) d ≡ first a (first b (first c d))
+regrouped a b c d = first-first (first a b) c d ∙ first-first a b (first c d)
 
 verdict-fault : (bytes : List ℕ) → fault_in (verdict_of bytes) ≡ first_fault bytes
 unfolding verdict_of
 verdict-fault bytes =
-    let c = behind (parsed bytes) (λ (raw : RawText). fault_in (resolved raw)) in
-    let d = behind (spelled bytes) (λ (t : TextTree). machine_fault t.machine) in
     fault-then (spelled bytes) judged
     ∙ ap (first (fault_in (spelled bytes))) (behind-same (spelled bytes) _ fault_of (λ (t : TextTree). fault-unless (fault_of t) (length t.proofs)))
-    ∙ ap (λ f. first f (behind (spelled bytes) fault_of)) (spelled-fault bytes)
-    ∙ ap (first (first (first (lex_fault bytes) (grammar_fault bytes)) c)) (last-faults bytes)
-    ∙ regrouped (lex_fault bytes) (grammar_fault bytes) c d (machine_faults bytes)
+    ∙ ap (λ f. first f (machine_faults bytes)) (spelled-fault bytes)
+    ∙ regrouped (lex_fault bytes) (grammar_fault bytes) (name_fault bytes) (machine_faults bytes)
 
 -- ---- the verdict
 

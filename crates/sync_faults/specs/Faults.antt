@@ -7,7 +7,6 @@ use Rattle.sync_tokens.specs.Words.{worded}
 use Rattle.sync_parse.specs.declared.trees.RawText.{RawText}
 use Rattle.sync_parse.specs.Faults.{refused}
 use Rattle.sync_parse.specs.Machines.{text_of, parsed}
-use Rattle.sync_machine.specs.Naming.{machine_fault}
 use Rattle.sync_rules.specs.Faults.{strategy_fault}
 use Rattle.sync_induct.specs.Checks.{proof_fault}
 use Rattle.sync_read.specs.Texts.{TextTree, resolved}
@@ -30,9 +29,9 @@ lex_fault bytes = fault_in (worded bytes)
 abbrev pub grammar_fault : List ℕ → Option Refusal
 grammar_fault bytes = behind (worded bytes) (λ (ws : Words). fault_in (refused ws.last_line (text_of ws.list)))
 
--- N: of the raw tree, and then of the machine
+-- N: of the raw tree
 abbrev pub name_fault : List ℕ → Option Refusal
-name_fault bytes = first (behind (parsed bytes) (λ (raw : RawText). fault_in (resolved raw))) (behind (spelled bytes) (λ (t : TextTree). machine_fault t.machine))
+name_fault bytes = behind (parsed bytes) (λ (raw : RawText). fault_in (resolved raw))
 
 -- S, and then I and K: of the machine and of its proofs
 abbrev pub machine_faults : List ℕ → Option Refusal

@@ -1,6 +1,12 @@
 pub mod Steps
 pub mod Growing
+pub mod Chains
 pub mod Symbols
+pub mod Sorted
+pub mod Owning
+pub mod Declaring
+pub mod Stated
+pub mod Formed
 pub mod Going
 pub mod Planned
 pub mod Whole

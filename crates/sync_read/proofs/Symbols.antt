@@ -1,17 +1,14 @@
 -- Each parameter and bound name of a machine that was made is the symbol of a name.
-use Rattle.std.proofs.Common.{◌≡◌, ℕ, ◌+◌, ◌*◌, ◌<◌, min, Bool, true, false, List, [], ◌∷◌, ◌++◌, length, Option, Some, None, Result, Ok, Err, refl, arith}
+use Rattle.std.proofs.Common.{◌≡◌, ℕ, min, Bool, true, false, List, [], ◌∷◌, ◌++◌, length, Option, Some, None, Ok, refl, arith}
 use Rattle.std.specs.List.{AllByRecursion}
 use Rattle.std.specs.Result.{IfOk}
 use Rattle.std.proofs.lemmas.Result.{IfOk-at_ok}
-use Rattle.sync_base.specs.declared.stops.Refusal.{Refusal}
-use Rattle.sync_base.specs.Outcome.{◌>>=◌}
 use Rattle.sync_terms.specs.Trees.{Tree}
 use Rattle.sync_machine.specs.declared.fields.Field.{Field}
 use Rattle.sync_machine.specs.Machines.{PatternTree, PlaceTree, ActTree, StepTree, OperationTree, InvariantTree, MachineTree}
 use Rattle.sync_machine.specs.Machines as machines
 use Rattle.sync_machine.specs.Statements.{binds}
 use Rattle.sync_machine.specs.Naming.{IsTextName, BindsTextName, bound_by, HasTextNames, AreTextNames}
-use Rattle.sync_exprs.specs.declared.expressions.Expr.{Expr}
 use Rattle.sync_exprs.specs.declared.naming.Named.{Named}
 use Rattle.sync_parse.specs.declared.trees.RawPattern.{RawPattern}
 use Rattle.sync_parse.specs.declared.trees.RawPattern.TheVariants as pattern
@@ -28,17 +25,8 @@ use Rattle.sync_names.specs.Scopes.{symbol_of, own}
 use Rattle.sync_names.specs.Exprs.{term_of, form_of}
 use Rattle.sync_names.specs.declared.scopes.Sort.TheVariants as sort
 use Rattle.sync_read.specs.Acts.{within, add_param, params_from, field_in, pattern_in, place_in, field_term, field_place, act_in, steps_from, fields_from}
+use Rattle.sync_read.proofs.Chains.{after, after_ok}
 use Rattle.sync_read.specs.Resolving.{begin_operation, operation_in, operations_from, begin_invariant, invariant_in, invariants_from, machine_in}
-
--- ---- chains of steps that may refuse
-
-after : {A B E : Type 0} (P : B → Type 0) (r : Result A E) (f : A → Result B E) → ((a : A) → IfOk (f a) P) → IfOk (r >>= f) P
-after P (Ok a) f h = h a
-after P (Err e) f h = tt
-
-after_ok : {A B E : Type 0} (P : B → Type 0) (Q : A → Type 0) (r : Result A E) (f : A → Result B E) → IfOk r Q → ((a : A) → Q a → IfOk (f a) P) → IfOk (r >>= f) P
-after_ok P Q (Ok a) f q h = h a q
-after_ok P Q (Err e) f q h = tt
 
 one_more : {A : Type 0} (P : A → Type 0) (xs : List A) (x : A) → AllByRecursion P xs → P x → AllByRecursion P (xs ++ x ∷ [])
 one_more P [] x h p = (p, tt)

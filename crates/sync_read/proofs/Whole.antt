@@ -1,16 +1,15 @@
 -- Proofs, machines and texts: what they are once their parts are made.
-use Rattle.std.proofs.Common.{◌≡◌, ℕ, List, [], ◌∷◌, length, map, Result, Ok, Err, refl, sym, ap, subst, ◌∙◌}
-use Rattle.std.specs.List.{AllByRecursion}
+use Rattle.std.proofs.Common.{◌≡◌, ℕ, List, [], ◌∷◌, length, map, None, Result, Ok, Err, sym, ap, subst, ◌∙◌}
 use Rattle.sync_base.specs.declared.stops.Refusal.{Refusal}
 use Rattle.sync_base.specs.declared.stops.Stop.{Stop}
 use Rattle.sync_base.specs.declared.stops.Stop.TheVariants.{Refused, Memory}
 use Rattle.sync_base.specs.Outcome.{◌>>=◌, Stops, Gives}
-use Rattle.sync_terms.specs.Stored.{Stored, Extends, IsForm}
+use Rattle.sync_terms.specs.Stored.{Stored, Extends}
 use Rattle.sync_terms.specs.Plans.{Plan}
 use Rattle.sync_machine.specs.declared.machine.Machine.{Machine}
 use Rattle.sync_machine.specs.Machines.{MachineTree, OperationTree, InvariantTree}
 use Rattle.sync_machine.specs.Views.{operation_tree, invariant_tree, machine_tree, HasOwnIds}
-use Rattle.sync_machine.specs.Naming.{AreTextNames}
+use Rattle.sync_machine.specs.Naming.{machine_fault, AreTextNames}
 use Rattle.sync_rules.specs.declared.claims.Claim.{Claim}
 use Rattle.sync_parse.specs.declared.trees.RawProof.{RawProof}
 use Rattle.sync_parse.specs.declared.trees.RawText.{RawText}
@@ -23,9 +22,10 @@ use Rattle.sync_induct.specs.Checks.{ProofTree, AreScriptsOf}
 use Rattle.sync_induct.specs.Checks.{proof_in as stored_proof}
 use Rattle.sync_terms.proofs.Extending.{Extends-refl}
 use Rattle.sync_read.specs.Scripts.{operation_meaning, claim_in, script_scope, block_of, proof_in, proofs_from}
-use Rattle.sync_read.specs.Texts.{TextTree, first_scope, resolved}
+use Rattle.sync_read.specs.Texts.{first_scope, resolved}
 use Rattle.sync_read.proofs.Growing.{operations_kept, operations_stay, invariants_kept, invariants_stay}
 use Rattle.sync_read.proofs.Symbols.{machine_names}
+use Rattle.sync_read.proofs.Formed.{machine_formed}
 
 -- an answer that stops
 pub gives_stop : {A B : Type 0} (view : A → B) (r : Result A Stop) (e : Stop) (wanted : Result B Refusal) → r ≡ Err e → Stops e wanted → Gives view r wanted
@@ -103,6 +103,10 @@ machine_stays t m grows ids = record { ops = operations_stay m.terms t m.ops gro
 
 pub names_kept : (t : Stored) (m : Machine) (s next : Scope) (raw : RawText) → Extends m.terms t → HasOwnIds m → machine_in s raw.machine ≡ Ok (machine_tree m, next) → AreTextNames (machine_tree (over t m))
 names_kept t m s next raw grows ids is = subst AreTextNames (sym (machine_kept t m grows ids)) (machine_names s raw.machine (machine_tree m, next) is)
+
+pub formed_kept : (t : Stored) (m : Machine) (s next : Scope) (raw : RawText) (count : ℕ) → Extends m.terms t → HasOwnIds m → s ≡ first_scope count → machine_in s raw.machine ≡ Ok (machine_tree m, next) → machine_fault (machine_tree (over t m)) ≡ None
+formed_kept t m s next raw count grows ids first is =
+    ap machine_fault (machine_kept t m grows ids) ∙ machine_formed count raw.machine (machine_tree m, next) (ap (λ z. machine_in z raw.machine) (sym first) ∙ is)
 
 -- ---- texts
 

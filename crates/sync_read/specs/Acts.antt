@@ -1,5 +1,5 @@
 -- Fields, parameters and statements: their plain trees with the scope behind them, or the first rule that they break.
-use Rattle.std.specs.Prelude.{ℕ, Bool, true, false, List, [], ◌∷◌, ◌++◌, length, nat_lt, Option, Some, None, Result, Ok, Err, if◌then◌else◌}
+use Rattle.std.specs.Prelude.{ℕ, Bool, true, false, List, [], ◌∷◌, ◌++◌, length, nat_lt, Option, Some, None, Result, Ok, if◌then◌else◌}
 use Rattle.sync_base.specs.declared.stops.Refusal.{Refusal}
 use Rattle.sync_base.specs.declared.stops.Rule.TheVariants.{N1, N5}
 use Rattle.sync_base.specs.Outcome.{◌>>=◌}

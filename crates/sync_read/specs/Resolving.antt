@@ -1,5 +1,5 @@
 -- A machine's raw tree as plain lists with the scope behind it, or the first rule N that it breaks.
-use Rattle.std.specs.Prelude.{ℕ, ◌==◌, ◌+◌, Bool, true, false, List, [], ◌∷◌, ◌++◌, length, Result, Ok, Err, if◌then◌else◌}
+use Rattle.std.specs.Prelude.{ℕ, ◌==◌, ◌+◌, Bool, true, false, List, [], ◌∷◌, ◌++◌, length, Result, Ok, if◌then◌else◌}
 use Rattle.sync_base.specs.declared.stops.Refusal.{Refusal}
 use Rattle.sync_base.specs.declared.stops.Rule.TheVariants.{N4}
 use Rattle.sync_base.specs.Outcome.{◌>>=◌}
@@ -14,7 +14,6 @@ use Rattle.sync_parse.specs.declared.trees.RawOperation.{RawOperation}
 use Rattle.sync_parse.specs.declared.trees.RawInvariant.{RawInvariant}
 use Rattle.sync_parse.specs.declared.trees.RawMachine.{RawMachine}
 use Rattle.sync_names.specs.declared.scopes.Meaning.TheVariants as meaning
-use Rattle.sync_names.specs.declared.scopes.Owner.{Owner}
 use Rattle.sync_names.specs.declared.scopes.Owner.TheVariants as owner
 use Rattle.sync_names.specs.declared.scopes.Scope.{Scope}
 use Rattle.sync_names.specs.Scopes.{refuse, declare}

@@ -1,5 +1,5 @@
 -- Proof scripts and proofs: their plain trees, or the first rule that they break.
-use Rattle.std.specs.Prelude.{ℕ, List, [], ◌∷◌, ◌++◌, length, Result, Ok, Err}
+use Rattle.std.specs.Prelude.{ℕ, List, [], ◌∷◌, ◌++◌, length, Result, Ok}
 use Rattle.sync_base.specs.declared.stops.Refusal.{Refusal}
 use Rattle.sync_base.specs.declared.stops.Rule.TheVariants.{N1}
 use Rattle.sync_base.specs.Outcome.{◌>>=◌}
@@ -8,9 +8,8 @@ use Rattle.sync_terms.specs.Stored.{Stored}
 use Rattle.sync_terms.specs.declared.scripts.HypName.{HypName}
 use Rattle.sync_terms.specs.declared.scripts.HypName.TheVariants as name
 use Rattle.sync_terms.specs.declared.scripts.Part.{Part}
-use Rattle.sync_terms.specs.declared.scripts.Block.{Block}
 use Rattle.sync_terms.specs.declared.scripts.ScriptStep.{ScriptStep, fold-ScriptStep}
-use Rattle.sync_terms.specs.Plans.{Plan, Same, Sum, Inst, Parts, Split, Cut, Read, Size, Total, Cong, End, Then, kind_plan, block_plan, step_plan, steps_before, plan_of}
+use Rattle.sync_terms.specs.Plans.{Plan, Same, Sum, Inst, Parts, Split, Cut, Read, Size, Total, Cong, End, Then, kind_plan, block_plan, step_plan, steps_before}
 use Rattle.sync_rules.specs.declared.claims.Claim.{Claim}
 use Rattle.sync_rules.specs.declared.claims.Claim.TheVariants as claim
 use Rattle.sync_induct.specs.Checks.{ProofTree}

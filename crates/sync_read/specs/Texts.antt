@@ -1,5 +1,5 @@
 -- What a raw text means, as plain lists, or the first rule N that it breaks.
-use Rattle.std.specs.Prelude.{ℕ, List, [], length, map, min, replicate, Result, Ok, Err}
+use Rattle.std.specs.Prelude.{ℕ, List, [], length, min, replicate, Result, Ok}
 use Rattle.sync_base.specs.declared.stops.Refusal.{Refusal}
 use Rattle.sync_base.specs.declared.names.NameList.{NameList}
 use Rattle.sync_base.specs.Outcome.{◌>>=◌}

@@ -1,8 +1,8 @@
 //! Whole texts.
-ghost use Rattle.std.specs.Prelude.{◌≡◌, IfOk};
+ghost use Rattle.std.specs.Prelude.{◌≡◌, None, IfOk};
 ghost use Rattle.sync_base.specs.Outcome.{Gives};
 ghost use Rattle.sync_machine.specs.Views.{machine_tree, HasOwnIds};
-ghost use Rattle.sync_machine.specs.Naming.{AreTextNames};
+ghost use Rattle.sync_machine.specs.Naming.{machine_fault, AreTextNames};
 ghost use Rattle.sync_induct.specs.Checks.{AreScriptsOf};
 ghost use Rattle.sync_read.specs.declared.texts.Text.{Text};
 ghost use Rattle.sync_read.specs.Texts.{first_scope, resolved, text_tree};
@@ -45,11 +45,14 @@ fn first_scope(alloc: Global, count: usize) -> Result<Scope, NoMemory>
 }
 
 /// The text of a raw tree. Refuses with the first broken rule N.
+///
+/// Its machine breaks no rule of names, so nothing has to ask once more.
 #[tactic(auto, using(crate::proofs::Growing::operations_kept, crate::proofs::Growing::operations_stay, crate::proofs::Growing::invariants_kept, crate::proofs::Growing::invariants_stay, sync_names::proofs::Kept::stays))]
 pub fn resolve(alloc: Global, raw: RawText) -> Result<Text, Stop>
     ensures exact { Gives text_tree result (resolved raw) }
     ensures ids { IfOk result (λ (t : Text). HasOwnIds t.machine) }
     ensures names { IfOk result (λ (t : Text). AreTextNames (machine_tree t.machine)) }
+    ensures formed { IfOk result (λ (t : Text). machine_fault (machine_tree t.machine) ≡ None) }
     ensures scripts { IfOk result (λ (t : Text). AreScriptsOf t.machine.terms t.proofs.list) }
 {
     let mut scope = first_scope(alloc, raw.names.list.len())?;

@@ -1,8 +1,7 @@
 -- A machine that keeps the rules and holds always may be exchanged.
-use Rattle.std.proofs.Common.{◌≡◌, ℕ, List, Option, Some, None, Result, Ok, Err, refl}
+use Rattle.std.proofs.Common.{◌≡◌, None, Result, Ok, Err}
 use Rattle.std.specs.Prelude.{IfOk}
 use Rattle.sync_base.specs.declared.stops.Stop.{Stop}
-use Rattle.sync_base.specs.Outcome.{first}
 use Rattle.sync_machine.specs.Machines.{MachineTree}
 use Rattle.sync_machine.specs.Naming.{machine_fault, AreTextNames}
 use Rattle.sync_machine.specs.States.{HoldsAlways}
@@ -11,15 +10,10 @@ use Rattle.sync_exchange.specs.Projection.{IsProved}
 use Rattle.sync_exchange.proofs.Projecting.{projects, initialises}
 use Rattle.sync_holders.proofs.Moving.{moves-are-steps}
 use Rattle.sync_holders.proofs.Starting.{starts-go-on}
-use Rattle.sync_check.specs.Checking.{form_fault}
 use Rattle.sync_sharding.specs.Sharded.{IsSharded}
 
-no-first : {A : Type 0} (x y : Option A) → first x y ≡ None → (x ≡ None) × (y ≡ None)
-no-first None y e = (refl, e)
-no-first (Some x) y e = absurd cc
-
-is-proved : (m : MachineTree) → AreTextNames m → form_fault m ≡ None → HoldsAlways m → IsProved m
-is-proved m names form holds = let both = no-first (machine_fault m) (strategy_fault m) form in record { symbols = names; named = both.0; strategies = both.1; holds = holds }
+is-proved : (m : MachineTree) → AreTextNames m → machine_fault m ≡ None → strategy_fault m ≡ None → HoldsAlways m → IsProved m
+is-proved m names formed form holds = record { symbols = names; named = formed; strategies = form; holds = holds }
 
 is-sharded : (m : MachineTree) → IsProved m → IsSharded m
 is-sharded m proved = record {
@@ -30,7 +24,7 @@ is-sharded m proved = record {
   from_start = λ fits. starts-go-on fits m proved;
 }
 
-pub are-sharded : {A : Type 0} (f : A → MachineTree) (r : Result A Stop) → IfOk r (λ x. AreTextNames (f x)) → IfOk r (λ x. form_fault (f x) ≡ None) → IfOk r (λ x. HoldsAlways (f x))
-    → IfOk r (λ x. IsSharded (f x))
-are-sharded f (Ok x) names form holds = is-sharded (f x) (is-proved (f x) names form holds)
-are-sharded f (Err stop) names form holds = tt
+pub are-sharded : {A : Type 0} (f : A → MachineTree) (r : Result A Stop) → IfOk r (λ x. AreTextNames (f x)) → IfOk r (λ x. machine_fault (f x) ≡ None) → IfOk r (λ x. strategy_fault (f x) ≡ None)
+    → IfOk r (λ x. HoldsAlways (f x)) → IfOk r (λ x. IsSharded (f x))
+are-sharded f (Ok x) names formed form holds = is-sharded (f x) (is-proved (f x) names formed form holds)
+are-sharded f (Err stop) names formed form holds = tt

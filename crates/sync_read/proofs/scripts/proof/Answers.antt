@@ -1,4 +1,4 @@
-use Rattle.std.proofs.Common.{◌≡◌, ap}
+use Rattle.std.proofs.Common.{ap}
 use Rattle.std.proofs.lemmas.Result.{err_from_is_err_and}
 use Rattle.sync_terms.specs.Plans.{plan_of}
 use Rattle.sync_names.specs.declared.scopes.Owner.{Owner}

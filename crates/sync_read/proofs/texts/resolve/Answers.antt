@@ -1,11 +1,11 @@
-use Rattle.std.proofs.Common.{◌≡◌, [], ap, subst, ◌∙◌}
+use Rattle.std.proofs.Common.{[], ap, subst, ◌∙◌}
 use Rattle.std.proofs.lemmas.Result.{err_from_is_err_and}
 use Rattle.sync_names.proofs.Kept.{stays}
 use Rattle.sync_machine.specs.Views.{machine_tree}
 use Rattle.sync_base.specs.Outcome.{Stops}
 use Rattle.sync_read.specs.Scripts.{proofs_from}
 use Rattle.sync_read.specs.Texts.{first_scope}
-use Rattle.sync_read.proofs.Whole.{gives_stop, text_stops, own_scripts, machine_stays, names_kept}
+use Rattle.sync_read.proofs.Whole.{gives_stop, text_stops, own_scripts, machine_stays, names_kept, formed_kept}
 use Rattle.sync_read.proofs.texts.resolve.Goals as goal
 
 pub returns-in_err-list-clause-exact : goal.returns-in_err-list-clause-exact
@@ -23,6 +23,10 @@ returns-clause-ids c = machine_stays c.proofs.new.terms c.in_ok-name.field-0 c.p
 pub returns-clause-names : goal.returns-clause-names
 returns-clause-names c =
     names_kept c.proofs.new.terms c.in_ok-name.field-0 c.in_ok-scope.scope c.machine.new.scope c.args.raw c.proofs.ensures.keeps c.in_ok-name.ensures.ids c.in_ok-name.ensures.exact
+
+pub returns-clause-formed : goal.returns-clause-formed
+returns-clause-formed c =
+    formed_kept c.proofs.new.terms c.in_ok-name.field-0 c.in_ok-scope.scope c.machine.new.scope c.args.raw c.len.result c.proofs.ensures.keeps c.in_ok-name.ensures.ids c.in_ok-scope.ensures c.in_ok-name.ensures.exact
 
 pub returns-clause-scripts : goal.returns-clause-scripts
 returns-clause-scripts c =
