@@ -76,9 +76,6 @@ wide_known s row shape sh e g n =
     sym (ap (λ (x : Bool). x && (no_atom (row_shaped s sh).line && is_false sh.kind (constant_of (row_shaped s sh).line))) (false_from_ne_true (narrow (row_shaped s sh).line) (λ t. n (narrow_is (row_shaped s sh).line t))))
     ∙ ap is_false_row (sym (ap (option_map (row_shaped s)) g) ∙ e)
 
-pub no_line : (s : Stored) (row : Option Row) (shape : Option Shape) → option_map (row_shaped s) shape ≡ row → shape ≡ None → false ≡ is_false_row row
-no_line s row shape e g = ap is_false_row (sym (ap (option_map (row_shaped s)) g) ∙ e)
-
 -- ---- literals tell formulas apart
 apart_forms : (f g : Formula) → is_negation g ≡ false → formula_eq (Not f) g ≡ false
 apart_forms f (Not g) h = absurd (cc)

@@ -114,9 +114,6 @@ module _ (s : Stored) (fs : List Fact) (v : Seen) (l : Literal) (shared : IsShar
 
 -- ---- one fact more
 
-pub seen_long : (s : Stored) (fs : List Fact) (v : Seen) → HasSeen s fs v → looked v ≡ length fs
-seen_long s fs v h = entries_long s v.said (map says fs) h.said ∙ length-map fs says
-
 module _ (s : Stored) (fs : List Fact) (f : Fact) (v w : Seen) (e d : Option Literal) (b : Bool) (is : w ≡ record { said = v.said ++ e ∷ []; denied = v.denied ++ d ∷ []; closed = b }) where
   seen_next : HasSeen s fs v → v.closed ≡ false → IsEntry s e (says f) → IsEntry s d (denies f) → b ≡ (is_plain f && is_closing_with fs f.form) → HasSeen s (fs ++ f ∷ []) w
   seen_next h unclosed k j closes =
@@ -167,13 +164,7 @@ module _ (s : Stored) (fs : List Fact) (v : Seen) (h : IsSeen s fs v) where
   pub seen_open : v.closed ≡ false → length fs ≤ looked v → is_closed fs ≡ false
   seen_open e le = ap is_closed (sym (take_all (looked v) fs le)) ∙ sym h.oldest.closed ∙ e
 
--- ---- none, and fewer
-
-pub seen_none : (s : Stored) (fs : List Fact) (v : Seen) → v ≡ record { said = []; denied = []; closed = false } → IsSeen s fs v
-seen_none s fs v e = subst (IsSeen s fs) (sym e) (record {
-  within = omega arith;
-  oldest = record { said = tt; denied = tt; before = refl; closed = refl };
-})
+-- ---- fewer facts
 
 module _ (s : Stored) (fs : List Fact) (v w : Seen) (n : ℕ) (h : IsSeen s fs v) where
   pub seen_fewer : n < looked v → w ≡ record { said = take n v.said; denied = take n v.denied; closed = false } → IsSeen s (take n fs) w

@@ -190,14 +190,6 @@ last_hides hs h k =
     let len : length (saids hs) ≡ length hs = length-map hs (λ (y : Held). y.said) in
     (last_held hs h k).hides ∙ ap (place_from 0 h.said.name) (ap (take (length hs)) (saids_push hs h) ∙ take-append-le (length hs) (saids hs) (h.said ∷ []) (omega (arith, len)) ∙ take_all (length hs) (saids hs) (omega (arith, len)))
 
-pub last_total : (hs : List Held) (h : Held) → IsStack (hs ++ h ∷ []) → h.total ≡ capped (said_size (saids (hs ++ h ∷ [])))
-last_total hs h k =
-    let len : length (saids (hs ++ h ∷ [])) ≡ length hs + 1 = length-map (hs ++ h ∷ []) (λ (y : Held). y.said) ∙ length_push hs h in
-    (last_held hs h k).total ∙ ap (λ (xs : List Said). capped (said_size xs)) (take_all (length hs + 1) (saids (hs ++ h ∷ [])) (omega (arith, len)))
-
-pub stack_empty : IsStack []
-stack_empty = stack_from [] (λ i d lt. absurd (omega (arith, lt)))
-
 -- ---- what the code knows of a stack
 
 name_same : (a : HypName) → same_name a a ≡ true

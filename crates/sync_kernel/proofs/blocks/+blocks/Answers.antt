@@ -45,6 +45,9 @@ check_block-returns-in_err-left-clause-exact t c =
     passes_err c.from_residual.result c.in_err-left.field-0.0 (block_fault (facts_in s xs) (plan_of s b)) (cc)
     (checking_stops s xs b l.terms l.branch l.step-index h c.step-item.result e of c.in_err-left.field-0.0 (c.in_err-left.ensures.exact _))
 
+pub check_block-returns-in_err-left-clause-keeps : goal.check_block-returns-in_err-left-clause-keeps
+check_block-returns-in_err-left-clause-keeps t c = Extends-trans c.loop-step.invariant.checking.extends c.check_step.ensures.keeps
+
 pub check_block-loop-step-preserved : goal.check_block-loop-step-preserved
 check_block-loop-step-preserved t c =
     let s = c.args.terms.now in
