@@ -43,12 +43,9 @@ module _ (p : Name → Bool) where
 itself : (bytes : List ℕ) → bytes_eq bytes bytes ≡ true
 itself bytes = nat_list_eq_equiv.refl bytes
 
-true_or : (a b : Bool) → a ≡ true → (a || b) ≡ true
-true_or a b e = rw e refl
-
-or_true : (a b : Bool) → b ≡ true → (a || b) ≡ true
-or_true true b e = refl
-or_true false b e = e
+or_true : (a : Bool) → (a || true) ≡ true
+or_true true = refl
+or_true false = refl
 
 -- names that have a spelling keep its number and themselves
 module _ (bytes : List ℕ) (names : List Name) where
@@ -69,15 +66,12 @@ module _ (bytes : List ℕ) (names : List Name) where
   number_new new = place_new (spells bytes) names (name_of bytes) new (itself bytes)
 
   there_now : list_any (spells bytes) (names ++ name_of bytes ∷ []) ≡ true
-  there_now = rw (list_any-append (spells bytes) names (name_of bytes ∷ []), itself bytes) (or_true (list_any (spells bytes) names) true refl)
+  there_now = rw (list_any-append (spells bytes) names (name_of bytes ∷ []), itself bytes) (or_true (list_any (spells bytes) names))
 
   -- a new name has the next number, and stands at the end
   pub named_new : list_any (spells bytes) names ≡ false → None ≡ sign_of bytes
       → named names bytes (sign_of bytes) ≡ (what.Name (length names) (strategy_of bytes), names ++ name_of bytes ∷ [])
   named_new new none = rw (← none, (number_new new).0, with_new new) refl
-
-pair : (w : What) (names more : List Name) (s : What × List Name) → w ≡ s.0 → more ≡ s.1 → (w, more) ≡ s
-pair w names more s e f = rw (e, f) refl
 
 -- bytes say the same again
 again_by : (bytes : List ℕ) (names : List Name) (there : Bool) → list_any (spells bytes) names ≡ there → named (names_with names bytes) bytes None ≡ named names bytes None
