@@ -183,38 +183,20 @@ module _ (s : Scope) (k : Known) (agrees : Agrees s k) where
   sum_is : (op : Operator) (x y : Tree) → IsNumber x → IsNumber y → IsNumber (two_terms op x y)
   unfolding number_fault
   sum_is operator.Plus x y p q = both (number_fault k x) (number_fault k y) p q
-  sum_is operator.Minus x y p q = both (number_fault k x) (number_fault k y) p q
-  sum_is operator.Implies x y p q = both (number_fault k x) (number_fault k y) p q
-  sum_is operator.Or x y p q = both (number_fault k x) (number_fault k y) p q
-  sum_is operator.And x y p q = both (number_fault k x) (number_fault k y) p q
-  sum_is operator.Equal x y p q = both (number_fault k x) (number_fault k y) p q
-  sum_is operator.NotEqual x y p q = both (number_fault k x) (number_fault k y) p q
-  sum_is operator.AtMost x y p q = both (number_fault k x) (number_fault k y) p q
-  sum_is operator.Below x y p q = both (number_fault k x) (number_fault k y) p q
+  sum_is _ x y p q = both (number_fault k x) (number_fault k y) p q
 
   joined_is : (op : Operator) (f g : Formula) → IsFormula f → IsFormula g → IsFormula (two_forms op f g)
   unfolding formula_fault
-  joined_is operator.Plus f g p q = both (formula_fault k f) (formula_fault k g) p q
-  joined_is operator.Minus f g p q = both (formula_fault k f) (formula_fault k g) p q
   joined_is operator.Implies f g p q = both (formula_fault k f) (formula_fault k g) p q
   joined_is operator.Or f g p q = both (formula_fault k f) (formula_fault k g) p q
-  joined_is operator.And f g p q = both (formula_fault k f) (formula_fault k g) p q
-  joined_is operator.Equal f g p q = both (formula_fault k f) (formula_fault k g) p q
-  joined_is operator.NotEqual f g p q = both (formula_fault k f) (formula_fault k g) p q
-  joined_is operator.AtMost f g p q = both (formula_fault k f) (formula_fault k g) p q
-  joined_is operator.Below f g p q = both (formula_fault k f) (formula_fault k g) p q
+  joined_is _ f g p q = both (formula_fault k f) (formula_fault k g) p q
 
   compared_is : (op : Operator) (x y : Tree) → IsNumber x → IsNumber y → IsFormula (compared op x y)
   unfolding formula_fault
-  compared_is operator.Plus x y p q = both (number_fault k x) (number_fault k y) p q
-  compared_is operator.Minus x y p q = both (number_fault k x) (number_fault k y) p q
-  compared_is operator.Implies x y p q = both (number_fault k x) (number_fault k y) p q
-  compared_is operator.Or x y p q = both (number_fault k x) (number_fault k y) p q
-  compared_is operator.And x y p q = both (number_fault k x) (number_fault k y) p q
-  compared_is operator.Equal x y p q = both (number_fault k x) (number_fault k y) p q
-  compared_is operator.NotEqual x y p q = both (number_fault k x) (number_fault k y) p q
   compared_is operator.AtMost x y p q = both (number_fault k x) (number_fault k y) p q
   compared_is operator.Below x y p q = both (number_fault k x) (number_fault k y) p q
+  compared_is operator.NotEqual x y p q = both (number_fault k x) (number_fault k y) p q
+  compared_is _ x y p q = both (number_fault k x) (number_fault k y) p q
 
   abbrev TwoNumbers : Tree × Tree → Type 0
   TwoNumbers p = IsNumber p.0 × IsNumber p.1
