@@ -20,17 +20,17 @@ use Rattle.sync_print.specs.ShowExprs.{show_expr}
 use Rattle.sync_print.specs.ShowTexts.{show_pattern, show_place, show_formula_act, show_value_act, show_place_act, show_act}
 use Rattle.sync_spell.specs.Says.{Says}
 use Rattle.sync_spell.specs.Limits.{Fits, PatternFits, PlaceFits, ActFits}
-use Rattle.sync_spell.specs.Laws.{Spells, IsSpelled}
+use Rattle.sync_spell.specs.Laws.{Derives, IsSpelled}
 use Rattle.sync_spell.proofs.Words.{split as parted, the_sign, the_name, here_is, yields, seq}
 use Rattle.sync_spell.proofs.Expressions.{exprs}
 
-pub closed : {A B : Type 0} {M : Spelled A} {says : A → B} {x : B} {ts us rest : List Word} → Spells M says x ts us → Says (one sign.Semicolon) us rest → Spells (Closed M) says x ts rest
+pub closed : {A B : Type 0} {M : Spelled A} {says : A → B} {x : B} {ts us rest : List Word} → Derives M says x ts us → Says (one sign.Semicolon) us rest → Derives (Closed M) says x ts rest
 unfolding Closed
 closed {us = us} {rest = rest} x h =
     let e = the_sign h in
     record { raw = x.raw; spelled = seq x.raw us x.spelled (seq e.0 rest e.1 (yields _)); is = x.is }
 
-pattern_spelled : (p : PlainPattern) → PatternFits p → (ts rest : List Word) → Says (show_pattern p) ts rest → Spells Pattern plain_pattern p ts rest
+pattern_spelled : (p : PlainPattern) → PatternFits p → (ts rest : List Word) → Says (show_pattern p) ts rest → Derives Pattern plain_pattern p ts rest
 unfolding Pattern
 pattern_spelled (bind x) fits ts rest h =
     let r = parted (one sign.Question) (one_name x) h in
@@ -42,7 +42,7 @@ pattern_spelled (term e) fits ts rest h =
     let y = exprs.holds e fits ts rest h in
     record { raw = raw_pattern.Term y.raw; spelled = the_other (seq y.raw rest y.spelled (yields _)); is = ap term y.is }
 
-place_spelled : (p : PlainPlace) → PlaceFits p → (ts rest : List Word) → Says (show_place p) ts rest → Spells Place plain_place p ts rest
+place_spelled : (p : PlainPlace) → PlaceFits p → (ts rest : List Word) → Says (show_place p) ts rest → Derives Place plain_place p ts rest
 unfolding Place
 place_spelled (value p) fits ts rest h =
     let n2 = parted (one sign.OpenRound ++ show_pattern p) (one sign.CloseRound) h in
@@ -84,7 +84,7 @@ place_spelled (entry e p) fits ts rest h =
     }
 
 formula_spelled : (opening : Sign) (made : Expr → RawActKind) (what : Plain → PlainAct) → ((e : Expr) → plain_act_kind (made e) ≡ what (plain e))
-    → (e : Plain) → Fits e → (ts rest : List Word) → Says (show_formula_act opening e) ts rest → Spells (FormulaAct opening made) plain_act_kind (what e) ts rest
+    → (e : Plain) → Fits e → (ts rest : List Word) → Says (show_formula_act opening e) ts rest → Derives (FormulaAct opening made) plain_act_kind (what e) ts rest
 unfolding FormulaAct
 formula_spelled opening made what said e fits ts rest h =
     let n2 = parted (one opening ++ show_expr e) (one sign.Semicolon) h in
@@ -94,7 +94,7 @@ formula_spelled opening made what said e fits ts rest h =
     record { raw = made y.raw; spelled = seq s.0 n1.0 s.1 (seq y.raw rest y.spelled (yields _)); is = said y.raw ∙ ap what y.is }
 
 value_spelled : (opening : Sign) (made : Named → Expr → RawActKind) (what : ℕ → Plain → PlainAct) → ((x : Named) (e : Expr) → plain_act_kind (made x e) ≡ what x.name (plain e))
-    → (x : ℕ) (e : Plain) → Fits e → (ts rest : List Word) → Says (show_value_act opening x e) ts rest → Spells (ValueAct opening made) plain_act_kind (what x e) ts rest
+    → (x : ℕ) (e : Plain) → Fits e → (ts rest : List Word) → Says (show_value_act opening x e) ts rest → Derives (ValueAct opening made) plain_act_kind (what x e) ts rest
 unfolding ValueAct
 value_spelled opening made what said x e fits ts rest h =
     let n4 = parted (one opening ++ one_name x ++ one sign.Equal ++ show_expr e) (one sign.Semicolon) h in
@@ -114,7 +114,7 @@ value_spelled opening made what said x e fits ts rest h =
 
 placed_spelled : (opening symbol : Sign) (made : Named → RawPlace → RawActKind) (what : ℕ → PlainPlace → PlainAct)
     → ((x : Named) (p : RawPlace) → plain_act_kind (made x p) ≡ what x.name (plain_place p))
-    → (x : ℕ) (p : PlainPlace) → PlaceFits p → (ts rest : List Word) → Says (show_place_act opening x symbol p) ts rest → Spells (PlaceAct opening symbol made) plain_act_kind (what x p) ts rest
+    → (x : ℕ) (p : PlainPlace) → PlaceFits p → (ts rest : List Word) → Says (show_place_act opening x symbol p) ts rest → Derives (PlaceAct opening symbol made) plain_act_kind (what x p) ts rest
 unfolding PlaceAct FieldPlace
 placed_spelled opening symbol made what said x p fits ts rest h =
     let n4 = parted (one opening ++ one_name x ++ one symbol ++ show_place p) (one sign.Semicolon) h in
@@ -132,7 +132,7 @@ placed_spelled opening symbol made what said x p fits ts rest h =
       is = said named y.raw ∙ ap (what x) y.is;
     }
 
-have_variable_spelled : (x : ℕ) (ts rest : List Word) → Says (one sign.Have ++ one_name x ++ one sign.Semicolon) ts rest → Spells HaveAct plain_act_kind (have_variable x) ts rest
+have_variable_spelled : (x : ℕ) (ts rest : List Word) → Says (one sign.Have ++ one_name x ++ one sign.Semicolon) ts rest → Derives HaveAct plain_act_kind (have_variable x) ts rest
 unfolding HaveAct
 have_variable_spelled x ts rest h =
     let n2 = parted (one sign.Have ++ one_name x) (one sign.Semicolon) h in
@@ -147,7 +147,7 @@ have_variable_spelled x ts rest h =
       is = refl;
     }
 
-have_spelled : (x : ℕ) (p : PlainPlace) → PlaceFits p → (ts rest : List Word) → Says (show_place_act sign.Have x sign.AtLeast p) ts rest → Spells HaveAct plain_act_kind (have x p) ts rest
+have_spelled : (x : ℕ) (p : PlainPlace) → PlaceFits p → (ts rest : List Word) → Says (show_place_act sign.Have x sign.AtLeast p) ts rest → Derives HaveAct plain_act_kind (have x p) ts rest
 unfolding HaveAct
 have_spelled x p fits ts rest h =
     let n4 = parted (one sign.Have ++ one_name x ++ one sign.AtLeast ++ show_place p) (one sign.Semicolon) h in
@@ -165,7 +165,7 @@ have_spelled x p fits ts rest h =
       is = ap (have x) y.is;
     }
 
-kind_spelled : (a : PlainAct) → ActFits a → (ts rest : List Word) → Says (show_act a) ts rest → Spells ActKind plain_act_kind a ts rest
+kind_spelled : (a : PlainAct) → ActFits a → (ts rest : List Word) → Says (show_act a) ts rest → Derives ActKind plain_act_kind a ts rest
 unfolding ActKind
 kind_spelled (init x e) fits ts rest h = (let y = value_spelled sign.Init raw.Init init (λ x e. refl) x e fits ts rest h in record { raw = y.raw; spelled = the_one y.spelled; is = y.is })
 kind_spelled (require e) fits ts rest h = (let y = formula_spelled sign.Require raw.Require require (λ e. refl) e fits ts rest h in record { raw = y.raw; spelled = the_other (the_one y.spelled); is = y.is })
@@ -179,7 +179,7 @@ kind_spelled (deposit x p) fits ts rest h = (let y = placed_spelled sign.Deposit
 kind_spelled (remove x p) fits ts rest h = (let y = placed_spelled sign.Remove sign.MinusEqual raw.Remove remove (λ x p. refl) x p fits ts rest h in record { raw = y.raw; spelled = the_other (the_other (the_other (the_other (the_other (the_other (the_other (the_other (the_one y.spelled)))))))); is = y.is })
 kind_spelled (withdraw x p) fits ts rest h = (let y = placed_spelled sign.Withdraw sign.MinusEqual raw.Withdraw withdraw (λ x p. refl) x p fits ts rest h in record { raw = y.raw; spelled = the_other (the_other (the_other (the_other (the_other (the_other (the_other (the_other (the_other (y.spelled))))))))); is = y.is })
 
-act_spelled : (a : PlainAct) → ActFits a → (ts rest : List Word) → Says (show_act a) ts rest → Spells Act plain_act a ts rest
+act_spelled : (a : PlainAct) → ActFits a → (ts rest : List Word) → Says (show_act a) ts rest → Derives Act plain_act a ts rest
 unfolding Act
 act_spelled a fits ts rest h =
     let y = kind_spelled a fits ts rest h in

@@ -17,7 +17,7 @@ use Rattle.sync_print.specs.Lexemes.{Lexeme, one, one_name, one_number, needed, 
 use Rattle.sync_print.specs.ShowExprs.{shown, all_shown, show_expr, function_sign, special_sign, before, behind}
 use Rattle.sync_spell.specs.Says.{Says, no_more}
 use Rattle.sync_spell.specs.Limits.{Fits, AllFit}
-use Rattle.sync_spell.specs.Laws.{Spells, IsSpelled}
+use Rattle.sync_spell.specs.Laws.{Derives, IsSpelled}
 use Rattle.sync_spell.proofs.Words.{split, the_sign, the_number, the_name, yields, seq, whole}
 use Rattle.sync_spell.proofs.Levels.{Spelt, says_placed, Level, l0, l1, l2, l3, l4, l5, l6, rank, level, lift, sums, ands, ors, relations, implications, joins}
 use Rattle.sync_spell.proofs.Operands.{bracketed, a_name_operand, a_number_operand, a_param_operand, nil_operand, special_operand, Args, call_operand, negations, products}
@@ -333,7 +333,7 @@ mutual
   args_placed (more e es) fits = more_args e es (all_placed e fits.0) (args_placed es fits.1)
 
 -- words that say the canonical lexemes of an expression spell an expression that says the same
-expr_spelled : (e : Plain) → Fits e → (ts rest : List Word) → Says (show_expr e) ts rest → Spells AnExpr plain e ts rest
+expr_spelled : (e : Plain) → Fits e → (ts rest : List Word) → Says (show_expr e) ts rest → Derives AnExpr plain e ts rest
 unfolding AnExpr
 expr_spelled e fits ts rest h =
     let x = (all_placed e fits).at.reads (height e) (omega arith) l0 ts rest h in

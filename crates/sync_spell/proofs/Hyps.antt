@@ -18,7 +18,7 @@ use Rattle.sync_print.specs.ShowExprs.{special_sign}
 use Rattle.sync_print.specs.ShowScripts.{show_subject, show_hyp, show_part, show_as}
 use Rattle.sync_spell.specs.Says.{Says}
 use Rattle.sync_spell.specs.Limits.{last_place, IsBounded, SubjectFits, HypFits, PartFits}
-use Rattle.sync_spell.specs.Laws.{Spells, IsSpelled}
+use Rattle.sync_spell.specs.Laws.{Derives, IsSpelled}
 use Rattle.sync_spell.proofs.Words.{split, the_sign, the_number, the_name, one_of, yields, seq}
 
 bounded_found : (w : Special) → IsBounded w → bounded_of (special_sign w) ≡ Some w
@@ -29,7 +29,7 @@ bounded_found word.Old is = refl
 bounded_found word.New is = refl
 bounded_found word.Wrap is = refl
 
-subject_spelled : (s : PlainSubject) → SubjectFits s → (ts rest : List Word) → Says (show_subject s) ts rest → Spells ASubject plain_subject s ts rest
+subject_spelled : (s : PlainSubject) → SubjectFits s → (ts rest : List Word) → Says (show_subject s) ts rest → Derives ASubject plain_subject s ts rest
 unfolding ASubject
 subject_spelled (name x) fits ts rest h =
     let n = the_name h in
@@ -42,7 +42,7 @@ subject_spelled (special w) fits ts rest h =
 pub within_place : (n : ℕ) → n ≤ last_place → place_of n ≡ n
 within_place n fits = omega arith
 
-hyp_spelled : (p : PlainHyp) → HypFits p → (ts rest : List Word) → Says (show_hyp p) ts rest → Spells Hyp plain_hyp p ts rest
+hyp_spelled : (p : PlainHyp) → HypFits p → (ts rest : List Word) → Says (show_hyp p) ts rest → Derives Hyp plain_hyp p ts rest
 unfolding Hyp
 hyp_spelled denied fits ts rest h =
     let s = the_sign h in
@@ -84,7 +84,7 @@ part_is : {z z' : ℤ} {y y' : PlainHyp} → z ≡ z' → y ≡ y' → ◌≡◌
 part_is p q = λ i. record { times = p i; hyp = q i }
 
 scaled_spelled : (p : PlainPart) (b : Bool) → is_negative p.times ≡ b → PartFits p → (ts us rest : List Word) → Says (one_number (unsigned_abs p.times)) ts us → Says (show_hyp p.hyp) us rest
-    → Spells (Scaled b) plain_part p ts rest
+    → Derives (Scaled b) plain_part p ts rest
 unfolding Scaled
 scaled_spelled p b is fits ts us rest n h =
     let x = hyp_spelled p.hyp fits.1 us rest h in
@@ -96,7 +96,7 @@ scaled_spelled p b is fits ts us rest n h =
 
 part_case : (p : PlainPart) → PartFits p → (ts rest : List Word) (b : Bool) → is_negative p.times ≡ b
     → Says ((if b then one sign.Minus ++ one_number (unsigned_abs p.times) else one_number (unsigned_abs p.times)) ++ show_hyp p.hyp) ts rest
-    → Spells Part plain_part p ts rest
+    → Derives Part plain_part p ts rest
 unfolding Part
 part_case p fits ts rest true is h =
     let r = split (one sign.Minus ++ one_number (unsigned_abs p.times)) (show_hyp p.hyp) h in
@@ -109,7 +109,7 @@ part_case p fits ts rest false is h =
     let x = scaled_spelled p false is fits ts r.0 rest r.1 r.2 in
     record { raw = x.raw; spelled = the_other x.spelled; is = x.is }
 
-part_spelled : (p : PlainPart) → PartFits p → (ts rest : List Word) → Says (show_part p) ts rest → Spells Part plain_part p ts rest
+part_spelled : (p : PlainPart) → PartFits p → (ts rest : List Word) → Says (show_part p) ts rest → Derives Part plain_part p ts rest
 part_spelled p fits ts rest h = part_case p fits ts rest (is_negative p.times) refl h
 
 pub parts : IsSpelled Part plain_part show_part PartFits

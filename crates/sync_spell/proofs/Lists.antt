@@ -7,14 +7,14 @@ use Rattle.sync_tokens.specs.declared.words.Word.{Word}
 use Rattle.sync_grammar.specs.Relations.{Spelled, The, the_one, the_other, Many, nothing, more, Series, Listed, InRound, ◌>>◌}
 use Rattle.sync_print.specs.Lexemes.{Lexeme, one, with_commas, listed}
 use Rattle.sync_spell.specs.Says.{Says, no_more}
-use Rattle.sync_spell.specs.Laws.{Spells, IsSpelled}
+use Rattle.sync_spell.specs.Laws.{Derives, IsSpelled}
 use Rattle.sync_spell.proofs.Words.{split, the_sign, yields, seq}
 
 both_are : {A : Type 0} {x y : A} {xs ys : List A} → x ≡ y → xs ≡ ys → ◌≡◌ {A = List A} (x ∷ xs) (y ∷ ys)
 both_are {y = y} {xs = xs} p q = ap (λ z. z ∷ xs) p ∙ ap (λ zs. y ∷ zs) q
 
 row_spelled : {A B : Type 0} {M : Spelled A} {says : A → B} {show : B → List Lexeme} {Fits : B → Type 0} → IsSpelled M says show Fits
-    → (xs : List B) → All Fits xs → (ts rest : List Word) → Says (flat_map show xs) ts rest → Spells (Many M) (map says) xs ts rest
+    → (xs : List B) → All Fits xs → (ts rest : List Word) → Says (flat_map show xs) ts rest → Derives (Many M) (map says) xs ts rest
 row_spelled item [] fits ts rest no_more = record { raw = []; spelled = nothing; is = refl }
 row_spelled {show = show} {Fits = Fits} item (x ∷ xs) fits ts rest h =
     let r = split (show x) (flat_map show xs) h in
@@ -28,7 +28,7 @@ pub rows : {A B : Type 0} {M : Spelled A} {says : A → B} {show : B → List Le
 rows item = record { holds = row_spelled item }
 
 behind_spelled : {A B : Type 0} {M : Spelled A} {says : A → B} {show : B → List Lexeme} {Fits : B → Type 0} → IsSpelled M says show Fits
-    → (xs : List B) → All Fits xs → (ts rest : List Word) → Says (with_commas true (map show xs)) ts rest → Spells (Many (The sign.Comma >> M)) (map says) xs ts rest
+    → (xs : List B) → All Fits xs → (ts rest : List Word) → Says (with_commas true (map show xs)) ts rest → Derives (Many (The sign.Comma >> M)) (map says) xs ts rest
 behind_spelled item [] fits ts rest no_more = record { raw = []; spelled = nothing; is = refl }
 behind_spelled {show = show} {Fits = Fits} item (x ∷ xs) fits ts rest h =
     let r = split (one sign.Comma ++ show x) (with_commas true (map show xs)) h in
@@ -40,7 +40,7 @@ behind_spelled {show = show} {Fits = Fits} item (x ∷ xs) fits ts rest h =
 
 -- items with commas between, at least one
 pub series : {A B : Type 0} {M : Spelled A} {says : A → B} {show : B → List Lexeme} {Fits : B → Type 0} → IsSpelled M says show Fits
-    → (xs : List B) → 1 ≤ length xs → All Fits xs → (ts rest : List Word) → Says (listed (map show xs)) ts rest → Spells (Series M) (map says) xs ts rest
+    → (xs : List B) → 1 ≤ length xs → All Fits xs → (ts rest : List Word) → Says (listed (map show xs)) ts rest → Derives (Series M) (map says) xs ts rest
 unfolding Series
 series item [] some fits ts rest h = absurd (omega arith)
 series {show = show} {Fits = Fits} item (x ∷ xs) some fits ts rest h =
@@ -51,7 +51,7 @@ series {show = show} {Fits = Fits} item (x ∷ xs) some fits ts rest h =
 
 -- items with commas between, or nothing
 pub lists : {A B : Type 0} {M : Spelled A} {says : A → B} {show : B → List Lexeme} {Fits : B → Type 0} → IsSpelled M says show Fits
-    → (xs : List B) → All Fits xs → (ts rest : List Word) → Says (listed (map show xs)) ts rest → Spells (Listed M) (map says) xs ts rest
+    → (xs : List B) → All Fits xs → (ts rest : List Word) → Says (listed (map show xs)) ts rest → Derives (Listed M) (map says) xs ts rest
 unfolding Listed
 lists item [] fits ts rest no_more = record { raw = []; spelled = the_one (yields []); is = refl }
 lists item (x ∷ xs) fits ts rest h =
@@ -61,7 +61,7 @@ lists item (x ∷ xs) fits ts rest h =
 -- the same in round brackets
 pub in_brackets : {A B : Type 0} {M : Spelled A} {says : A → B} {show : B → List Lexeme} {Fits : B → Type 0} → IsSpelled M says show Fits
     → (xs : List B) → All Fits xs → (ts us vs rest : List Word) → Says (one sign.OpenRound) ts us → Says (listed (map show xs)) us vs → Says (one sign.CloseRound) vs rest
-    → Spells (InRound M) (map says) xs ts rest
+    → Derives (InRound M) (map says) xs ts rest
 unfolding InRound
 in_brackets item xs fits ts us vs rest o h c =
     let y = lists item xs fits us vs h in

@@ -23,7 +23,7 @@ use Rattle.sync_print.specs.ShowScripts.{show_block}
 use Rattle.sync_print.specs.ShowTexts.{show_act, show_field, mode_sign, show_names, show_operation, show_invariant, show_machine, show_claim, show_proof, show_proofs}
 use Rattle.sync_spell.specs.Says.{Says, no_more, one_more}
 use Rattle.sync_spell.specs.Limits.{OperationFits, InvariantFits, MachineFits, ClaimFits, ProofFits}
-use Rattle.sync_spell.specs.Laws.{Spells, IsSpelled}
+use Rattle.sync_spell.specs.Laws.{Derives, IsSpelled}
 use Rattle.sync_spell.proofs.Words.{split as parted, the_sign, the_number, the_name, here_is, yields, seq}
 use Rattle.sync_spell.proofs.Expressions.{exprs}
 use Rattle.sync_spell.proofs.Lists.{rows, in_brackets}
@@ -40,7 +40,7 @@ all_within xs = λ k d within. tt
 
 -- ---- names
 
-name_spelled : (x : ℕ) → NoLimit x → (ts rest : List Word) → Says (one_name x) ts rest → Spells AName name_of x ts rest
+name_spelled : (x : ℕ) → NoLimit x → (ts rest : List Word) → Says (one_name x) ts rest → Derives AName name_of x ts rest
 name_spelled x fits ts rest h =
     let n = the_name h in
     record { raw = record { name = x; line = n.0 }; spelled = n.1; is = refl }
@@ -48,7 +48,7 @@ name_spelled x fits ts rest h =
 names : IsSpelled AName name_of one_name NoLimit
 names = record { holds = name_spelled }
 
-names_spelled : (xs : List ℕ) (ts rest : List Word) → Says (show_names xs) ts rest → Spells Names (map name_of) xs ts rest
+names_spelled : (xs : List ℕ) (ts rest : List Word) → Says (show_names xs) ts rest → Derives Names (map name_of) xs ts rest
 unfolding Names
 names_spelled xs ts rest h =
     let r = parted (one sign.OpenRound ++ listed (map one_name xs)) (one sign.CloseRound) h in
@@ -61,7 +61,7 @@ the_strategy : {s : Strategy} {ts rest : List Word} → Says (one_strategy s) ts
 unfolding one_strategy
 the_strategy (one_more {w = w} is no_more) = record { word = w; number = is.0; stands = refl; is = is.1 }
 
-field_spelled : (f : PlainField) → NoLimit f → (ts rest : List Word) → Says (show_field f) ts rest → Spells Field plain_field f ts rest
+field_spelled : (f : PlainField) → NoLimit f → (ts rest : List Word) → Says (show_field f) ts rest → Derives Field plain_field f ts rest
 unfolding Field
 field_spelled f fits ts rest h =
     let n4 = parted (one sign.Field ++ one_name f.name ++ one sign.Colon ++ one_strategy f.strategy) (one sign.Semicolon) h in
@@ -95,7 +95,7 @@ operation_is : (o : PlainOperation) {ps : List ℕ} {ss : List PlainAct} → ps 
     → ◌≡◌ {A = PlainOperation} (record { mode = o.mode; name = o.name; params = ps; acts = ss }) o
 operation_is o p q = λ i. record { mode = o.mode; name = o.name; params = p i; acts = q i }
 
-operation_spelled : (o : PlainOperation) → OperationFits o → (ts rest : List Word) → Says (show_operation o) ts rest → Spells Operation plain_operation o ts rest
+operation_spelled : (o : PlainOperation) → OperationFits o → (ts rest : List Word) → Says (show_operation o) ts rest → Derives Operation plain_operation o ts rest
 unfolding Operation
 operation_spelled o fits ts rest h =
     let n5 = parted (one (mode_sign o.mode) ++ one_name o.name ++ show_names o.params ++ one sign.OpenBrace ++ flat_map show_act o.acts) (one sign.CloseBrace) h in
@@ -124,7 +124,7 @@ operations = record { holds = operation_spelled }
 invariant_is : (i : PlainInvariant) {ps : List ℕ} {e : Plain} → ps ≡ i.params → e ≡ i.form → ◌≡◌ {A = PlainInvariant} (record { name = i.name; params = ps; form = e }) i
 invariant_is v p q = λ i. record { name = v.name; params = p i; form = q i }
 
-invariant_spelled : (v : PlainInvariant) → InvariantFits v → (ts rest : List Word) → Says (show_invariant v) ts rest → Spells Invariant plain_invariant v ts rest
+invariant_spelled : (v : PlainInvariant) → InvariantFits v → (ts rest : List Word) → Says (show_invariant v) ts rest → Derives Invariant plain_invariant v ts rest
 unfolding Invariant
 invariant_spelled v fits ts rest h =
     let n5 = parted (one sign.Invariant ++ one_name v.name ++ show_names v.params ++ one sign.Colon ++ show_expr v.form) (one sign.Semicolon) h in
@@ -153,7 +153,7 @@ machine_is : (m : PlainMachine) {fs : List PlainField} {os : List PlainOperation
     → ◌≡◌ {A = PlainMachine} (record { name = m.name; fields = fs; operations = os; invariants = vs }) m
 machine_is m p q r = λ i. record { name = m.name; fields = p i; operations = q i; invariants = r i }
 
-machine_spelled : (m : PlainMachine) → MachineFits m → (ts rest : List Word) → Says (show_machine m) ts rest → Spells Machine plain_machine m ts rest
+machine_spelled : (m : PlainMachine) → MachineFits m → (ts rest : List Word) → Says (show_machine m) ts rest → Derives Machine plain_machine m ts rest
 unfolding Machine
 machine_spelled m fits ts rest h =
     let n6 = parted (one sign.Machine ++ one_name m.name ++ one sign.OpenBrace ++ flat_map show_field m.fields ++ flat_map show_operation m.operations ++ flat_map show_invariant m.invariants) (one sign.CloseBrace) h in
@@ -181,7 +181,7 @@ machines = record { holds = machine_spelled }
 
 -- ---- proofs
 
-claim_spelled : (c : PlainClaim) → ClaimFits c → (ts rest : List Word) → Says (show_claim c) ts rest → Spells Claim plain_claim c ts rest
+claim_spelled : (c : PlainClaim) → ClaimFits c → (ts rest : List Word) → Says (show_claim c) ts rest → Derives Claim plain_claim c ts rest
 unfolding Claim
 claim_spelled (keeps x) fits ts rest h =
     let r = parted (one sign.Keeps) (one_name x) h in
@@ -197,7 +197,7 @@ claim_spelled (at n) fits ts rest h =
 proof_is : (p : PlainProof) {c : PlainClaim} {b : PlainBlock} → c ≡ p.claim → b ≡ p.block → ◌≡◌ {A = PlainProof} (record { operation = p.operation; claim = c; block = b }) p
 proof_is p q r = λ i. record { operation = p.operation; claim = q i; block = r i }
 
-proof_spelled : (p : PlainProof) → ProofFits p → (ts rest : List Word) → Says (show_proof p) ts rest → Spells Proof plain_proof p ts rest
+proof_spelled : (p : PlainProof) → ProofFits p → (ts rest : List Word) → Says (show_proof p) ts rest → Derives Proof plain_proof p ts rest
 unfolding Proof Script
 proof_spelled p fits ts rest h =
     let n3 = parted (one_name p.operation ++ show_claim p.claim ++ one sign.By) (show_block p.block) h in
@@ -218,7 +218,7 @@ proof_spelled p fits ts rest h =
 proof_rows : IsSpelled Proof plain_proof show_proof ProofFits
 proof_rows = record { holds = proof_spelled }
 
-proofs_spelled : (ps : List PlainProof) → All ProofFits ps → (ts rest : List Word) → Says (show_proofs ps) ts rest → Spells Proofs (map plain_proof) ps ts rest
+proofs_spelled : (ps : List PlainProof) → All ProofFits ps → (ts rest : List Word) → Says (show_proofs ps) ts rest → Derives Proofs (map plain_proof) ps ts rest
 unfolding Proofs
 proofs_spelled [] fits ts rest no_more = record { raw = []; spelled = the_one (yields []); is = refl }
 proofs_spelled (p ∷ ps) fits ts rest h =

@@ -29,7 +29,6 @@ use Rattle.sync_spell.specs.Rereading.{Rereads, ReadsBack}
 use Rattle.sync_spell.proofs.Texts.{texts}
 use Rattle.sync_spell.proofs.TextsTold.{spelled_fits}
 use Rattle.sync_spell.proofs.PrintedWords.{printed_worded, too_long}
-use Rattle.sync_spell.proofs.WordNames.{names_in_order}
 use Rattle.sync_spell.proofs.TextNames.{words_are_names}
 
 -- what is shown of a text is of version 1
@@ -78,13 +77,8 @@ module _ (raw : RawText) (fits : TextFits (plain_text raw)) (are : AreNames raw.
 -- what is printed of a text that is spelled is read again as a tree that says the same, unless it is too long or too deep
 pub reads_back : (text : List ℕ) (raw : RawText) → Spells text raw → ReadsBack raw (printed raw.names (show (plain_text raw)))
 reads_back text raw d =
-    let ws = d.0 in
-    let names = words_are_names text ws d.1 in
-    let known = spelled_fits text raw ws d.1 d.2 d.3 names.words in
-    let same : ws.names ≡ raw.names = sym d.3 in
-    let order : in_order [] (names_said ws.names (show (plain_text raw))) ≡ ws.names.list = sym (names_in_order text ws d.1 ∙ ap (in_order []) known.1) in
-    read_back raw known.0 (subst (λ (n : NameList). AreNames n.list) same names.names) (subst (λ (n : NameList). All (LexemeFits n) (show (plain_text raw))) same known.2)
-    (subst (λ (n : NameList). in_order [] (names_said n (show (plain_text raw))) ≡ n.list) same order)
+    let names = subst (λ (n : NameList). AreNames n.list) (sym d.3) (words_are_names text d.0 d.1).names in
+    read_back raw (spelled_fits.limits text raw d) names (spelled_fits.lexemes text raw d) (sym (spelled_fits.names text raw d))
 
 -- the same of an answer
 pub printed_reads_back : {E : Type 0} (raw : RawText) (r : Result (List ℕ) E) → IfOk r (λ (bytes : List ℕ). bytes ≡ printed raw.names (show (plain_text raw)))

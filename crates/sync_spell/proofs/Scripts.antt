@@ -17,7 +17,7 @@ use Rattle.sync_print.specs.ShowExprs.{show_expr}
 use Rattle.sync_print.specs.ShowScripts.{show_hyp, show_as, show_step, show_steps, show_block}
 use Rattle.sync_spell.specs.Says.{Says, no_more}
 use Rattle.sync_spell.specs.Limits.{Fits, HypFits, StepFits, BlockFits}
-use Rattle.sync_spell.specs.Laws.{Spells, IsSpelled}
+use Rattle.sync_spell.specs.Laws.{Derives, IsSpelled}
 use Rattle.sync_spell.proofs.Words.{split as parted, the_sign, here_is, yields, seq}
 use Rattle.sync_spell.proofs.Expressions.{exprs}
 use Rattle.sync_spell.proofs.Hyps.{hyps, the_as}
@@ -52,12 +52,12 @@ said_steps xs = block_of (map plain_step xs)
 
 -- a step, and the steps of a block, where so many braces may be open at once
 record OfStep (s : PlainStep) : Type 0 where
-  pub reads : (d : ℕ) → depth_of s ≤ d → (ts rest : List Word) → Says (show_step s) ts rest → Spells (StepKind (Nested d)) said_step s ts rest
+  pub reads : (d : ℕ) → depth_of s ≤ d → (ts rest : List Word) → Says (show_step s) ts rest → Derives (StepKind (Nested d)) said_step s ts rest
 
 record OfBlock (b : PlainBlock) : Type 0 where
-  pub reads : (d : ℕ) → depth b ≤ d → (ts rest : List Word) → Says (show_steps b) ts rest → Spells (Many (Step (Nested d))) said_steps b ts rest
+  pub reads : (d : ℕ) → depth b ≤ d → (ts rest : List Word) → Says (show_steps b) ts rest → Derives (Many (Step (Nested d))) said_steps b ts rest
 
-braced : (b : PlainBlock) → OfBlock b → (d : ℕ) → depth b ≤ d → (ts rest : List Word) → Says (show_block b) ts rest → Spells (Nested (suc d)) plain_block b ts rest
+braced : (b : PlainBlock) → OfBlock b → (d : ℕ) → depth b ≤ d → (ts rest : List Word) → Says (show_block b) ts rest → Derives (Nested (suc d)) plain_block b ts rest
 unfolding Nested BlockOf
 braced b p d enough ts rest h =
     let r = parted (one sign.OpenBrace ++ show_steps b) (one sign.CloseBrace) h in
@@ -72,7 +72,7 @@ braced b p d enough ts rest h =
     }
 
 split_spelled : (p : PlainHyp) (x : ℕ) (b c : PlainBlock) → HypFits p → OfBlock b → OfBlock c → (d : ℕ) → suc (depth b + depth c) ≤ d → (ts rest : List Word)
-    → Says (one sign.Split ++ show_hyp p ++ show_as x ++ show_block b ++ show_block c) ts rest → Spells (StepKind (Nested d)) said_step (split p x b c) ts rest
+    → Says (one sign.Split ++ show_hyp p ++ show_as x ++ show_block b ++ show_block c) ts rest → Derives (StepKind (Nested d)) said_step (split p x b c) ts rest
 unfolding StepKind Split
 split_spelled p x b c fits of_b of_c zero enough ts rest h = absurd (omega arith)
 split_spelled p x b c fits of_b of_c (suc d) enough ts rest h =
@@ -93,7 +93,7 @@ split_spelled p x b c fits of_b of_c (suc d) enough ts rest h =
     }
 
 cut_spelled : (e : Plain) (x : ℕ) (b : PlainBlock) → Fits e → OfBlock b → (d : ℕ) → suc (depth b) ≤ d → (ts rest : List Word)
-    → Says (one sign.Cut ++ show_expr e ++ show_as x ++ show_block b) ts rest → Spells (StepKind (Nested d)) said_step (cut e x b) ts rest
+    → Says (one sign.Cut ++ show_expr e ++ show_as x ++ show_block b) ts rest → Derives (StepKind (Nested d)) said_step (cut e x b) ts rest
 unfolding StepKind Cut
 cut_spelled e x b fits of_b zero enough ts rest h = absurd (omega arith)
 cut_spelled e x b fits of_b (suc d) enough ts rest h =
@@ -111,11 +111,11 @@ cut_spelled e x b fits of_b (suc d) enough ts rest h =
       is = said-Cut y.raw named u.raw ∙ (ap (λ w. cut w x (plain_block u.raw)) y.is ∙ ap (λ w. cut e x w) u.is);
     }
 
-no_steps : (d : ℕ) {ts rest : List Word} → Says [] ts rest → Spells (Many (Step (Nested d))) said_steps done ts rest
+no_steps : (d : ℕ) {ts rest : List Word} → Says [] ts rest → Derives (Many (Step (Nested d))) said_steps done ts rest
 no_steps d no_more = record { raw = []; spelled = nothing; is = refl }
 
 more_steps : (s : PlainStep) (b : PlainBlock) → OfStep s → OfBlock b → (d : ℕ) → depth_of s + depth b ≤ d → (ts rest : List Word)
-    → Says (show_step s ++ show_steps b) ts rest → Spells (Many (Step (Nested d))) said_steps (first s b) ts rest
+    → Says (show_step s ++ show_steps b) ts rest → Derives (Many (Step (Nested d))) said_steps (first s b) ts rest
 unfolding Step
 more_steps s b of_s of_b d enough ts rest h =
     let r = parted (show_step s) (show_steps b) h in
@@ -145,7 +145,7 @@ mutual
   of_block done fits = record { reads = λ d enough ts rest h. no_steps d h }
   of_block (first s b) fits = record { reads = more_steps s b (of_step s fits.0) (of_block b fits.1) }
 
-block_spelled : (b : PlainBlock) → BlockFits b → (ts rest : List Word) → Says (show_block b) ts rest → Spells Block plain_block b ts rest
+block_spelled : (b : PlainBlock) → BlockFits b → (ts rest : List Word) → Says (show_block b) ts rest → Derives Block plain_block b ts rest
 unfolding Block
 block_spelled b fits ts rest h =
     let y = braced b (of_block b fits) (depth b) (omega arith) ts rest h in

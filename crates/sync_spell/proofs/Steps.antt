@@ -23,7 +23,7 @@ use Rattle.sync_print.specs.ShowExprs.{show_expr}
 use Rattle.sync_print.specs.ShowScripts.{show_hyp, show_part, show_as, show_lookup}
 use Rattle.sync_spell.specs.Says.{Says}
 use Rattle.sync_spell.specs.Limits.{Fits, HypFits, PartFits}
-use Rattle.sync_spell.specs.Laws.{Spells}
+use Rattle.sync_spell.specs.Laws.{Derives}
 use Rattle.sync_spell.proofs.Words.{split as parted, the_sign, the_name, yields, seq}
 use Rattle.sync_spell.proofs.Expressions.{exprs}
 use Rattle.sync_spell.proofs.Lists.{series, in_brackets}
@@ -73,7 +73,7 @@ pub said-Cong : (m j k : Expr) (x : Named) → said_step (step.Cong m j k x) ≡
 unfolding roll-RawStepKind denote.Hole.Carrier.roll
 said-Cong m j k x = ap said_step (rolls-Cong m j k x) ∙ fold-roll-RawStepKind PlainStep PlainBlock PlainStep plain_step_kind plain_in_block plain_at (RawStepKind-F.Cong m j k x)
 
-pub same_spelled : (I : Spelled RawBlock) {ts rest : List Word} → Says (one sign.Same ++ one sign.Semicolon) ts rest → Spells (StepKind I) said_step same ts rest
+pub same_spelled : (I : Spelled RawBlock) {ts rest : List Word} → Says (one sign.Same ++ one sign.Semicolon) ts rest → Derives (StepKind I) said_step same ts rest
 unfolding StepKind Same
 same_spelled inner {rest = rest} h =
     let r = parted (one sign.Same) (one sign.Semicolon) h in
@@ -82,7 +82,7 @@ same_spelled inner {rest = rest} h =
     record { raw = step.Same; spelled = the_other (the_other (the_one (seq s.0 r.0 s.1 (seq e.0 rest e.1 (yields _))))); is = said-Same }
 
 pub sum_spelled : (I : Spelled RawBlock) (ps : List PlainPart) → 1 ≤ length ps → All PartFits ps → {ts rest : List Word} → Says (one sign.Sum ++ listed (map show_part ps) ++ one sign.Semicolon) ts rest
-    → Spells (StepKind I) said_step (sum ps) ts rest
+    → Derives (StepKind I) said_step (sum ps) ts rest
 unfolding StepKind Sum
 sum_spelled inner ps some fit {rest = rest} h =
     let r = parted (one sign.Sum ++ listed (map show_part ps)) (one sign.Semicolon) h in
@@ -94,7 +94,7 @@ sum_spelled inner ps some fit {rest = rest} h =
 
 pub inst_spelled : (I : Spelled RawBlock) (p : PlainHyp) (es : List Plain) (x : ℕ) → HypFits p → All Fits es → {ts rest : List Word}
     → Says (one sign.Inst ++ show_hyp p ++ one sign.OpenRound ++ listed (map show_expr es) ++ one sign.CloseRound ++ show_as x ++ one sign.Semicolon) ts rest
-    → Spells (StepKind I) said_step (inst p es x) ts rest
+    → Derives (StepKind I) said_step (inst p es x) ts rest
 unfolding StepKind Inst Args
 inst_spelled inner p es x fits fit {rest = rest} h =
     let n6 = parted (one sign.Inst ++ show_hyp p ++ one sign.OpenRound ++ listed (map show_expr es) ++ one sign.CloseRound ++ show_as x) (one sign.Semicolon) h in
@@ -116,7 +116,7 @@ inst_spelled inner p es x fits fit {rest = rest} h =
     }
 
 pub parts_spelled : (I : Spelled RawBlock) (p : PlainHyp) (x y : ℕ) → HypFits p → {ts rest : List Word} → Says (one sign.Parts ++ show_hyp p ++ show_as x ++ one sign.Comma ++ one_name y ++ one sign.Semicolon) ts rest
-    → Spells (StepKind I) said_step (parts p x y) ts rest
+    → Derives (StepKind I) said_step (parts p x y) ts rest
 unfolding StepKind Parts
 parts_spelled inner p x y fits {rest = rest} h =
     let n5 = parted (one sign.Parts ++ show_hyp p ++ show_as x ++ one sign.Comma ++ one_name y) (one sign.Semicolon) h in
@@ -140,7 +140,7 @@ parts_spelled inner p x y fits {rest = rest} h =
 
 lookup_spelled : (opening : Sign) (made : Expr → Expr → Named → RawStepKind) (what : Plain → Plain → ℕ → PlainStep)
     → ((m k : Expr) (x : Named) → said_step (made m k x) ≡ what (plain m) (plain k) x.name)
-    → (m k : Plain) (x : ℕ) → Fits m → Fits k → {ts rest : List Word} → Says (show_lookup opening m k x) ts rest → Spells (Lookup opening made) said_step (what m k x) ts rest
+    → (m k : Plain) (x : ℕ) → Fits m → Fits k → {ts rest : List Word} → Says (show_lookup opening m k x) ts rest → Derives (Lookup opening made) said_step (what m k x) ts rest
 unfolding Lookup
 lookup_spelled opening made what said m k x fit_m fit_k {rest = rest} h =
     let n5 = parted (one opening ++ show_expr m ++ one sign.Comma ++ show_expr k ++ show_as x) (one sign.Semicolon) h in
@@ -161,26 +161,26 @@ lookup_spelled opening made what said m k x fit_m fit_k {rest = rest} h =
       is = said y.raw z.raw named ∙ (ap (λ w. what w (plain z.raw) x) y.is ∙ ap (λ w. what m w x) z.is);
     }
 
-pub read_spelled : (I : Spelled RawBlock) (m k : Plain) (x : ℕ) → Fits m → Fits k → {ts rest : List Word} → Says (show_lookup sign.Read m k x) ts rest → Spells (StepKind I) said_step (read m k x) ts rest
+pub read_spelled : (I : Spelled RawBlock) (m k : Plain) (x : ℕ) → Fits m → Fits k → {ts rest : List Word} → Says (show_lookup sign.Read m k x) ts rest → Derives (StepKind I) said_step (read m k x) ts rest
 unfolding StepKind
 read_spelled inner m k x fit_m fit_k h =
     let y = lookup_spelled sign.Read step.Read read said-Read m k x fit_m fit_k h in
     record { raw = y.raw; spelled = the_other (the_other (the_other (the_other (the_other (the_other (the_one y.spelled)))))); is = y.is }
 
-pub size_spelled : (I : Spelled RawBlock) (m k : Plain) (x : ℕ) → Fits m → Fits k → {ts rest : List Word} → Says (show_lookup sign.Size m k x) ts rest → Spells (StepKind I) said_step (size m k x) ts rest
+pub size_spelled : (I : Spelled RawBlock) (m k : Plain) (x : ℕ) → Fits m → Fits k → {ts rest : List Word} → Says (show_lookup sign.Size m k x) ts rest → Derives (StepKind I) said_step (size m k x) ts rest
 unfolding StepKind
 size_spelled inner m k x fit_m fit_k h =
     let y = lookup_spelled sign.Size step.Size size said-Size m k x fit_m fit_k h in
     record { raw = y.raw; spelled = the_other (the_other (the_other (the_other (the_other (the_other (the_other (the_one y.spelled))))))); is = y.is }
 
-pub total_spelled : (I : Spelled RawBlock) (m k : Plain) (x : ℕ) → Fits m → Fits k → {ts rest : List Word} → Says (show_lookup sign.Total m k x) ts rest → Spells (StepKind I) said_step (total m k x) ts rest
+pub total_spelled : (I : Spelled RawBlock) (m k : Plain) (x : ℕ) → Fits m → Fits k → {ts rest : List Word} → Says (show_lookup sign.Total m k x) ts rest → Derives (StepKind I) said_step (total m k x) ts rest
 unfolding StepKind
 total_spelled inner m k x fit_m fit_k h =
     let y = lookup_spelled sign.Total step.Total total said-Total m k x fit_m fit_k h in
     record { raw = y.raw; spelled = the_other (the_other (the_other (the_other (the_other (the_other (the_other (the_other (the_one y.spelled)))))))); is = y.is }
 
 pub cong_spelled : (I : Spelled RawBlock) (m j k : Plain) (x : ℕ) → Fits m → Fits j → Fits k → {ts rest : List Word} → Says (one sign.Cong ++ show_expr m ++ one sign.Comma ++ show_expr j ++ one sign.Comma ++ show_expr k ++ show_as x ++ one sign.Semicolon) ts rest
-    → Spells (StepKind I) said_step (cong m j k x) ts rest
+    → Derives (StepKind I) said_step (cong m j k x) ts rest
 unfolding StepKind Cong
 cong_spelled inner m j k x fit_m fit_j fit_k {rest = rest} h =
     let n7 = parted (one sign.Cong ++ show_expr m ++ one sign.Comma ++ show_expr j ++ one sign.Comma ++ show_expr k ++ show_as x) (one sign.Semicolon) h in

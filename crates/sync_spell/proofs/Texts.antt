@@ -7,14 +7,14 @@ use Rattle.sync_tokens.specs.Words.{worded}
 use Rattle.sync_parse.specs.declared.trees.RawText.{RawText}
 use Rattle.sync_parse.specs.declared.trees.RawMachine.{RawMachine}
 use Rattle.sync_parse.specs.declared.trees.RawProof.{RawProof}
-use Rattle.sync_grammar.specs.Texts.{Version, Text, Spells as TextSpells}
+use Rattle.sync_grammar.specs.Texts.{Version, Text, Spells}
 use Rattle.sync_grammar.proofs.MachinesClear.{unambiguous}
 use Rattle.sync_print.specs.Texts.{PlainMachine, PlainProof, PlainText, plain_machine, plain_proof, plain_text}
 use Rattle.sync_print.specs.Lexemes.{one, one_number}
 use Rattle.sync_print.specs.ShowTexts.{show_machine, show_proofs, show_version, show}
 use Rattle.sync_spell.specs.Says.{Says}
 use Rattle.sync_spell.specs.Limits.{TextFits}
-use Rattle.sync_spell.specs.Laws.{Spells, SaysText}
+use Rattle.sync_spell.specs.Laws.{Derives, SaysText}
 use Rattle.sync_spell.proofs.Words.{split as parted, the_sign, the_number, yields, seq}
 use Rattle.sync_spell.proofs.Machines.{machines, proofs}
 
@@ -25,7 +25,7 @@ says x = record { machine = plain_machine x.0; proofs = map plain_proof x.1 }
 text_is : (t : PlainText) {m : PlainMachine} {ps : List PlainProof} → m ≡ t.machine → ps ≡ t.proofs → ◌≡◌ {A = PlainText} (record { machine = m; proofs = ps }) t
 text_is t p q = λ i. record { machine = p i; proofs = q i }
 
-text_spelled : (t : PlainText) → TextFits t → (ts rest : List Word) → Says (show t) ts rest → Spells Text says t ts rest
+text_spelled : (t : PlainText) → TextFits t → (ts rest : List Word) → Says (show t) ts rest → Derives Text says t ts rest
 unfolding Text Version
 text_spelled t fits ts rest h =
     let n2 = parted (show_version ++ show_machine t.machine) (show_proofs t.proofs) h in
@@ -46,7 +46,7 @@ pub texts : (t : PlainText) → TextFits t → (text : List ℕ) (ws : Words) �
 texts t fits text ws e h =
     let y = text_spelled t fits ws.list [] h in
     let raw : RawText = record { machine = y.raw.0; proofs = y.raw.1; names = ws.names } in
-    let spelled : TextSpells text raw = (ws, e, y.spelled, refl) in
+    let spelled : Spells text raw = (ws, e, y.spelled, refl) in
     record {
       tree = raw;
       spelled = spelled;

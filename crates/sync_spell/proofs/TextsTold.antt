@@ -1,21 +1,27 @@
 -- A text spells what is within the limits, and names its names in the order in which they are shown.
-use Rattle.std.proofs.Common.{◌≡◌, ◌≤◌, List, [], map, ◌∙◌, arith}
+use Rattle.std.proofs.Common.{◌≡◌, ◌≤◌, ℕ, List, [], map, Ok, sym, ap, ◌∙◌, subst, arith}
 use Rattle.std.specs.List.{All}
 use Rattle.std.proofs.lemmas.List.{append-nil}
 use Rattle.sync_base.specs.declared.names.NameList.{NameList}
 use Rattle.sync_tokens.specs.declared.signs.Sign.TheVariants as sign
 use Rattle.sync_tokens.specs.declared.words.Word.{Word}
-use Rattle.sync_tokens.specs.Words.{largest}
+use Rattle.sync_tokens.specs.declared.words.Words.{Words}
+use Rattle.sync_tokens.specs.Words.{largest, worded}
+use Rattle.sync_parse.specs.declared.trees.RawText.{RawText}
 use Rattle.sync_parse.specs.declared.trees.RawMachine.{RawMachine}
 use Rattle.sync_parse.specs.declared.trees.RawProof.{RawProof}
-use Rattle.sync_grammar.specs.Texts.{Version, Text}
-use Rattle.sync_print.specs.Texts.{PlainText, plain_machine, plain_proof}
+use Rattle.sync_grammar.specs.Texts.{Version, Text, Spells}
+use Rattle.sync_grammar.proofs.MachinesClear.{words_are}
+use Rattle.sync_print.specs.Texts.{PlainText, plain_machine, plain_proof, plain_text}
 use Rattle.sync_print.specs.ShowTexts.{show}
 use Rattle.sync_spell.specs.Limits.{TextFits}
-use Rattle.sync_spell.specs.Namings.{names_said, word_names, AreTrue, LexemeFits, SpelledFits}
+use Rattle.sync_spell.specs.Laws.{SpelledFits}
+use Rattle.sync_spell.specs.Namings.{names_said, word_names, in_order, AreTrue, LexemeFits}
 use Rattle.sync_spell.proofs.Told.{both, behind, sign_told, number_told, none_read}
 use Rattle.sync_spell.proofs.ListsTold.{Read, ended}
 use Rattle.sync_spell.proofs.MachinesTold.{machines_told, proofs_told}
+use Rattle.sync_spell.proofs.WordNames.{names_in_order}
+use Rattle.sync_spell.proofs.TextNames.{words_are_names}
 
 -- what a machine and its proofs say
 abbrev says : RawMachine × List RawProof → PlainText
@@ -49,5 +55,25 @@ whole_text names ws x d are_true =
     let t = r.tells.told are_true in
     (r.fits, t.said ∙ append-nil (names_said names (show (says x))), t.fit)
 
+-- ---- what a text spells
+
+module _ (text : List ℕ) (raw : RawText) (d : Spells text raw) where
+  words_true : AreTrue raw.names d.0.list
+  words_true = subst (λ (n : NameList). AreTrue n d.0.list) (sym d.3) (words_are_names text d.0 d.1).words
+
+  tree_fits : TextFits (plain_text raw) × (word_names raw.names d.0.list ≡ names_said raw.names (show (plain_text raw))) × All (LexemeFits raw.names) (show (plain_text raw))
+  tree_fits = whole_text raw.names d.0.list (raw.machine, raw.proofs) d.2 words_true
+
+  words_name : (ws : Words) → worded text ≡ Ok ws → word_names raw.names ws.list ≡ names_said raw.names (show (plain_text raw))
+  words_name ws e = ap (λ (v : Words). word_names raw.names v.list) (words_are (sym e ∙ d.1)) ∙ tree_fits.1
+
+  names_shown : raw.names.list ≡ in_order [] (names_said raw.names (show (plain_text raw)))
+  names_shown = subst (λ (n : NameList). n.list ≡ in_order [] (word_names n d.0.list)) (sym d.3) (names_in_order text d.0 d.1) ∙ ap (in_order []) tree_fits.1
+
 pub spelled_fits : SpelledFits
-spelled_fits text raw ws e d same are_true = whole_text ws.names ws.list (raw.machine, raw.proofs) d are_true
+spelled_fits = record {
+  limits = λ text raw d. (tree_fits text raw d).0;
+  lexemes = λ text raw d. (tree_fits text raw d).2;
+  words = λ text raw ws d e. words_name text raw d ws e;
+  names = names_shown;
+}

@@ -1,6 +1,7 @@
 -- What is shown of a plain tree spells it: by the productions of the grammar, words that say its canonical lexemes are a raw
--- tree that says just this.
+-- tree that says just this. What a text spells: one tree alone, within the limits, with its names as they are shown.
 use Rattle.std.specs.Prelude.{◌≡◌, ℕ, List, [], Ok}
+use Rattle.std.specs.List.{All}
 use Rattle.sync_tokens.specs.declared.words.Word.{Word}
 use Rattle.sync_tokens.specs.declared.words.Words.{Words}
 use Rattle.sync_tokens.specs.Words.{worded}
@@ -9,7 +10,7 @@ use Rattle.sync_parse.specs.Machines.{parsed}
 use Rattle.sync_grammar.specs.Relations.{Spelled}
 use Rattle.sync_grammar.specs.Expressions.{AnExpr}
 use Rattle.sync_grammar.specs.Scripts.{Block}
-use Rattle.sync_grammar.specs.Texts.{Spells as TextSpells}
+use Rattle.sync_grammar.specs.Texts.{Spells}
 use Rattle.sync_print.specs.Exprs.{plain}
 use Rattle.sync_print.specs.Scripts.{plain_block}
 use Rattle.sync_print.specs.Texts.{PlainText, plain_text}
@@ -19,34 +20,45 @@ use Rattle.sync_print.specs.ShowScripts.{show_block}
 use Rattle.sync_print.specs.ShowTexts.{show}
 use Rattle.sync_spell.specs.Says.{Says}
 use Rattle.sync_spell.specs.Limits.{Fits, BlockFits, TextFits}
+use Rattle.sync_spell.specs.Namings.{names_said, word_names, in_order, LexemeFits}
 
 -- no bytes spell two raw trees
 abbrev pub OneTree : Type 0
-OneTree = (text : List ℕ) (one other : RawText) → TextSpells text one → TextSpells text other → one ≡ other
+OneTree = (text : List ℕ) (one other : RawText) → Spells text one → Spells text other → one ≡ other
 
 -- what is read of a text is spelled by it
 abbrev pub ReadIsSpelled : Type 0
-ReadIsSpelled = (text : List ℕ) (raw : RawText) → parsed text ≡ Ok raw → TextSpells text raw
+ReadIsSpelled = (text : List ℕ) (raw : RawText) → parsed text ≡ Ok raw → Spells text raw
 
--- these words spell, by a production, a raw tree that says this
-pub record Spells {A B : Type 0} (production : Spelled A) (says : A → B) (said : B) (ts rest : List Word) : Type 0 where
+-- a production derives these words, as a raw tree that says this
+pub record Derives {A B : Type 0} (production : Spelled A) (says : A → B) (said : B) (ts rest : List Word) : Type 0 where
   pub raw : A
   pub spelled : production ts rest raw
   pub is : says raw ≡ said
 
 -- words that say what is shown of something, within the limits, spell it by a production
 pub record IsSpelled {A B : Type 0} (production : Spelled A) (says : A → B) (shown : B → List Lexeme) (limits : B → Type 0) : Type 0 where
-  pub holds : (x : B) → limits x → (ts rest : List Word) → Says (shown x) ts rest → Spells production says x ts rest
+  pub holds : (x : B) → limits x → (ts rest : List Word) → Says (shown x) ts rest → Derives production says x ts rest
 
 -- these bytes spell a raw tree that says this, and no other
 pub record SaysText (t : PlainText) (text : List ℕ) : Type 0 where
   pub tree : RawText
-  pub spelled : TextSpells text tree
+  pub spelled : Spells text tree
   pub is : plain_text tree ≡ t
-  pub only : (other : RawText) → TextSpells text other → plain_text other ≡ t
+  pub only : (other : RawText) → Spells text other → plain_text other ≡ t
 
 pub record ShowSpells : Type 0 where
   pub exprs : IsSpelled AnExpr plain show_expr Fits
   pub blocks : IsSpelled Block plain_block show_block BlockFits
   -- of a text, all of whose words say what is shown
   pub texts : (t : PlainText) → TextFits t → (text : List ℕ) (ws : Words) → worded text ≡ Ok ws → Says (show t) ws.list [] → SaysText t text
+
+-- what any text spells is within the limits, and its names are those that are shown of it, in the order in which they are shown
+pub record SpelledFits : Type 0 where
+  pub limits : (text : List ℕ) (raw : RawText) → Spells text raw → TextFits (plain_text raw)
+  -- what is shown of it names only names of its list, and numbers that a text can hold
+  pub lexemes : (text : List ℕ) (raw : RawText) → Spells text raw → All (LexemeFits raw.names) (show (plain_text raw))
+  -- the words of the text name, one after another, what the shown lexemes name
+  pub words : (text : List ℕ) (raw : RawText) (ws : Words) → Spells text raw → worded text ≡ Ok ws → word_names raw.names ws.list ≡ names_said raw.names (show (plain_text raw))
+  -- its list of names has just these, each where it first appears
+  pub names : (text : List ℕ) (raw : RawText) → Spells text raw → raw.names.list ≡ in_order [] (names_said raw.names (show (plain_text raw)))

@@ -1,20 +1,14 @@
--- What words and lexemes name, in their order, and that a text spells what is within the limits and names its names so.
-use Rattle.std.specs.Prelude.{◌≡◌, ℕ, ◌≤◌, ◌<◌, List, [], length, Option, Some, None, Ok}
+-- What words and lexemes name, in their order, and which of them fit a list of names.
+use Rattle.std.specs.Prelude.{◌≡◌, ℕ, ◌≤◌, ◌<◌, List, length, Option, Some, None}
 use Rattle.std.specs.List.{All, filter_map, fold}
 use Rattle.sync_base.specs.declared.names.Name.{Name}
 use Rattle.sync_base.specs.declared.names.NameList.{NameList}
 use Rattle.sync_tokens.specs.declared.words.What.{What}
 use Rattle.sync_tokens.specs.declared.words.What.TheVariants as what
 use Rattle.sync_tokens.specs.declared.words.Word.{Word}
-use Rattle.sync_tokens.specs.declared.words.Words.{Words}
 use Rattle.sync_tokens.specs.Strategies as strategies
-use Rattle.sync_tokens.specs.Words.{largest, names_with, worded}
-use Rattle.sync_parse.specs.declared.trees.RawText.{RawText}
-use Rattle.sync_grammar.specs.Texts.{Text}
-use Rattle.sync_print.specs.Texts.{plain_text}
+use Rattle.sync_tokens.specs.Words.{largest, names_with}
 use Rattle.sync_print.specs.Lexemes.{Lexeme, a_sign, a_number, a_name, a_strategy, spelling}
-use Rattle.sync_print.specs.ShowTexts.{show}
-use Rattle.sync_spell.specs.Limits.{TextFits}
 
 -- ---- names, in order
 
@@ -65,10 +59,3 @@ LexemeFits names (a_sign s) = Unit {0}
 LexemeFits names (a_number n) = n ≤ largest
 LexemeFits names (a_name x) = x < length names.list
 LexemeFits names (a_strategy s) = Unit {0}
-
--- ---- the law
-
--- a text spells what is within the limits and names its names in the order in which they are shown
-abbrev pub SpelledFits : Type 0
-SpelledFits = (text : List ℕ) (raw : RawText) (ws : Words) → worded text ≡ Ok ws → Text ws.list [] (raw.machine, raw.proofs) → raw.names ≡ ws.names → AreTrue ws.names ws.list
-    → TextFits (plain_text raw) × (word_names ws.names ws.list ≡ names_said ws.names (show (plain_text raw))) × All (LexemeFits ws.names) (show (plain_text raw))

@@ -1,8 +1,7 @@
 //! The canonical form and its laws: what it spells by the productions of the grammar, and what reading it gives.
 #![tactic(auto)]
 
-ghost use Rattle.sync_spell.specs.Laws.{OneTree, ReadIsSpelled, ShowSpells};
-ghost use Rattle.sync_spell.specs.Namings.{SpelledFits};
+ghost use Rattle.sync_spell.specs.Laws.{OneTree, ReadIsSpelled, ShowSpells, SpelledFits};
 
 mod printing;
 
@@ -13,7 +12,8 @@ pub fn show_spells()
     ensures { ShowSpells }
 {}
 
-/// A text spells what is within the limits, and names its names in the order in which they are shown.
+/// What any text spells is within the limits. What is shown of its tree names only names of the tree's list; the words of the
+/// text name just the same, in the same order; and the list has just these names, each where it first appears.
 pub fn spelled_fits()
     ensures { SpelledFits }
 {}
