@@ -1,6 +1,4 @@
 use Rattle.std.proofs.Common.{Ok}
-use Rattle.sync_base.specs.declared.stops.Stop.{Stop}
-use Rattle.sync_parse.specs.declared.trees.RawText.{RawText}
 use Rattle.sync_grammar.proofs.Laws.{answer_spells}
 use Rattle.sync_spell.proofs.what_is_read_is_spelled.Goals as goal
 
