@@ -20,7 +20,7 @@ use Rattle.sync_print.specs.ShowExprs.{show_expr}
 use Rattle.sync_print.specs.ShowTexts.{show_pattern, show_place, show_formula_act, show_value_act, show_place_act, show_act}
 use Rattle.sync_spell.specs.Says.{Says}
 use Rattle.sync_spell.specs.Limits.{Fits, PatternFits, PlaceFits, ActFits}
-use Rattle.sync_spell.specs.Laws.{Derives, IsSpelled}
+use Rattle.sync_spell.specs.Laws.{Derives, ShownIsDerived}
 use Rattle.sync_spell.proofs.Words.{split as parted, the_sign, the_name, here_is, yields, seq}
 use Rattle.sync_spell.proofs.Expressions.{exprs}
 
@@ -185,5 +185,5 @@ act_spelled a fits ts rest h =
     let y = kind_spelled a fits ts rest h in
     record { raw = record { what = y.raw; line = first_line ts }; spelled = seq ts ts here_is (seq y.raw rest y.spelled (yields _)); is = y.is }
 
-pub acts : IsSpelled Act plain_act show_act ActFits
+pub acts : ShownIsDerived Act plain_act show_act ActFits
 acts = record { holds = act_spelled }

@@ -17,7 +17,7 @@ use Rattle.sync_print.specs.Lexemes.{Lexeme, one, one_name, one_number, needed, 
 use Rattle.sync_print.specs.ShowExprs.{shown, all_shown, show_expr, function_sign, special_sign, before, behind}
 use Rattle.sync_spell.specs.Says.{Says, no_more}
 use Rattle.sync_spell.specs.Limits.{Fits, AllFit}
-use Rattle.sync_spell.specs.Laws.{Derives, IsSpelled}
+use Rattle.sync_spell.specs.Laws.{Derives, ShownIsDerived}
 use Rattle.sync_spell.proofs.Words.{split, the_sign, the_number, the_name, yields, seq, whole}
 use Rattle.sync_spell.proofs.Levels.{Spelt, says_placed, Level, l0, l1, l2, l3, l4, l5, l6, rank, level, lift, sums, ands, ors, relations, implications, joins}
 use Rattle.sync_spell.proofs.Operands.{bracketed, a_name_operand, a_number_operand, a_param_operand, nil_operand, special_operand, Args, call_operand, negations, products}
@@ -339,5 +339,5 @@ expr_spelled e fits ts rest h =
     let x = (all_placed e fits).at.reads (height e) (omega arith) l0 ts rest h in
     record { raw = placed_at x.kind ts; spelled = whole (suc (height e), nested_is (height e) x.spelled); is = says_placed x.kind _ ∙ x.means }
 
-pub exprs : IsSpelled AnExpr plain show_expr Fits
+pub exprs : ShownIsDerived AnExpr plain show_expr Fits
 exprs = record { holds = expr_spelled }

@@ -18,7 +18,7 @@ use Rattle.sync_print.specs.ShowExprs.{special_sign}
 use Rattle.sync_print.specs.ShowScripts.{show_subject, show_hyp, show_part, show_as}
 use Rattle.sync_spell.specs.Says.{Says}
 use Rattle.sync_spell.specs.Limits.{last_place, IsBounded, SubjectFits, HypFits, PartFits}
-use Rattle.sync_spell.specs.Laws.{Derives, IsSpelled}
+use Rattle.sync_spell.specs.Laws.{Derives, ShownIsDerived}
 use Rattle.sync_spell.proofs.Words.{split, the_sign, the_number, the_name, one_of, yields, seq}
 
 bounded_found : (w : Special) → IsBounded w → bounded_of (special_sign w) ≡ Some w
@@ -66,7 +66,7 @@ hyp_spelled (high p) fits ts rest h =
     let x = subject_spelled p fits r.0 rest r.2 in
     record { raw = raw.High x.raw; spelled = the_other (the_other (the_other (the_one (seq s.0 r.0 s.1 (seq x.raw rest x.spelled (yields _)))))); is = ap high x.is }
 
-pub hyps : IsSpelled Hyp plain_hyp show_hyp HypFits
+pub hyps : ShownIsDerived Hyp plain_hyp show_hyp HypFits
 hyps = record { holds = hyp_spelled }
 
 -- ---- parts of a sum
@@ -112,7 +112,7 @@ part_case p fits ts rest false is h =
 part_spelled : (p : PlainPart) → PartFits p → (ts rest : List Word) → Says (show_part p) ts rest → Derives Part plain_part p ts rest
 part_spelled p fits ts rest h = part_case p fits ts rest (is_negative p.times) refl h
 
-pub parts : IsSpelled Part plain_part show_part PartFits
+pub parts : ShownIsDerived Part plain_part show_part PartFits
 parts = record { holds = part_spelled }
 
 -- the name that a step gives

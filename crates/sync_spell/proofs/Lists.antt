@@ -7,13 +7,13 @@ use Rattle.sync_tokens.specs.declared.words.Word.{Word}
 use Rattle.sync_grammar.specs.Relations.{Spelled, The, the_one, the_other, Many, nothing, more, Series, Listed, InRound, ◌>>◌}
 use Rattle.sync_print.specs.Lexemes.{Lexeme, one, with_commas, listed}
 use Rattle.sync_spell.specs.Says.{Says, no_more}
-use Rattle.sync_spell.specs.Laws.{Derives, IsSpelled}
+use Rattle.sync_spell.specs.Laws.{Derives, ShownIsDerived}
 use Rattle.sync_spell.proofs.Words.{split, the_sign, yields, seq}
 
 both_are : {A : Type 0} {x y : A} {xs ys : List A} → x ≡ y → xs ≡ ys → ◌≡◌ {A = List A} (x ∷ xs) (y ∷ ys)
 both_are {y = y} {xs = xs} p q = ap (λ z. z ∷ xs) p ∙ ap (λ zs. y ∷ zs) q
 
-row_spelled : {A B : Type 0} {M : Spelled A} {says : A → B} {show : B → List Lexeme} {Fits : B → Type 0} → IsSpelled M says show Fits
+row_spelled : {A B : Type 0} {M : Spelled A} {says : A → B} {show : B → List Lexeme} {Fits : B → Type 0} → ShownIsDerived M says show Fits
     → (xs : List B) → All Fits xs → (ts rest : List Word) → Says (flat_map show xs) ts rest → Derives (Many M) (map says) xs ts rest
 row_spelled item [] fits ts rest no_more = record { raw = []; spelled = nothing; is = refl }
 row_spelled {show = show} {Fits = Fits} item (x ∷ xs) fits ts rest h =
@@ -23,11 +23,11 @@ row_spelled {show = show} {Fits = Fits} item (x ∷ xs) fits ts rest h =
     record { raw = y.raw ∷ ys.raw; spelled = more y.spelled ys.spelled; is = both_are y.is ys.is }
 
 -- items in a row
-pub rows : {A B : Type 0} {M : Spelled A} {says : A → B} {show : B → List Lexeme} {Fits : B → Type 0} → IsSpelled M says show Fits
-    → IsSpelled (Many M) (map says) (flat_map show) (All Fits)
+pub rows : {A B : Type 0} {M : Spelled A} {says : A → B} {show : B → List Lexeme} {Fits : B → Type 0} → ShownIsDerived M says show Fits
+    → ShownIsDerived (Many M) (map says) (flat_map show) (All Fits)
 rows item = record { holds = row_spelled item }
 
-behind_spelled : {A B : Type 0} {M : Spelled A} {says : A → B} {show : B → List Lexeme} {Fits : B → Type 0} → IsSpelled M says show Fits
+behind_spelled : {A B : Type 0} {M : Spelled A} {says : A → B} {show : B → List Lexeme} {Fits : B → Type 0} → ShownIsDerived M says show Fits
     → (xs : List B) → All Fits xs → (ts rest : List Word) → Says (with_commas true (map show xs)) ts rest → Derives (Many (The sign.Comma >> M)) (map says) xs ts rest
 behind_spelled item [] fits ts rest no_more = record { raw = []; spelled = nothing; is = refl }
 behind_spelled {show = show} {Fits = Fits} item (x ∷ xs) fits ts rest h =
@@ -39,7 +39,7 @@ behind_spelled {show = show} {Fits = Fits} item (x ∷ xs) fits ts rest h =
     record { raw = y.raw ∷ ys.raw; spelled = more (seq c.0 q.0 c.1 y.spelled) ys.spelled; is = both_are y.is ys.is }
 
 -- items with commas between, at least one
-pub series : {A B : Type 0} {M : Spelled A} {says : A → B} {show : B → List Lexeme} {Fits : B → Type 0} → IsSpelled M says show Fits
+pub series : {A B : Type 0} {M : Spelled A} {says : A → B} {show : B → List Lexeme} {Fits : B → Type 0} → ShownIsDerived M says show Fits
     → (xs : List B) → 1 ≤ length xs → All Fits xs → (ts rest : List Word) → Says (listed (map show xs)) ts rest → Derives (Series M) (map says) xs ts rest
 unfolding Series
 series item [] some fits ts rest h = absurd (omega arith)
@@ -50,7 +50,7 @@ series {show = show} {Fits = Fits} item (x ∷ xs) some fits ts rest h =
     record { raw = y.raw ∷ ys.raw; spelled = seq y.raw r.0 y.spelled (seq ys.raw rest ys.spelled (yields _)); is = both_are y.is ys.is }
 
 -- items with commas between, or nothing
-pub lists : {A B : Type 0} {M : Spelled A} {says : A → B} {show : B → List Lexeme} {Fits : B → Type 0} → IsSpelled M says show Fits
+pub lists : {A B : Type 0} {M : Spelled A} {says : A → B} {show : B → List Lexeme} {Fits : B → Type 0} → ShownIsDerived M says show Fits
     → (xs : List B) → All Fits xs → (ts rest : List Word) → Says (listed (map show xs)) ts rest → Derives (Listed M) (map says) xs ts rest
 unfolding Listed
 lists item [] fits ts rest no_more = record { raw = []; spelled = the_one (yields []); is = refl }
@@ -59,7 +59,7 @@ lists item (x ∷ xs) fits ts rest h =
     record { raw = y.raw; spelled = the_other y.spelled; is = y.is }
 
 -- the same in round brackets
-pub in_brackets : {A B : Type 0} {M : Spelled A} {says : A → B} {show : B → List Lexeme} {Fits : B → Type 0} → IsSpelled M says show Fits
+pub in_brackets : {A B : Type 0} {M : Spelled A} {says : A → B} {show : B → List Lexeme} {Fits : B → Type 0} → ShownIsDerived M says show Fits
     → (xs : List B) → All Fits xs → (ts us vs rest : List Word) → Says (one sign.OpenRound) ts us → Says (listed (map show xs)) us vs → Says (one sign.CloseRound) vs rest
     → Derives (InRound M) (map says) xs ts rest
 unfolding InRound

@@ -23,7 +23,7 @@ use Rattle.sync_print.specs.ShowScripts.{show_block}
 use Rattle.sync_print.specs.ShowTexts.{show_act, show_field, mode_sign, show_names, show_operation, show_invariant, show_machine, show_claim, show_proof, show_proofs}
 use Rattle.sync_spell.specs.Says.{Says, no_more, one_more}
 use Rattle.sync_spell.specs.Limits.{OperationFits, InvariantFits, MachineFits, ClaimFits, ProofFits}
-use Rattle.sync_spell.specs.Laws.{Derives, IsSpelled}
+use Rattle.sync_spell.specs.Laws.{Derives, ShownIsDerived}
 use Rattle.sync_spell.proofs.Words.{split as parted, the_sign, the_number, the_name, here_is, yields, seq}
 use Rattle.sync_spell.proofs.Expressions.{exprs}
 use Rattle.sync_spell.proofs.Lists.{rows, in_brackets}
@@ -45,7 +45,7 @@ name_spelled x fits ts rest h =
     let n = the_name h in
     record { raw = record { name = x; line = n.0 }; spelled = n.1; is = refl }
 
-names : IsSpelled AName name_of one_name NoLimit
+names : ShownIsDerived AName name_of one_name NoLimit
 names = record { holds = name_spelled }
 
 names_spelled : (xs : List ℕ) (ts rest : List Word) → Says (show_names xs) ts rest → Derives Names (map name_of) xs ts rest
@@ -80,7 +80,7 @@ field_spelled f fits ts rest h =
       is = refl;
     }
 
-fields : IsSpelled Field plain_field show_field NoLimit
+fields : ShownIsDerived Field plain_field show_field NoLimit
 fields = record { holds = field_spelled }
 
 -- ---- operations
@@ -116,7 +116,7 @@ operation_spelled o fits ts rest h =
       is = operation_is o ps.is ys.is;
     }
 
-operations : IsSpelled Operation plain_operation show_operation OperationFits
+operations : ShownIsDerived Operation plain_operation show_operation OperationFits
 operations = record { holds = operation_spelled }
 
 -- ---- invariants
@@ -144,7 +144,7 @@ invariant_spelled v fits ts rest h =
       is = invariant_is v ps.is y.is;
     }
 
-invariants : IsSpelled Invariant plain_invariant show_invariant InvariantFits
+invariants : ShownIsDerived Invariant plain_invariant show_invariant InvariantFits
 invariants = record { holds = invariant_spelled }
 
 -- ---- machines
@@ -176,7 +176,7 @@ machine_spelled m fits ts rest h =
       is = machine_is m fs.is os.is vs.is;
     }
 
-pub machines : IsSpelled Machine plain_machine show_machine MachineFits
+pub machines : ShownIsDerived Machine plain_machine show_machine MachineFits
 machines = record { holds = machine_spelled }
 
 -- ---- proofs
@@ -215,7 +215,7 @@ proof_spelled p fits ts rest h =
       is = proof_is p c.is b.is;
     }
 
-proof_rows : IsSpelled Proof plain_proof show_proof ProofFits
+proof_rows : ShownIsDerived Proof plain_proof show_proof ProofFits
 proof_rows = record { holds = proof_spelled }
 
 proofs_spelled : (ps : List PlainProof) → All ProofFits ps → (ts rest : List Word) → Says (show_proofs ps) ts rest → Derives Proofs (map plain_proof) ps ts rest
@@ -235,5 +235,5 @@ proofs_spelled (p ∷ ps) fits ts rest h =
       is = ys.is;
     }
 
-pub proofs : IsSpelled Proofs (map plain_proof) show_proofs (All ProofFits)
+pub proofs : ShownIsDerived Proofs (map plain_proof) show_proofs (All ProofFits)
 proofs = record { holds = proofs_spelled }

@@ -17,7 +17,7 @@ use Rattle.sync_print.specs.ShowExprs.{show_expr}
 use Rattle.sync_print.specs.ShowScripts.{show_hyp, show_as, show_step, show_steps, show_block}
 use Rattle.sync_spell.specs.Says.{Says, no_more}
 use Rattle.sync_spell.specs.Limits.{Fits, HypFits, StepFits, BlockFits}
-use Rattle.sync_spell.specs.Laws.{Derives, IsSpelled}
+use Rattle.sync_spell.specs.Laws.{Derives, ShownIsDerived}
 use Rattle.sync_spell.proofs.Words.{split as parted, the_sign, here_is, yields, seq}
 use Rattle.sync_spell.proofs.Expressions.{exprs}
 use Rattle.sync_spell.proofs.Hyps.{hyps, the_as}
@@ -151,5 +151,5 @@ block_spelled b fits ts rest h =
     let y = braced b (of_block b fits) (depth b) (omega arith) ts rest h in
     record { raw = y.raw; spelled = (suc (depth b), y.spelled); is = y.is }
 
-pub blocks : IsSpelled Block plain_block show_block BlockFits
+pub blocks : ShownIsDerived Block plain_block show_block BlockFits
 blocks = record { holds = block_spelled }

@@ -37,7 +37,7 @@ pub record Derives {A B : Type 0} (production : Spelled A) (says : A → B) (sai
   pub is : says raw ≡ said
 
 -- words that say what is shown of something, within the limits, spell it by a production
-pub record IsSpelled {A B : Type 0} (production : Spelled A) (says : A → B) (shown : B → List Lexeme) (limits : B → Type 0) : Type 0 where
+pub record ShownIsDerived {A B : Type 0} (production : Spelled A) (says : A → B) (shown : B → List Lexeme) (limits : B → Type 0) : Type 0 where
   pub holds : (x : B) → limits x → (ts rest : List Word) → Says (shown x) ts rest → Derives production says x ts rest
 
 -- these bytes spell a raw tree that says this, and no other
@@ -48,8 +48,8 @@ pub record SaysText (t : PlainText) (text : List ℕ) : Type 0 where
   pub only : (other : RawText) → Spells text other → plain_text other ≡ t
 
 pub record ShowSpells : Type 0 where
-  pub exprs : IsSpelled AnExpr plain show_expr Fits
-  pub blocks : IsSpelled Block plain_block show_block BlockFits
+  pub exprs : ShownIsDerived AnExpr plain show_expr Fits
+  pub blocks : ShownIsDerived Block plain_block show_block BlockFits
   -- of a text, all of whose words say what is shown
   pub texts : (t : PlainText) → TextFits t → (text : List ℕ) (ws : Words) → worded text ≡ Ok ws → Says (show t) ws.list [] → SaysText t text
 
