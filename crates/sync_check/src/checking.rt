@@ -38,7 +38,7 @@ pub fn read(alloc: Global, bytes: &[u8]) -> Result<Text, Stop>
 }
 
 /// Whether a machine that keeps the rules of names keeps those of strategies; else the first that it breaks.
-pub(crate) fn has_form(m: &Machine) -> Result<(), Stop>
+pub(crate) fn keeps_strategies(m: &Machine) -> Result<(), Stop>
     requires ids { HasOwnIds m.now }
     requires names { AreTextNames (machine_tree m.now) }
     requires formed { machine_fault (machine_tree m.now) ≡ None }
@@ -61,11 +61,11 @@ fn judge(alloc: Global, text: Text) -> Result<Inductive, Stop>
     requires scripts { AreScriptsOf text.machine.terms text.proofs.list }
     ensures exact { Passes result (fault_of (text_tree text)) }
     ensures holds { OnOk result (HoldsAlways (machine_tree text.machine)) }
-    ensures form { OnOk result (strategy_fault (machine_tree text.machine) ≡ None) }
+    ensures strategies { OnOk result (strategy_fault (machine_tree text.machine) ≡ None) }
     ensures same { IfOk result (λ i. machine_tree i ≡ machine_tree text.machine) }
     ensures grown { IfOk result (HasGrown text.machine) }
 {
-    has_form(&text.machine)?;
+    keeps_strategies(&text.machine)?;
     inductive(alloc, text.machine, text.proofs)
 }
 
@@ -101,7 +101,7 @@ pub fn accepted_machine(alloc: Global, text: &[u8]) -> Result<Inductive, Stop>
     ensures ids { IfOk result HasOwnIds }
     ensures names { IfOk result (λ i. AreTextNames (machine_tree i)) }
     ensures formed { IfOk result (λ i. machine_fault (machine_tree i) ≡ None) }
-    ensures form { IfOk result (λ i. strategy_fault (machine_tree i) ≡ None) }
+    ensures strategies { IfOk result (λ i. strategy_fault (machine_tree i) ≡ None) }
     ensures holds { IfOk result (λ i. HoldsAlways (machine_tree i)) }
 {
     let text = read(alloc, text)?;

@@ -4,7 +4,7 @@ ghost use Rattle.sync_base.specs.Outcome.{Gives};
 ghost use Rattle.sync_read.specs.Texts.{text_tree};
 ghost use Rattle.sync_check.specs.Listing.{claim_text, invariant_name, listing_of, obligation_line, operation_name, spelling};
 
-use crate::checking::{has_form, read};
+use crate::checking::{keeps_strategies, read};
 use sqlite_items::Items;
 use std::alloc::{AllocError, Global};
 use sync_base::{NameList, Stop};
@@ -99,7 +99,7 @@ pub fn list(alloc: Global, bytes: &[u8]) -> Result<Items<Items<u8>>, Stop>
     ensures { Gives (λ lines. lines) result (listing_of bytes.now) }
 {
     let text = read(alloc, bytes)?;
-    has_form(&text.machine)?;
+    keeps_strategies(&text.machine)?;
     let list = obligations(alloc, &text.machine)?;
     let lines = lines_of(alloc, &text, list.as_slice())?;
     Ok(lines)

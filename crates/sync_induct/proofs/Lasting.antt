@@ -14,7 +14,7 @@ use Rattle.sync_machine.specs.declared.machine.Act.{Act}
 use Rattle.sync_machine.specs.declared.machine.Act.TheVariants.{Init, Require, Assert, Update, HaveVariable, Add, Remove, Have, Deposit, Withdraw, Guard}
 use Rattle.sync_machine.specs.declared.machine.Step.{Step}
 use Rattle.sync_machine.specs.declared.machine.Invariant.{Invariant}
-use Rattle.sync_machine.specs.Machines.{PatternTree, PlaceTree, ActTree, StepTree}
+use Rattle.sync_machine.specs.Machines.{ActTree, StepTree}
 use Rattle.sync_machine.specs.Machines as trees
 use Rattle.sync_machine.specs.declared.machine.Operation.{Operation}
 use Rattle.sync_machine.specs.Views.{invariant_tree, operation_tree, symbols_of, key_tree, pattern_tree, place_tree, act_tree, step_tree, steps_tree, HasKeyId, HasPatternId, HasPlaceIds, HasActIds}

@@ -55,7 +55,7 @@ pub fn judge(
     ensures exact { Passes result (duty_fault (proofs_in terms.old proofs.now) (duty_of terms.old hyps.old claim obligation)) }
     ensures valid { OnOk result (IsValid (givens_of (known_in terms.old hyps.old)) (formula terms.old claim)) }
     ensures ready { OnOk result (AreReady terms.new hyps.new) }
-    ensures same { OnOk result (known_in terms.new hyps.new ≡ known_in terms.old hyps.old) }
+    ensures hyps { OnOk result (known_in terms.new hyps.new ≡ known_in terms.old hyps.old) }
     ensures keeps { Extends terms.old terms.new }
 {
     let Some(&at) = places.get(&Title::new(obligation.op, obligation.claim)) else {

@@ -1,5 +1,5 @@
 //! Where an operation begins: what may be used, and each field's value before its statements.
-ghost use Rattle.std.specs.Prelude.{◌≡◌, ◌++◌, ◌∷◌, [], map, OnOk, IfOk};
+ghost use Rattle.std.specs.Prelude.{◌≡◌, ◌++◌, map, OnOk, IfOk};
 ghost use Rattle.std.specs.List.{AllByRecursion};
 ghost use Rattle.sync_terms.specs.Stored.{Stored, Extends, HasChildren, IsForm, shape};
 ghost use Rattle.sync_machine.specs.States as states;

@@ -18,7 +18,7 @@ use Rattle.sync_kernel.specs.Steps.{is_plain}
 use Rattle.sync_kernel.specs.Opposed.{is_fact, is_undone, is_closing_with}
 use Rattle.sync_kernel.specs.Stacks.{saids}
 use Rattle.sync_kernel.specs.Trails.{has_entry}
-use Rattle.sync_kernel.specs.Seen.{denied_by, says, denies, IsEntry, is_closed, HasSeen, looked, IsSeen}
+use Rattle.sync_kernel.specs.Seen.{denied_by, says, denies, IsEntry, is_closed, HasSeen, seen_count, IsSeen}
 use Rattle.sync_kernel.proofs.Fitting.{facts-more, literal-more, IsLiteral-more}
 use Rattle.sync_kernel.proofs.SameSteps.{literals_tell}
 use Rattle.sync_kernel.proofs.Closed.{closed_with, closed_take, open_before}
@@ -143,10 +143,10 @@ module _ (s : Stored) (fs : List Fact) (f : Fact) (v w : Seen) (h : HasSeen s fs
       (closes ∙ ap (is_closing_with fs) form ∙ sym (ap (λ (x : Bool). x && is_closing_with fs f.form) p))
 
 -- the same of all facts
-pub seen_more : (s : Stored) (fs : List Fact) (d : Fact) (v w : Seen) → IsSeen s fs v → looked v < length fs → HasSeen s (take (looked v) fs ++ get_or fs (looked v) d ∷ []) w → looked w ≡ looked v + 1 → IsSeen s fs w
+pub seen_more : (s : Stored) (fs : List Fact) (d : Fact) (v w : Seen) → IsSeen s fs v → seen_count v < length fs → HasSeen s (take (seen_count v) fs ++ get_or fs (seen_count v) d ∷ []) w → seen_count w ≡ seen_count v + 1 → IsSeen s fs w
 seen_more s fs d v w h lt k e = record {
   within = omega (arith, lt, e);
-  oldest = subst (λ (gs : List Fact). HasSeen s gs w) (sym (take_more fs (looked v) d lt) ∙ ap (λ (n : ℕ). take n fs) (sym e)) k;
+  oldest = subst (λ (gs : List Fact). HasSeen s gs w) (sym (take_more fs (seen_count v) d lt) ∙ ap (λ (n : ℕ). take n fs) (sym e)) k;
 }
 
 -- a fact of the stack
@@ -159,17 +159,17 @@ held_fact s xs hs k n x e same lt =
 -- whether `same` closes
 module _ (s : Stored) (fs : List Fact) (v : Seen) (h : IsSeen s fs v) where
   pub seen_closed : v.closed ≡ true → is_closed fs ≡ true
-  seen_closed e = closed_take (looked v) fs (sym h.oldest.closed ∙ e)
+  seen_closed e = closed_take (seen_count v) fs (sym h.oldest.closed ∙ e)
 
-  pub seen_open : v.closed ≡ false → length fs ≤ looked v → is_closed fs ≡ false
-  seen_open e le = ap is_closed (sym (take_all (looked v) fs le)) ∙ sym h.oldest.closed ∙ e
+  pub seen_open : v.closed ≡ false → length fs ≤ seen_count v → is_closed fs ≡ false
+  seen_open e le = ap is_closed (sym (take_all (seen_count v) fs le)) ∙ sym h.oldest.closed ∙ e
 
 -- ---- fewer facts
 
 module _ (s : Stored) (fs : List Fact) (v w : Seen) (n : ℕ) (h : IsSeen s fs v) where
-  pub seen_fewer : n < looked v → w ≡ record { said = take n v.said; denied = take n v.denied; closed = false } → IsSeen s (take n fs) w
+  pub seen_fewer : n < seen_count v → w ≡ record { said = take n v.said; denied = take n v.denied; closed = false } → IsSeen s (take n fs) w
   seen_fewer lt is =
-      let k = looked v in
+      let k = seen_count v in
       let within : k ≤ length fs = h.within in
       let old = h.oldest in
       let len : length (take n v.said) ≡ n = length-take-le n v.said (omega (arith, lt)) in
@@ -188,9 +188,9 @@ module _ (s : Stored) (fs : List Fact) (v w : Seen) (n : ℕ) (h : IsSeen s fs v
         });
       })
 
-  pub seen_kept : looked v ≤ n → w ≡ record { said = take n v.said; denied = take n v.denied; closed = v.closed } → IsSeen s (take n fs) w
+  pub seen_kept : seen_count v ≤ n → w ≡ record { said = take n v.said; denied = take n v.denied; closed = v.closed } → IsSeen s (take n fs) w
   seen_kept le is =
-      let k = looked v in
+      let k = seen_count v in
       let within : k ≤ length fs = h.within in
       let long = length-take n fs in
       let denied_long : length v.denied ≡ k = entries_long s v.denied (map denies (take k fs)) h.oldest.denied ∙ length-map (take k fs) denies ∙ length-take-le k fs within in
@@ -205,7 +205,7 @@ module _ (s : Stored) (fs : List Fact) (v w : Seen) (n : ℕ) (h : IsSeen s fs v
 
 pub seen_grows : (s t : Stored) (xs ys : List Said) (v : Seen) → Extends s t → AreSaid s xs → Begins xs ys → IsSeen s (facts_in s xs) v → IsSeen t (facts_in t ys) v
 seen_grows s t xs ys v more said begins h =
-    let k = looked v in
+    let k = seen_count v in
     let within : k ≤ length (facts_in s xs) = h.within in
     let long : length (facts_in s xs) ≡ length xs = length-map xs (said_fact s) in
     let longer : length (facts_in t ys) ≡ length ys = length-map ys (said_fact t) in

@@ -1,4 +1,4 @@
--- A fact whose negation is a fact, looked for from the negated side.
+-- A fact whose negation is a fact, seen_count for from the negated side.
 use Rattle.std.specs.Prelude.{Bool, false, ◌&&◌, ◌||◌, List}
 use Rattle.std.specs.List.{list_any}
 use Rattle.sync_terms.specs.Trees.{Formula, Le, Lt, Eq, Not, And, Or, Imp}

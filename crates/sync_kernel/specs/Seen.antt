@@ -46,10 +46,10 @@ pub record HasSeen (s : Stored) (facts : List Fact) (seen : Seen) : Type 0 where
   pub closed : seen.closed ≡ is_closed facts
 
 -- how many facts were looked at
-abbrev pub looked : Seen → ℕ
-looked seen = length seen.said
+abbrev pub seen_count : Seen → ℕ
+seen_count seen = length seen.said
 
 -- they are the oldest of these
 pub record IsSeen (s : Stored) (facts : List Fact) (seen : Seen) : Type 0 where
-  pub within : looked seen ≤ length facts
-  pub oldest : HasSeen s (take (looked seen) facts) seen
+  pub within : seen_count seen ≤ length facts
+  pub oldest : HasSeen s (take (seen_count seen) facts) seen

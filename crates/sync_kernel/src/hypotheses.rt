@@ -1,5 +1,5 @@
 //! Hypotheses that are ready for the proofs of many claims.
-ghost use Rattle.std.specs.Prelude.{◌≡◌, ◌+◌, ◌++◌, ◌∷◌, [], not, nat_lt, OnOk};
+ghost use Rattle.std.specs.Prelude.{◌≡◌, ◌+◌, ◌++◌, ◌∷◌, [], not, nat_lt, OnOk, OnErr};
 ghost use Rattle.sync_terms.specs.Kept.{limit};
 ghost use Rattle.sync_terms.specs.Stored.{Stored, IsForm};
 ghost use Rattle.sync_kernel.specs.Facts.{fact_of, facts_size};
@@ -38,6 +38,7 @@ impl Hypotheses {
         requires form { IsForm terms.now hyp.form }
         ensures ready { OnOk result (AreReady terms.now self.new) }
         ensures known { OnOk result (known_in terms.now self.new ≡ known_in terms.now self.old ++ fact_of terms.now hyp ∷ []) }
+        ensures err { OnErr result (self.new ≡ self.old) }
     {
         let says = Literal::plain(hyp.form);
         self.branch

@@ -20,7 +20,7 @@ use sync_base::Stop;
 use sync_terms::{FormId, HypName, Script, Terms};
 
 /// The hypotheses of a sequent, ready for a proof.
-fn readied(alloc: Global, terms: &Terms, hyps: &[Hyp]) -> Result<Hypotheses, AllocError>
+fn hypotheses_of(alloc: Global, terms: &Terms, hyps: &[Hyp]) -> Result<Hypotheses, AllocError>
     requires { AreForms terms.now hyps.now }
     ensures ready { IfOk result (AreReady terms.now) }
     ensures known { IfOk result (λ h. known_in terms.now h ≡ map (fact_of terms.now) hyps.now) }
@@ -62,7 +62,7 @@ pub fn prove_from(
     ensures valid { OnOk result (IsValid (map given (known_in terms.old hyps.old)) (formula terms.old claim)) }
     ensures exact { Passes result (script_fault (known_in terms.old hyps.old) (formula terms.old claim) (plan_of terms.old s.now.block)) }
     ensures ready { OnOk result (AreReady terms.new hyps.new) }
-    ensures same { OnOk result (known_in terms.new hyps.new ≡ known_in terms.old hyps.old) }
+    ensures hyps { OnOk result (known_in terms.new hyps.new ≡ known_in terms.old hyps.old) }
     ensures keeps { Extends terms.old terms.new }
 {
     let len = hyps.branch.len();
@@ -83,6 +83,6 @@ pub fn prove(alloc: Global, terms: &mut Terms, q: &Sequent, s: &Script) -> Resul
     ensures exact { Passes result (script_fault (map (fact_of terms.old) q.now.hyps) (formula terms.old q.now.claim) (plan_of terms.old s.now.block)) }
     ensures keeps { Extends terms.old terms.new }
 {
-    let mut hyps = readied(alloc, terms, q.hyps.as_slice())?;
+    let mut hyps = hypotheses_of(alloc, terms, q.hyps.as_slice())?;
     prove_from(alloc, terms, &mut hyps, q.claim, s)
 }

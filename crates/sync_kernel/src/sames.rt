@@ -11,7 +11,7 @@ ghost use Rattle.sync_kernel.specs.Literals.{literal_form, IsLiteral, IsBare};
 ghost use Rattle.sync_kernel.specs.Rows.{no_atom, is_false, row_of};
 ghost use Rattle.sync_kernel.specs.Steps.{at_line, is_false_row, same_fault};
 ghost use Rattle.sync_kernel.specs.Opposed.{is_closing_with};
-ghost use Rattle.sync_kernel.specs.Seen.{denied_by, IsEntry, HasSeen, IsSeen, looked};
+ghost use Rattle.sync_kernel.specs.Seen.{denied_by, IsEntry, HasSeen, IsSeen, seen_count};
 
 use crate::branches::{Branch, Said};
 use crate::literals::Literal;
@@ -73,7 +73,7 @@ fn look_at(alloc: Global, terms: &Terms, said: &Said, seen: &mut Seen) -> Result
     requires said { IsSaid terms.now said.now }
     requires open { seen.old.closed ≡ false }
     ensures seen { (facts : List Fact) → HasSeen terms.now facts seen.old → OnOk result (HasSeen terms.now (facts ++ said_fact terms.now said.now ∷ []) seen.new) }
-    ensures more { OnOk result (looked seen.new ≡ looked seen.old + 1) }
+    ensures more { OnOk result (seen_count seen.new ≡ seen_count seen.old + 1) }
 {
     if !said.params.is_empty() {
         seen.push(None, None, false)?;

@@ -5,7 +5,7 @@ ghost use Rattle.sync_terms.specs.Trees.{Not};
 ghost use Rattle.sync_kernel.specs.Facts.{Fact};
 ghost use Rattle.sync_kernel.specs.Literals.{literal_form, IsLiteral, IsBare};
 ghost use Rattle.sync_kernel.specs.Opposed.{is_fact, is_undone};
-ghost use Rattle.sync_kernel.specs.Seen.{HasSeen, IsSeen, IsEntry, denied_by, looked};
+ghost use Rattle.sync_kernel.specs.Seen.{HasSeen, IsSeen, IsEntry, denied_by, seen_count};
 
 use crate::literals::Literal;
 use crate::trails::Trail;
@@ -34,7 +34,7 @@ impl Seen {
 
     /// How many facts were looked at.
     pub(crate) fn len(&self) -> usize
-        ensures { result ≡ looked self.now }
+        ensures { result ≡ seen_count self.now }
     {
         self.said.len()
     }

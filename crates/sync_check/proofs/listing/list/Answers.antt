@@ -3,4 +3,4 @@ use Rattle.sync_rules.proofs.Named.{HasFewFields-from_IsNamed}
 use Rattle.sync_check.proofs.listing.list.Goals as goal
 
 pub obligations-requires-clause-fields : goal.obligations-requires-clause-fields
-obligations-requires-clause-fields c = HasFewFields-from_IsNamed (machine_tree c.in_ok-text.text.machine) c.in_ok-has_form.ensures.named
+obligations-requires-clause-fields c = HasFewFields-from_IsNamed (machine_tree c.in_ok-text.text.machine) c.in_ok-keeps_strategies.ensures.named

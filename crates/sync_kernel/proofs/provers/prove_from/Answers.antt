@@ -45,7 +45,7 @@ returns-clause-ready c =
     (cut_is c.args.hyps.now c.push.new.self ys c.cut_back.new.self c.new-2.result n c.len-len.ensures c.in_ok-push.ensures.ok c.in_ok-check_block.ensures.begins c.cut_back.ensures)
     c.cut_back.ensures (c.cut_back-2.ensures t (facts_in t ys) c.in_ok-check_block.ensures.seen)
 
-pub returns-clause-same : goal.returns-clause-same
-returns-clause-same c =
+pub returns-clause-hyps : goal.returns-clause-hyps
+returns-clause-hyps c =
     cut_known c.args.terms.now c.check_block.new.terms c.args.hyps.now _ c.check_block.ensures.keeps c.requires.ready
     (cut_is c.args.hyps.now c.push.new.self c.check_block.new.branch c.cut_back.new.self c.new-2.result c.len-len.result c.len-len.ensures c.in_ok-push.ensures.ok c.in_ok-check_block.ensures.begins c.cut_back.ensures)

@@ -6,7 +6,7 @@ use Rattle.sync_base.specs.declared.stops.Stop.TheVariants.{Refused}
 use Rattle.sync_kernel.specs.declared.branches.Held.{Held}
 use Rattle.sync_kernel.specs.Facts.{Fact}
 use Rattle.sync_kernel.specs.Branches.{facts_in, said_fact, AreSaid}
-use Rattle.sync_kernel.specs.Seen.{HasSeen, looked}
+use Rattle.sync_kernel.specs.Seen.{HasSeen, seen_count}
 use Rattle.sync_kernel.specs.Steps.{at_line, same_fault}
 use Rattle.sync_kernel.proofs.Seeing.{held_fact, seen_more, seen_closed, seen_open}
 use Rattle.sync_kernel.proofs.SameSteps.{fault_none, fault_some}
@@ -29,11 +29,11 @@ loop-seen-preserved c =
     let x = c.index-facts-len.result in
     let v = c.loop-seen.seen in
     let w = c.look_at.new.seen in
-    let lt : looked v < length hs = omega (arith, c.if-len-facts.true, c.len.ensures) in
+    let lt : seen_count v < length hs = omega (arith, c.if-len-facts.true, c.len.ensures) in
     let long : length fs ≡ length hs = length-map c.args.branch.now (said_fact s) ∙ ap length (sym c.held-facts.ensures) ∙ length-map hs (λ (h : Held). h.said) in
     seen_more s fs (said_fact s x.said) v w c.loop-seen.invariant (omega (arith, lt, long))
-    (subst (λ (f : Fact). HasSeen s (take (looked v) fs ++ f ∷ []) w) (held_fact s c.args.branch.now hs c.len-in-loop-seen.result (looked v) x c.held-facts.ensures c.len-in-loop-seen.ensures lt)
-    (c.in_ok-look_at.ensures.seen (take (looked v) fs) c.loop-seen.invariant.oldest))
+    (subst (λ (f : Fact). HasSeen s (take (seen_count v) fs ++ f ∷ []) w) (held_fact s c.args.branch.now hs c.len-in-loop-seen.result (seen_count v) x c.held-facts.ensures c.len-in-loop-seen.ensures lt)
+    (c.in_ok-look_at.ensures.seen (take (seen_count v) fs) c.loop-seen.invariant.oldest))
     c.in_ok-look_at.ensures.more
 
 pub returns-then-seen-clause-exact : goal.returns-then-seen-clause-exact
@@ -51,6 +51,6 @@ returns-else-seen-clause-exact c =
     passes_err {A = Unit {0}} (Err c.refusal.result) (Refused (record { line = c.args.line; rule = K4 })) (at_line c.args.line (same_fault fs)) (ap Err c.refusal.ensures)
     (fault_some c.args.line fs (seen_open s fs v c.loop-seen.invariant c.if-seen.false
     (elim c.loop-seen-test.branch [
-      | then-loop-seen-test+else-len-facts w ↦ (let le : length hs ≤ looked v = omega (arith, w.if-len-facts.false, w.len.ensures) in omega (arith, le, long))
+      | then-loop-seen-test+else-len-facts w ↦ (let le : length hs ≤ seen_count v = omega (arith, w.if-len-facts.false, w.len.ensures) in omega (arith, le, long))
       | else-loop-seen-test w ↦ absurd (both_ways v.closed c.if-seen.false w.loop-seen-test.false)
     ])))

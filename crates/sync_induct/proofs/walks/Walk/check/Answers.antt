@@ -27,7 +27,7 @@ returns-in-Ok-Some-clause-shown c =
 
 pub returns-in-Ok-Some-clause-come : goal.returns-in-Ok-Some-clause-come
 returns-in-Ok-Some-clause-come c =
-    stands-behind c.judge.result c.args.terms.now c.safety.new.terms c.judge.new.terms c.args.self.now _ c.in-Ok-Some.ensures.keeps c.judge.ensures.keeps c.requires.walk refl c.judge.ensures.ready c.judge.ensures.same
+    stands-behind c.judge.result c.args.terms.now c.safety.new.terms c.judge.new.terms c.args.self.now _ c.in-Ok-Some.ensures.keeps c.judge.ensures.keeps c.requires.walk refl c.judge.ensures.ready c.judge.ensures.hyps
 
 pub returns-in-Ok-Some-clause-keeps : goal.returns-in-Ok-Some-clause-keeps
 returns-in-Ok-Some-clause-keeps c = Extends-trans c.in-Ok-Some.ensures.keeps c.judge.ensures.keeps

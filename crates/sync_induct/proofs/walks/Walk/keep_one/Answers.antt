@@ -30,7 +30,7 @@ returns-in-Ok-clause-proved c =
 
 pub returns-in-Ok-clause-come : goal.returns-in-Ok-clause-come
 returns-in-Ok-clause-come c =
-    stands-behind c.judge.result c.args.terms.now c.closed.new.terms c.judge.new.terms c.args.self.now _ c.in-Ok.ensures.keeps c.judge.ensures.keeps c.requires.walk refl c.judge.ensures.ready c.judge.ensures.same
+    stands-behind c.judge.result c.args.terms.now c.closed.new.terms c.judge.new.terms c.args.self.now _ c.in-Ok.ensures.keeps c.judge.ensures.keeps c.requires.walk refl c.judge.ensures.ready c.judge.ensures.hyps
 
 pub returns-in-Ok-clause-keeps : goal.returns-in-Ok-clause-keeps
 returns-in-Ok-clause-keeps c = Extends-trans c.in-Ok.ensures.keeps c.judge.ensures.keeps
