@@ -5,6 +5,7 @@ mod exchanges;
 mod lines;
 mod machines;
 mod pieces;
+mod sequents;
 mod shards;
 mod slots;
 mod stores;
@@ -15,6 +16,7 @@ use anyhow::Result;
 fn main(rt: HostRuntime) -> Result<()> {
     lines::print_lines(&rt)?;
     values::print_values(&rt)?;
+    sequents::print_sequents(&rt)?;
     let m = machines::machine(rt.alloc())?;
     slots::print_slots(&rt, &m)?;
     exchanges::print_exchanges(&rt, &m)?;

@@ -90,6 +90,30 @@ fn large_branch(alloc: Global, left: &str) -> Result<String, io::Error> {
     )?)
 }
 
+/// This name in 62 brackets, each behind 64 minus signs.
+fn deep_term(alloc: Global, name: &str) -> Result<String, io::Error> {
+    let mut term = String::new(alloc);
+    for _ in 0..62 {
+        for _ in 0..64 {
+            term.push('-')?;
+        }
+        term.push('(')?;
+    }
+    term.push_str(name)?;
+    for _ in 0..62 {
+        term.push(')')?;
+    }
+    Ok(term)
+}
+
+/// A text that proves a term of about 4,000 operations, one inside the other, where it stands for its own name.
+fn deep_text(alloc: Global) -> Result<String, io::Error> {
+    let term = deep_term(alloc, "a")?;
+    Ok(format!(in alloc;
+        "version 1; machine M {{ field a: variable; init b() {{ init a = 0; }} transition s() {{ update a = {term}; }} invariant i(): {term} <= 0; }} proofs {{ b keeps i by {{ same; }} s keeps i by {{ sum 1 denied, 1 i; }} }}"
+    )?)
+}
+
 /// Prints the verdict of a text behind its title.
 fn print_verdict(rt: &HostRuntime, title: &str, text: &[u8]) -> io::Result<()> {
     let found = verdict(rt.alloc(), text)?;
@@ -176,7 +200,9 @@ fn print_large(rt: &HostRuntime) -> io::Result<()> {
     print_verdict(rt, "a large branch", text.as_bytes())?;
     let half = large_term(alloc, "x")?;
     let text = large_branch(alloc, half.as_str())?;
-    print_verdict(rt, "a large branch", text.as_bytes())
+    print_verdict(rt, "a large branch", text.as_bytes())?;
+    let text = deep_text(alloc)?;
+    print_verdict(rt, "a deep term", text.as_bytes())
 }
 
 /// Prints how many operations the tokenized machine of a text has, or the rule that the text breaks.
