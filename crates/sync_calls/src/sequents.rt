@@ -77,7 +77,7 @@ fn answer(alloc: Global, number: usize) -> Result<Result<(), Stop>> {
         bail!("other invariants");
     };
     let sequent = sequent(alloc, &terms, given.name, given.form, claimed.form)?;
-    match proofs.list.as_slice().get(number) {
+    match sqlite_items::at(proofs.list.as_slice(), number) {
         Some(proof) => Ok(prove(alloc, &mut terms, &sequent, &proof.script)),
         None => bail!("no script of this number"),
     }
