@@ -1,8 +1,9 @@
--- A term taken apart down its first operands, and its line made again from the innermost one.
-use Rattle.std.proofs.Common.{◌≡◌, ℕ, ◌<◌, ◌≤◌, ℤ, pos, ◌*ℤ◌, List, [], ◌∷◌, ◌++◌, refl, sym, ap, subst, ◌∙◌, arith}
+-- A term taken apart down the operands that are walked, and its line made again from the innermost one.
+use Rattle.std.proofs.Common.{◌≡◌, ℕ, ◌<◌, ◌≤◌, ℤ, pos, ◌+ℤ◌, ◌*ℤ◌, List, [], ◌∷◌, ◌++◌, refl, sym, ap, subst, ◌∙◌, arith}
 use Rattle.std.specs.Prelude.{FitsSigned}
 use Rattle.std.specs.Int.{w128}
 use Rattle.std.specs.List.{AllByRecursion}
+use Rattle.std.proofs.lemmas.Int.{ints}
 use Rattle.sync_terms.specs.declared.nodes.TermId.{TermId}
 use Rattle.sync_terms.specs.Trees.{Tree, Lit, Add, Sub, Scale}
 use Rattle.sync_terms.specs.Stored.{Stored, tree, IsTerm}
@@ -32,14 +33,16 @@ pub all_last : (s : Stored) (n : ℕ) (rs : List Rest) (r : Rest) → AllByRecur
 all_last s n [] r h = h.0
 all_last s n (x ∷ xs) r h = all_last s n xs r h.1
 
-narrow_first : (s : Stored) (r : Rest) (t : Tree) → Narrow (completed s r t) → Narrow t
-narrow_first s (rest.Plus b) t h = h.1
-narrow_first s (rest.Minus b) t h = h.1
-narrow_first s (rest.Times n) t h = h.1
+narrow_walked : (s : Stored) (r : Rest) (t : Tree) → Narrow (completed s r t) → Narrow t
+narrow_walked s (rest.Plus b) t h = h.1
+narrow_walked s (rest.Minus b) t h = h.1
+narrow_walked s (rest.Times n) t h = h.1
+narrow_walked s (rest.AddedTo a) t h = h.2
+narrow_walked s (rest.TakenFrom a) t h = h.2
 
 narrow_inner : (s : Stored) (rs : List Rest) (t : Tree) → Narrow (wrapped s rs t) → Narrow t
 narrow_inner s [] t h = h
-narrow_inner s (r ∷ rs) t h = narrow_inner s rs t (narrow_first s r (wrapped s rs t) h)
+narrow_inner s (r ∷ rs) t h = narrow_inner s rs t (narrow_walked s r (wrapped s rs t) h)
 
 -- on the way down: the rests so far make the term of the one that is looked at
 pub record IsDown (s : Stored) (t : TermId) (rests : List Rest) (at : TermId) : Type 0 where
@@ -55,6 +58,8 @@ below_more : (s : Stored) (n m : ℕ) (r : Rest) → n ≤ m → IsBelow s n r �
 below_more s n m (rest.Plus b) le h = (h.0, omega (arith, h.1))
 below_more s n m (rest.Minus b) le h = (h.0, omega (arith, h.1))
 below_more s n m (rest.Times k) le h = tt
+below_more s n m (rest.AddedTo a) le h = (h.0, omega (arith, h.1))
+below_more s n m (rest.TakenFrom a) le h = (h.0, omega (arith, h.1))
 
 pub down : (s : Stored) (t at a : TermId) (rs : List Rest) (r : Rest) → IsDown s t rs at → (tree s at ≡ completed s r (tree s a)) × IsTerm s a × (a.0 < at.0) × IsBelow s at.0 r → IsDown s t (rs ++ r ∷ []) a
 down s t at a rs r d p = record {
@@ -110,6 +115,35 @@ up_times s t k rs line new h c f =
     rises s t rs (rest.Times k) line h new (from_zero s k h.inner new (join_line (change.Times k) s (Lit (pos 0)) h.inner line_of_zero line new (zero_line s) h.has_line c))
     ((join_fits (change.Times k) s (Lit (pos 0)) h.inner line_of_zero line (zero_line s) h.has_line f).0, h.narrow)
 
+-- a sum turned round has the same line
+plus_turned : (x y : ℤ) → x +ℤ y ≡ y +ℤ x
+plus_turned x y = omega (arith, ints)
+
+turned_line : (s : Stored) (a b : Tree) (l : Line) → IsLineOf s (Add a b) l → IsLineOf s (Add b a) l
+turned_line s a b l h = record {
+  constant = h.constant ∙ plus_turned (constant_of a) (constant_of b);
+  atoms = λ id q. h.atoms id q ∙ plus_turned (coefficient_of (tree s id) a) (coefficient_of (tree s id) b);
+  stored = h.stored;
+  has_atoms = (h.has_atoms.1, h.has_atoms.0);
+}
+
+turned_within : (a b : Tree) → IsWithin (Add a b) → IsWithin (Add b a)
+turned_within a b h = record {
+  constant = subst (FitsSigned w128) (plus_turned (constant_of a) (constant_of b)) h.constant;
+  atoms = λ x. subst (FitsSigned w128) (plus_turned (coefficient_of x a) (coefficient_of x b)) (h.atoms x);
+}
+
+pub up_added : (s : Stored) (t a : TermId) (rs : List Rest) (line new : Line) → IsTaken s t (rs ++ rest.AddedTo a ∷ []) line → ((b : Tree) → IsLineOf s b line → IsLineOf s (Add b (tree s a)) new)
+    → ((b : Tree) → IsLineOf s b line → IsWithin (Add b (tree s a))) → Narrow (tree s a) → IsTaken s t rs new
+up_added s t a rs line new h l f n =
+    rises s t rs (rest.AddedTo a) line h new (turned_line s h.inner (tree s a) new (l h.inner h.has_line)) (turned_within h.inner (tree s a) (f h.inner h.has_line), n, h.narrow)
+
+pub up_taken : (s : Stored) (t a : TermId) (rs : List Rest) (line first new : Line) → IsTaken s t (rs ++ rest.TakenFrom a ∷ []) line → IsLineOf s (tree s a) first → Narrow (tree s a)
+    → IsChanged change.Minus first line new → LineFits change.Minus first line → IsTaken s t rs new
+up_taken s t a rs line first new h i n c f =
+    rises s t rs (rest.TakenFrom a) line h new (join_line change.Minus s (tree s a) h.inner first line new i h.has_line c)
+    (join_fits change.Minus s (tree s a) h.inner first line i h.has_line f, n, h.narrow)
+
 -- where the next line does not fit, the term is not narrow
 pub wide_plus : (s : Stored) (t b : TermId) (rs : List Rest) (line : Line) → IsTaken s t (rs ++ rest.Plus b ∷ []) line
     → ((a : Tree) → IsLineOf s a line → IsWithin (Add a (tree s b)) → Narrow (tree s b) → ⊥) → Narrow (tree s t) → ⊥
@@ -124,6 +158,20 @@ pub wide_times : (s : Stored) (t : TermId) (k : ℤ) (rs : List Rest) (line : Li
 wide_times s t k rs line h leaves n =
     let w = (narrow_next s t rs (rest.Times k) line h n).0 in
     leaves (fits_line (change.Times k) s (Lit (pos 0)) h.inner line_of_zero line (zero_line s) h.has_line (w, within_zero k h.inner w))
+
+pub wide_added : (s : Stored) (t a : TermId) (rs : List Rest) (line : Line) → IsTaken s t (rs ++ rest.AddedTo a ∷ []) line
+    → ((b : Tree) → IsLineOf s b line → IsWithin (Add b (tree s a)) → Narrow (tree s a) → ⊥) → Narrow (tree s t) → ⊥
+wide_added s t a rs line h leaves n =
+    let w = narrow_next s t rs (rest.AddedTo a) line h n in
+    leaves h.inner h.has_line (turned_within (tree s a) h.inner w.0) w.1
+
+pub wide_first : (s : Stored) (t a : TermId) (rs : List Rest) (line : Line) → IsTaken s t (rs ++ rest.TakenFrom a ∷ []) line → (Narrow (tree s a) → ⊥) → Narrow (tree s t) → ⊥
+wide_first s t a rs line h leaves n = leaves (narrow_next s t rs (rest.TakenFrom a) line h n).1
+
+pub wide_taken : (s : Stored) (t a : TermId) (rs : List Rest) (line first : Line) → IsTaken s t (rs ++ rest.TakenFrom a ∷ []) line → IsLineOf s (tree s a) first
+    → (LineFits change.Minus first line → ⊥) → Narrow (tree s t) → ⊥
+wide_taken s t a rs line first h i leaves n =
+    leaves (fits_line change.Minus s (tree s a) h.inner first line i h.has_line (narrow_next s t rs (rest.TakenFrom a) line h n).0)
 
 pub finished : (s : Stored) (t : TermId) (line : Line) → IsTaken s t [] line → IsLineOf s (tree s t) line × Narrow (tree s t)
 finished s t line h = subst (λ (x : Tree). IsLineOf s x line × Narrow x) h.whole (h.has_line, h.narrow)

@@ -1,11 +1,11 @@
--- A term taken apart down its first operands.
+-- A term taken apart down the operands that are walked.
 use Rattle.std.specs.Prelude.{◌≡◌, ℕ, ◌<◌, List, [], ◌∷◌}
 use Rattle.std.specs.List.{AllByRecursion}
 use Rattle.sync_terms.specs.declared.nodes.TermId.{TermId}
 use Rattle.sync_terms.specs.Trees.{Tree, Add, Sub, Scale}
 use Rattle.sync_terms.specs.Stored.{Stored, tree, IsTerm}
 use Rattle.sync_linear.specs.declared.terms.Rest.{Rest}
-use Rattle.sync_linear.specs.declared.terms.Rest.TheVariants.{Plus, Minus, Times}
+use Rattle.sync_linear.specs.declared.terms.Rest.TheVariants.{Plus, Minus, Times, AddedTo, TakenFrom}
 use Rattle.sync_linear.specs.declared.terms.Part.{Part}
 use Rattle.sync_linear.specs.declared.terms.Part.TheVariants.{Under, Alone}
 use Rattle.sync_linear.specs.Lines.{Line}
@@ -13,17 +13,21 @@ use Rattle.sync_linear.specs.Leaves.{leaf_line}
 use Rattle.sync_linear.specs.Forms.{Narrow}
 use Rattle.sync_linear.specs.Stores.{IsLineOf}
 
--- the term that the rest makes of a first operand
+-- the term that the rest makes of the operand that is walked
 abbrev pub completed : Stored → Rest → Tree → Tree
 completed s (Plus b) a = Add a (tree s b)
 completed s (Minus b) a = Sub a (tree s b)
 completed s (Times n) a = Scale n a
+completed s (AddedTo a) b = Add (tree s a) b
+completed s (TakenFrom a) b = Sub (tree s a) b
 
 -- its other operand is stored, before this id
 abbrev pub IsBelow : Stored → ℕ → Rest → Type 0
 IsBelow s id (Plus b) = IsTerm s b × (b.0 < id)
 IsBelow s id (Minus b) = IsTerm s b × (b.0 < id)
 IsBelow s id (Times n) = Unit {0}
+IsBelow s id (AddedTo a) = IsTerm s a × (a.0 < id)
+IsBelow s id (TakenFrom a) = IsTerm s a × (a.0 < id)
 
 abbrev pub IsPartOf : Stored → TermId → Part → Type 0
 IsPartOf s t (Under rest a) = (tree s t ≡ completed s rest (tree s a)) × IsTerm s a × (a.0 < t.0) × IsBelow s t.0 rest

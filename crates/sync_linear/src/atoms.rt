@@ -63,6 +63,8 @@ pub(crate) fn all_fit(atoms: &Atoms, factor: i128) -> bool
 }
 
 /// Multiplies each number of times in place. A product that leaves signed 128 bits wraps.
+///
+/// `retain` keeps them all: its contract says what is written to each number, that of `values_mut` does not.
 pub(crate) fn scale_all(atoms: &mut Atoms, factor: i128)
     ensures { atoms.new.entries ≡ map (λ e. (e.0, int_wrapping_mul w128 factor e.1)) atoms.old.entries }
 {

@@ -1,5 +1,5 @@
 //! Lines: a constant and a number of times each atom.
-ghost use Rattle.std.specs.Prelude.{◌≡◌, ◌<ℤ◌, ◌↔◌, ℕ, pos, [], IsTrue, Err, OnOk, OnErr, IfOk};
+ghost use Rattle.std.specs.Prelude.{◌≡◌, ◌<ℤ◌, ◌↔◌, pos, [], IsTrue, Err, OnOk, OnErr, IfOk};
 ghost use Rattle.sync_linear.specs.declared.changes.Change.TheVariants.{Plus, Times};
 ghost use Rattle.sync_linear.specs.declared.stops.LinearStop.TheVariants.{Width};
 ghost use Rattle.sync_linear.specs.Lines.{IsLine, IsChanged, LineFits};
@@ -118,7 +118,7 @@ impl Linear {
     }
 
     /// This line, changed by a leaf, as `changed` does it with the leaf's line.
-    pub(crate) fn changed_at(self, how: Change, leaf: Leaf) -> Result<Linear, LinearStop>
+    pub(crate) fn changed_by_leaf(self, how: Change, leaf: Leaf) -> Result<Linear, LinearStop>
         ensures changed { IfOk result (λ line. IsChanged how self (leaf_line leaf) line) }
         ensures fits { OnOk result (LineFits how self (leaf_line leaf)) }
         ensures width { result ≡ Err Width → LineFits how self (leaf_line leaf) → ⊥ }

@@ -15,15 +15,22 @@ use crate::stops::LinearStop;
 use std::alloc::Global;
 use sync_terms::{Node, TermId, Terms};
 
-/// What is done with the line of a term's first operand.
+/// What is done with the line of the operand that is walked; the other operand's id stands with it.
 #[derive(Clone, Copy, Debug)]
 pub(crate) enum Rest {
+    /// The second operand is added to it.
     Plus(TermId),
+    /// The second operand is taken from it.
     Minus(TermId),
+    /// So many times it is taken.
     Times(i128),
+    /// It is added to the first operand, a leaf.
+    AddedTo(TermId),
+    /// It is taken from the first operand, a leaf.
+    TakenFrom(TermId),
 }
 
-/// A term that has a line as a first operand, and what is done with it; or a leaf that has the term's line.
+/// The operand of a term that is walked, under what is done with its line; or a leaf that has the term's line.
 #[derive(Clone, Copy, Debug)]
 pub(crate) enum Part {
     Under(Rest, TermId),
@@ -71,7 +78,36 @@ fn part_of(terms: &Terms, t: TermId) -> Part
     }
 }
 
-/// The rests of a term's first operands, outermost first, and the innermost operand's leaf.
+/// Whether a leaf has the term's line.
+fn is_leaf(terms: &Terms, t: TermId) -> bool
+    requires { IsTerm terms.now t }
+{
+    matches!(part_of(terms, t), Part::Alone(_))
+}
+
+/// As `part_of`, but of a sum or a difference the second operand is walked where only the first is a leaf.
+fn step_of(terms: &Terms, t: TermId) -> Part
+    requires { IsTerm terms.now t }
+    ensures { IsPartOf terms.now t result }
+{
+    let part = part_of(terms, t);
+    match part {
+        Part::Under(Rest::Plus(second), first) => {
+            if is_leaf(terms, first) && !is_leaf(terms, second) {
+                return Part::Under(Rest::AddedTo(first), second);
+            }
+        }
+        Part::Under(Rest::Minus(second), first) => {
+            if is_leaf(terms, first) && !is_leaf(terms, second) {
+                return Part::Under(Rest::TakenFrom(first), second);
+            }
+        }
+        _ => {}
+    }
+    part
+}
+
+/// The rests of the operands that are walked, outermost first, and the innermost operand's leaf.
 #[derive(Debug, Drop)]
 pub(crate) struct Taken {
     rests: Vec<Rest>,
@@ -86,10 +122,10 @@ fn taken_apart(alloc: Global, terms: &Terms, t: TermId) -> Result<Taken, LinearS
     let mut rests = Vec::new(alloc);
     let mut at = t;
     loop {
-        match part_of(terms, at) {
-            Part::Under(rest, first) => {
+        match step_of(terms, at) {
+            Part::Under(rest, walked) => {
                 rests.push(rest)?;
-                at = first;
+                at = walked;
             }
             Part::Alone(leaf) => return Ok(Taken { rests, leaf }),
         }
@@ -100,8 +136,8 @@ impl Linear {
     /// The line of a stored term of a number; that of another term is 0.
     ///
     /// `Width` comes exactly where a constant or a coefficient of the term or of a part of it, from the leaves upward,
-    /// leaves signed 128 bits. A chain of first operands costs its length times a logarithm; other operands take a
-    /// call for each level.
+    /// leaves signed 128 bits. A chain of first operands costs its length times a logarithm. Calls nest only where
+    /// neither operand of a sum or a difference is a leaf.
     #[cycle(terms)]
     pub fn of_term(alloc: Global, terms: &Terms, t: TermId) -> Result<Linear, LinearStop>
         requires { IsTerm terms.now t }
@@ -116,6 +152,11 @@ impl Linear {
                 Rest::Plus(second) => line.changed_by(alloc, terms, Change::Plus, second)?,
                 Rest::Minus(second) => line.changed_by(alloc, terms, Change::Minus, second)?,
                 Rest::Times(times) => line.scaled(times)?,
+                Rest::AddedTo(first) => line.changed_by(alloc, terms, Change::Plus, first)?,
+                Rest::TakenFrom(first) => {
+                    let first = Linear::of_term(alloc, terms, first)?;
+                    first.changed(Change::Minus, &line)?
+                }
             };
         }
         Ok(line)
@@ -137,7 +178,7 @@ impl Linear {
         ensures width { result ≡ Err Width → (first : Tree) → IsLineOf terms.now first self → JoinFits how first (tree terms.now second) → Narrow (tree terms.now second) → ⊥ }
     {
         match part_of(terms, second) {
-            Part::Alone(leaf) => self.changed_at(how, leaf),
+            Part::Alone(leaf) => self.changed_by_leaf(how, leaf),
             Part::Under(_, _) => {
                 let second = Linear::of_term(alloc, terms, second)?;
                 self.changed(how, &second)

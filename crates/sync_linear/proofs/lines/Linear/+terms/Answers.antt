@@ -10,23 +10,23 @@ use Rattle.sync_linear.specs.Lines.{IsChanged, LineFits}
 use Rattle.sync_linear.specs.Leaves.{leaf_line}
 use Rattle.sync_linear.proofs.Whole.{line_of_zero}
 use Rattle.sync_linear.proofs.Joins.{join_line, join_fits, fits_line}
-use Rattle.sync_linear.proofs.Spines.{popped, all_last, up_plus, up_minus, up_times, wide_plus, wide_minus, wide_times}
+use Rattle.sync_linear.proofs.Spines.{popped, all_last, up_plus, up_minus, up_times, up_added, up_taken, wide_plus, wide_minus, wide_times, wide_added, wide_first, wide_taken}
 use Rattle.sync_linear.proofs.lines.Linear.+terms.Goals as goal
 
 pub changed_by-returns-in-Alone-clause-line : goal.changed_by-returns-in-Alone-clause-line
 changed_by-returns-in-Alone-clause-line t c =
     let s = c.args.terms.now in
-    IfOk-weaker c.changed_at.result _ _ (λ line h first i. join_line c.args.how s first (tree s c.args.second) c.args.self (leaf_line c.in-Alone.leaf) line i c.in-Alone.ensures.0 h) c.changed_at.ensures.changed
+    IfOk-weaker c.changed_by_leaf.result _ _ (λ line h first i. join_line c.args.how s first (tree s c.args.second) c.args.self (leaf_line c.in-Alone.leaf) line i c.in-Alone.ensures.0 h) c.changed_by_leaf.ensures.changed
 
 pub changed_by-returns-in-Alone-clause-fits : goal.changed_by-returns-in-Alone-clause-fits
 changed_by-returns-in-Alone-clause-fits t c =
     let s = c.args.terms.now in
-    on_ok_weaker c.changed_at.result (λ f first i. join_fits c.args.how s first (tree s c.args.second) c.args.self (leaf_line c.in-Alone.leaf) i c.in-Alone.ensures.0 f) c.changed_at.ensures.fits
+    on_ok_weaker c.changed_by_leaf.result (λ f first i. join_fits c.args.how s first (tree s c.args.second) c.args.self (leaf_line c.in-Alone.leaf) i c.in-Alone.ensures.0 f) c.changed_by_leaf.ensures.fits
 
 pub changed_by-returns-in-Alone-clause-width : goal.changed_by-returns-in-Alone-clause-width
 changed_by-returns-in-Alone-clause-width t c =
     let s = c.args.terms.now in
-    λ e first i f n. c.changed_at.ensures.width e (fits_line c.args.how s first (tree s c.args.second) c.args.self (leaf_line c.in-Alone.leaf) i c.in-Alone.ensures.0 f)
+    λ e first i f n. c.changed_by_leaf.ensures.width e (fits_line c.args.how s first (tree s c.args.second) c.args.self (leaf_line c.in-Alone.leaf) i c.in-Alone.ensures.0 f)
 
 pub changed_by-returns-in_ok-second-in-Under-clause-fits : goal.changed_by-returns-in_ok-second-in-Under-clause-fits
 changed_by-returns-in_ok-second-in-Under-clause-fits t c =
@@ -81,8 +81,8 @@ of_term-returns-in_err-line-in-Times-clause-width t c =
     λ e n. wide_times c.args.terms.now c.args.t c.in-Times.times c.pop.new.self.items c.loop-rest.line h
     (λ l. c.scaled.ensures.width (cc) (subst (λ (z : ℤ). LineFits (change.Times z) line_of_zero c.loop-rest.line) (sym same) l)) n
 
-pub of_term-loop-rest-preserved : goal.of_term-loop-rest-preserved
-of_term-loop-rest-preserved t c =
+pub of_term-loop-rest-preserved-in_ok-line-in-Times : goal.of_term-loop-rest-preserved-in_ok-line-in-Times
+of_term-loop-rest-preserved-in_ok-line-in-Times t c =
     let f : FitsSigned w128 c.in-Times.times = search rules in
     let same = to_z-of_z w128 c.in-Times.times f in
     let h = popped c.args.terms.now c.args.t c.loop-rest.rests.items c.pop.new.self.items (rest.Times c.in-Times.times) c.in-Some.rest c.loop-rest.line c.in-Some.ensures.items c.in-Times.is c.loop-rest.invariant in
@@ -90,3 +90,35 @@ of_term-loop-rest-preserved t c =
     up_times c.args.terms.now c.args.t c.in-Times.times c.pop.new.self.items c.loop-rest.line c.in_ok-line-in-Times.line h
     (subst (λ (z : ℤ). IsChanged (change.Times z) line_of_zero c.loop-rest.line c.in_ok-line-in-Times.line) same n.changed)
     (subst (λ (z : ℤ). LineFits (change.Times z) line_of_zero c.loop-rest.line) same n.fits)
+
+pub of_term-returns-in_err-line-in-AddedTo-clause-width : goal.of_term-returns-in_err-line-in-AddedTo-clause-width
+of_term-returns-in_err-line-in-AddedTo-clause-width t c =
+    let p = err_from_is_err_and c.from_residual-in_err-line-in-AddedTo.result c.from_residual-in_err-line-in-AddedTo.ensures.1 in
+    let h = popped c.args.terms.now c.args.t c.loop-rest.rests.items c.pop.new.self.items (rest.AddedTo c.in-AddedTo.first) c.in-Some.rest c.loop-rest.line c.in-Some.ensures.items c.in-AddedTo.is c.loop-rest.invariant in
+    λ e n. wide_added c.args.terms.now c.args.t c.in-AddedTo.first c.pop.new.self.items c.loop-rest.line h (c.changed_by-in-AddedTo.ensures.width (cc)) n
+
+pub of_term-loop-rest-preserved-in_ok-line-in-AddedTo : goal.of_term-loop-rest-preserved-in_ok-line-in-AddedTo
+of_term-loop-rest-preserved-in_ok-line-in-AddedTo t c =
+    let h = popped c.args.terms.now c.args.t c.loop-rest.rests.items c.pop.new.self.items (rest.AddedTo c.in-AddedTo.first) c.in-Some.rest c.loop-rest.line c.in-Some.ensures.items c.in-AddedTo.is c.loop-rest.invariant in
+    let n = c.in_ok-line-in-AddedTo.ensures in
+    up_added c.args.terms.now c.args.t c.in-AddedTo.first c.pop.new.self.items c.loop-rest.line c.in_ok-line-in-AddedTo.line h n.line n.fits n.narrow
+
+pub of_term-returns-in_err-first-in-TakenFrom-clause-width : goal.of_term-returns-in_err-first-in-TakenFrom-clause-width
+of_term-returns-in_err-first-in-TakenFrom-clause-width t c =
+    let p = err_from_is_err_and c.from_residual-in_err-first-in-TakenFrom.result c.from_residual-in_err-first-in-TakenFrom.ensures.1 in
+    let h = popped c.args.terms.now c.args.t c.loop-rest.rests.items c.pop.new.self.items (rest.TakenFrom c.in-TakenFrom.first) c.in-Some.rest c.loop-rest.line c.in-Some.ensures.items c.in-TakenFrom.is c.loop-rest.invariant in
+    λ e n. wide_first c.args.terms.now c.args.t c.in-TakenFrom.first c.pop.new.self.items c.loop-rest.line h (c.of_term.ensures.width (cc)) n
+
+pub of_term-returns-in_err-line-in-TakenFrom-clause-width : goal.of_term-returns-in_err-line-in-TakenFrom-clause-width
+of_term-returns-in_err-line-in-TakenFrom-clause-width t c =
+    let p = err_from_is_err_and c.from_residual-in_err-line-in-TakenFrom.result c.from_residual-in_err-line-in-TakenFrom.ensures.1 in
+    let h = popped c.args.terms.now c.args.t c.loop-rest.rests.items c.pop.new.self.items (rest.TakenFrom c.in-TakenFrom.first) c.in-Some.rest c.loop-rest.line c.in-Some.ensures.items c.in-TakenFrom.is c.loop-rest.invariant in
+    let first = c.in_ok-first-in-TakenFrom in
+    λ e n. wide_taken c.args.terms.now c.args.t c.in-TakenFrom.first c.pop.new.self.items c.loop-rest.line first.first h first.ensures.line (c.changed.ensures.width (cc)) n
+
+pub of_term-loop-rest-preserved : goal.of_term-loop-rest-preserved
+of_term-loop-rest-preserved t c =
+    let h = popped c.args.terms.now c.args.t c.loop-rest.rests.items c.pop.new.self.items (rest.TakenFrom c.in-TakenFrom.first) c.in-Some.rest c.loop-rest.line c.in-Some.ensures.items c.in-TakenFrom.is c.loop-rest.invariant in
+    let first = c.in_ok-first-in-TakenFrom in
+    let n = c.in_ok-line-in-TakenFrom.ensures in
+    up_taken c.args.terms.now c.args.t c.in-TakenFrom.first c.pop.new.self.items c.loop-rest.line first.first c.in_ok-line-in-TakenFrom.line h first.ensures.line first.ensures.narrow n.changed n.fits
