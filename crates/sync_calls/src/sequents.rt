@@ -27,7 +27,7 @@ proofs {
   asked at 1 by { sum 1 denied, 1 three; }
   asked at 2 by { sum 1 denied, -1 three; }
   asked at 3 by { sum 1 denied, 1 asked; }
-  asked at 4 by { inst three with 1 as y; same; }
+  asked at 4 by { inst three (1) as y; same; }
 }
 ";
 
