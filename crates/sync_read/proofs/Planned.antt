@@ -122,22 +122,43 @@ parts_made s t x h a b y is hyps =
     ∙ ap (λ (f : ℕ → Then). f line) (fold-roll-StepKind (ℕ → Then) Plan Then (kind_plan t) block_plan step_plan (StepKind-F.Parts y a.name b.name)) in
     step_is s x ∙ said ∙ ap Ok (sym meant)
 
+-- the blocks of a split, where its hypothesis is read
+split_is : (s : Scope) (x : RawStep) (h : RawHyp) (n : Named) (b c : RawBlock) (y : HypName) → (out-RawStep x).what ≡ raw.Split h n b c → hyp_in h ≡ Ok y
+    → step_of s x ≡ (block_of s b >>= (λ p. block_of s c >>= (λ q. Ok (Split (out-RawStep x).line y n.name p q))))
+split_is s x h n b c y is hyps =
+    let line = (out-RawStep x).line in
+    step_is s x
+    ∙ ap (λ k. raw_kind s k line) (is ∙ sym (rolls-Split h n b c))
+    ∙ ap (λ (f : Kind). f line) (fold-roll-RawStepKind Kind (Result Plan Refusal) (Result Then Refusal) (kind_in s) block_in step_in (RawStepKind-F.Split h n b c))
+    ∙ ap (λ r. r >>= (λ x. block_of s b >>= (λ p. block_of s c >>= (λ q. Ok (Split line x n.name p q))))) hyps
+
+pub first_stops : (e : Stop) (s : Scope) (x : RawStep) (h : RawHyp) (n : Named) (b c : RawBlock) (y : HypName) → (out-RawStep x).what ≡ raw.Split h n b c → hyp_in h ≡ Ok y
+    → Stops e (block_of s b) → Stops e (step_of s x)
+first_stops Memory s x h n b c y is hyps stops = tt
+first_stops (Refused r) s x h n b c y is hyps stops =
+    split_is s x h n b c y is hyps ∙ ap (λ r. r >>= (λ p. block_of s c >>= (λ q. Ok (Split (out-RawStep x).line y n.name p q)))) stops
+
+pub second_stops : (e : Stop) (s : Scope) (x : RawStep) (h : RawHyp) (n : Named) (b c : RawBlock) (y : HypName) (p : Plan) → (out-RawStep x).what ≡ raw.Split h n b c → hyp_in h ≡ Ok y
+    → block_of s b ≡ Ok p → Stops e (block_of s c) → Stops e (step_of s x)
+second_stops Memory s x h n b c y p is hyps one stops = tt
+second_stops (Refused r) s x h n b c y p is hyps one stops =
+    split_is s x h n b c y is hyps ∙ ap (λ r. r >>= (λ p. block_of s c >>= (λ q. Ok (Split (out-RawStep x).line y n.name p q)))) one
+    ∙ ap (λ r. r >>= (λ q. Ok (Split (out-RawStep x).line y n.name p q))) stops
+
 pub split_made : (s : Scope) (t : Stored) (x : RawStep) (h : RawHyp) (n : Named) (b c : RawBlock) (y : HypName) (p q : Block) → (out-RawStep x).what ≡ raw.Split h n b c
     → hyp_in h ≡ Ok y → block_of s b ≡ Ok (plan_of t p) → block_of s c ≡ Ok (plan_of t q)
     → step_of s x ≡ Ok (then_of t (roll-ScriptStep (record { what = made.Split y n.name p q; line = (out-RawStep x).line })))
 split_made s t x h n b c y p q is hyps one two =
     let line = (out-RawStep x).line in
-    let said : raw_kind s (out-RawStep x).what line ≡ Ok (Split line y n.name (plan_of t p) (plan_of t q)) =
-    ap (λ k. raw_kind s k line) (is ∙ sym (rolls-Split h n b c))
-    ∙ ap (λ (f : Kind). f line) (fold-roll-RawStepKind Kind (Result Plan Refusal) (Result Then Refusal) (kind_in s) block_in step_in (RawStepKind-F.Split h n b c))
-    ∙ ap (λ r. r >>= (λ x. block_of s b >>= (λ p. block_of s c >>= (λ q. Ok (Split line x n.name p q))))) hyps
+    let said : step_of s x ≡ Ok (Split line y n.name (plan_of t p) (plan_of t q)) =
+    split_is s x h n b c y is hyps
     ∙ ap (λ r. r >>= (λ p. block_of s c >>= (λ q. Ok (Split line y n.name p q)))) one
     ∙ ap (λ r. r >>= (λ q. Ok (Split line y n.name (plan_of t p) q))) two in
     let meant : then_of t (roll-ScriptStep (record { what = made.Split y n.name p q; line = line })) ≡ Split line y n.name (plan_of t p) (plan_of t q) =
     made_is t (made.Split y n.name p q) line
     ∙ ap (λ k. made_kind t k line) (sym (made-Split y n.name p q))
     ∙ ap (λ (f : ℕ → Then). f line) (fold-roll-StepKind (ℕ → Then) Plan Then (kind_plan t) block_plan step_plan (StepKind-F.Split y n.name p q)) in
-    step_is s x ∙ said ∙ ap Ok (sym meant)
+    said ∙ ap Ok (sym meant)
 
 pub cut_made : (s : Scope) (t : Stored) (x : RawStep) (e : Expr) (n : Named) (b : RawBlock) (f : FormId) (p : Block) → (out-RawStep x).what ≡ raw.Cut e n b
     → form_of e s ≡ Ok (formula t f) → block_of s b ≡ Ok (plan_of t p)

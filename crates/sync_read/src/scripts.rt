@@ -120,6 +120,13 @@ fn block(alloc: Global, terms: &mut Terms, scope: &Scope, raw: &RawBlock) -> Res
     })
 }
 
+/// A step that does this, at a line.
+fn made(what: StepKind, line: u32) -> ScriptStep
+    ensures { result ≡ record { what = what; line = line } }
+{
+    ScriptStep { what, line }
+}
+
 /// A step.
 #[cycle(blocks)]
 #[tactic(auto, using(sync_names::proofs::Kept::kept_formula, sync_names::proofs::Kept::kept_tree, sync_names::proofs::Kept::along, sync_names::proofs::Kept::stays))]
@@ -134,70 +141,40 @@ fn step_of(
 {
     let line = raw.line;
     match &raw.what {
-        RawStepKind::Same => Ok(ScriptStep {
-            what: StepKind::Same,
-            line,
-        }),
-        RawStepKind::Sum(list) => Ok(ScriptStep {
-            what: StepKind::Sum(parts(alloc, list.as_slice())?),
-            line,
-        }),
+        RawStepKind::Same => Ok(made(StepKind::Same, line)),
+        RawStepKind::Sum(list) => Ok(made(StepKind::Sum(parts(alloc, list.as_slice())?), line)),
         RawStepKind::Inst(h, es, n) => {
             let h = hyp(*h)?;
             let es = numbers(alloc, terms, scope, es.as_slice())?;
-            Ok(ScriptStep {
-                what: StepKind::Inst(h, es, n.name),
-                line,
-            })
+            Ok(made(StepKind::Inst(h, es, n.name), line))
         }
-        RawStepKind::Parts(h, a, b) => Ok(ScriptStep {
-            what: StepKind::Parts(hyp(*h)?, a.name, b.name),
-            line,
-        }),
+        RawStepKind::Parts(h, a, b) => Ok(made(StepKind::Parts(hyp(*h)?, a.name, b.name), line)),
         RawStepKind::Split(h, n, b, c) => {
             let h = hyp(*h)?;
             let b = block(alloc, terms, scope, b)?;
             let c = block(alloc, terms, scope, c)?;
-            Ok(ScriptStep {
-                what: StepKind::Split(h, n.name, b, c),
-                line,
-            })
+            Ok(made(StepKind::Split(h, n.name, b, c), line))
         }
         RawStepKind::Cut(e, n, b) => {
             let f = form_of(terms, scope, e)?;
             let b = block(alloc, terms, scope, b)?;
-            Ok(ScriptStep {
-                what: StepKind::Cut(f, n.name, b),
-                line,
-            })
+            Ok(made(StepKind::Cut(f, n.name, b), line))
         }
         RawStepKind::Read(m, k, n) => {
             let (m, k) = map_and_number(terms, scope, m, k)?;
-            Ok(ScriptStep {
-                what: StepKind::Read(m, k, n.name),
-                line,
-            })
+            Ok(made(StepKind::Read(m, k, n.name), line))
         }
         RawStepKind::Size(m, k, n) => {
             let (m, k) = map_and_number(terms, scope, m, k)?;
-            Ok(ScriptStep {
-                what: StepKind::Size(m, k, n.name),
-                line,
-            })
+            Ok(made(StepKind::Size(m, k, n.name), line))
         }
         RawStepKind::Total(m, k, n) => {
             let (m, k) = map_and_number(terms, scope, m, k)?;
-            Ok(ScriptStep {
-                what: StepKind::Total(m, k, n.name),
-                line,
-            })
+            Ok(made(StepKind::Total(m, k, n.name), line))
         }
         RawStepKind::Cong(m, j, k, n) => {
             let (m, j, k) = map_and_numbers(terms, scope, m, j, k)?;
-            Ok(ScriptStep {
-                what: StepKind::Cong(m, j, k, n.name),
-                line,
-            })
+            Ok(made(StepKind::Cong(m, j, k, n.name), line))
         }
     }
 }

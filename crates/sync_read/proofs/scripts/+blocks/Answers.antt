@@ -3,7 +3,7 @@ use Rattle.std.proofs.lemmas.Result.{err_from_is_err_and}
 use Rattle.sync_names.proofs.Kept.{along, kept_formula}
 use Rattle.sync_read.specs.Scripts.{parts_from, numbers_from, step_of, then_of}
 use Rattle.sync_read.proofs.Going.{thens_go}
-use Rattle.sync_read.proofs.Planned.{sum_made, inst_made, parts_made, split_made, cut_made, block_made, block_stops}
+use Rattle.sync_read.proofs.Planned.{sum_made, inst_made, parts_made, split_made, cut_made, block_made, block_stops, first_stops, second_stops}
 use Rattle.sync_read.proofs.scripts.+blocks.Goals as goal
 
 pub block-loop-step-preserved : goal.block-loop-step-preserved
@@ -29,23 +29,41 @@ block-returns-clause-exact t c s more =
 pub step_of-returns-in_ok-parts-in-Sum-clause-exact : goal.step_of-returns-in_ok-parts-in-Sum-clause-exact
 step_of-returns-in_ok-parts-in-Sum-clause-exact t c s more =
     sum_made c.args.scope.now s c.args.raw.now c.in-Sum.list c.in_ok-parts-in-Sum.field-0 c.in-Sum.is (ap (parts_from []) (sym c.as_slice.ensures) ∙ c.in_ok-parts-in-Sum.ensures)
+    ∙ ap (λ x. Ok (then_of s x)) (sym c.made-in-Sum.ensures)
 
 pub step_of-returns-in_ok-es-in-Inst-clause-exact : goal.step_of-returns-in_ok-es-in-Inst-clause-exact
 step_of-returns-in_ok-es-in-Inst-clause-exact t c s more =
     inst_made c.args.scope.now s c.args.raw.now c.in-Inst.h c.in-Inst.es c.in-Inst.n c.in_ok-h-in-Inst.h c.in_ok-es-in-Inst.es c.in-Inst.is c.in_ok-h-in-Inst.ensures
     (ap (numbers_from [] c.args.scope.now) (sym c.as_slice-in-Inst.ensures) ∙ c.in_ok-es-in-Inst.ensures.exact s more)
+    ∙ ap (λ x. Ok (then_of s x)) (sym c.made-in-Inst.ensures)
 
 pub step_of-returns-in_ok-hyp-in-Parts-clause-exact : goal.step_of-returns-in_ok-hyp-in-Parts-clause-exact
 step_of-returns-in_ok-hyp-in-Parts-clause-exact t c s more =
     parts_made c.args.scope.now s c.args.raw.now c.in-Parts.h c.in-Parts.a c.in-Parts.b c.in_ok-hyp-in-Parts.field-0 c.in-Parts.is c.in_ok-hyp-in-Parts.ensures
+    ∙ ap (λ x. Ok (then_of s x)) (sym c.made-in-Parts.ensures)
 
 pub step_of-returns-in_ok-c-in-Split-clause-exact : goal.step_of-returns-in_ok-c-in-Split-clause-exact
 step_of-returns-in_ok-c-in-Split-clause-exact t c s more =
     split_made c.args.scope.now s c.args.raw.now c.in-Split.h c.in-Split.n c.in-Split.b c.in-Split.c c.in_ok-h-in-Split.h c.in_ok-b-in-Split.b c.in_ok-c-in-Split.c c.in-Split.is
     c.in_ok-h-in-Split.ensures (c.in_ok-b-in-Split.ensures.exact s (along _ _ s c.block-in-Split.ensures.keeps more)) (c.in_ok-c-in-Split.ensures.exact s more)
+    ∙ ap (λ x. Ok (then_of s x)) (sym c.made-in-Split.ensures)
 
 pub step_of-returns-in_ok-b-in-Cut-clause-exact : goal.step_of-returns-in_ok-b-in-Cut-clause-exact
 step_of-returns-in_ok-b-in-Cut-clause-exact t c s more =
     let kept = kept_formula c.form_of.new.terms s c.in_ok-f-in-Cut.f (along _ _ s c.block-in-Cut.ensures.keeps more) c.in_ok-f-in-Cut.ensures.id in
     cut_made c.args.scope.now s c.args.raw.now c.in-Cut.e c.in-Cut.n c.in-Cut.b c.in_ok-f-in-Cut.f c.in_ok-b-in-Cut.b c.in-Cut.is
     (c.in_ok-f-in-Cut.ensures.exact ∙ ap Ok (sym kept)) (c.in_ok-b-in-Cut.ensures.exact s more)
+    ∙ ap (λ x. Ok (then_of s x)) (sym c.made-in-Cut.ensures)
+
+pub step_of-returns-in_err-b-in-Split-clause-exact : goal.step_of-returns-in_err-b-in-Split-clause-exact
+step_of-returns-in_err-b-in-Split-clause-exact t c s more =
+    let i = c.in-Split in
+    let p = err_from_is_err_and c.from_residual-in_err-b-in-Split.result c.from_residual-in_err-b-in-Split.ensures.1 in
+    rw (p.1, p.2) (first_stops c.in_err-b-in-Split.field-0.0 c.args.scope.now c.args.raw.now i.h i.n i.b i.c c.in_ok-h-in-Split.h i.is c.in_ok-h-in-Split.ensures (c.in_err-b-in-Split.ensures.exact s more))
+
+pub step_of-returns-in_err-c-in-Split-clause-exact : goal.step_of-returns-in_err-c-in-Split-clause-exact
+step_of-returns-in_err-c-in-Split-clause-exact t c s more =
+    let i = c.in-Split in
+    let p = err_from_is_err_and c.from_residual-in_err-c-in-Split.result c.from_residual-in_err-c-in-Split.ensures.1 in
+    rw (p.1, p.2) (second_stops c.in_err-c-in-Split.field-0.0 c.args.scope.now c.args.raw.now i.h i.n i.b i.c c.in_ok-h-in-Split.h _ i.is c.in_ok-h-in-Split.ensures
+    (c.in_ok-b-in-Split.ensures.exact s (along _ _ s c.block-in-Split.ensures.keeps more)) (c.in_err-c-in-Split.ensures.exact s more))
