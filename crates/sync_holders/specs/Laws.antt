@@ -29,13 +29,14 @@ MovesAreStepsOf fits m = (others : List Token) (moves : List Move) (old new : Ho
 abbrev pub MovesAreSteps : Type 0
 MovesAreSteps = (fits : ℤ → Bool) (m : MachineTree) → IsProved m → MovesAreStepsOf fits m
 
--- The exchange of an init by a holder of permissions alone, where nothing is recorded or stored, and then any list of moves:
--- the list leads to shards of a state that the list's exchanges lead to, as declared steps, from a declared start.
+-- a declared start of this operation, from which these calls lead, as declared steps, to a state of which these are the shards
 pub record RunsFromStart (m : MachineTree) (o : OperationTree) (args : List ℤ) (calls : List Call) (bag : List Token) (kept : Kept) : Type 0 where
   pub first : State
   pub start : Starts m o args first
   pub on : RunsOn m first calls bag kept
 
+-- The exchange of an init by a holder of permissions alone, where nothing is recorded or stored, and then any list of moves:
+-- the list leads to shards of a state that the list's exchanges lead to, as declared steps, from a declared start.
 abbrev pub StartsGoOnOf : (ℤ → Bool) → MachineTree → Type 0
 StartsGoOnOf fits m = (o : OperationTree) → Contains m.ops o → IsInit o → (args : List ℤ) → length args ≡ length o.params
     → (tokens given : List ℕ) (hand : List Held) → AreNames m.fields o tokens given hand
