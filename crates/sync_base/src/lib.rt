@@ -10,6 +10,7 @@ mod plans;
 mod sinks;
 mod sources;
 mod stops;
+mod strategies;
 mod tables;
 
 pub use gates::{Gate, OpenGate};
@@ -20,6 +21,7 @@ pub use places::place_number;
 pub use sinks::Sink;
 pub use sources::Source;
 pub use stops::{Failed, NoMemory, Refusal, Rule, Stop};
+pub use strategies::{OpMode, Strategy};
 pub use tables::Table;
 
 #[cfg(test)]

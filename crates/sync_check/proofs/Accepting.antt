@@ -10,14 +10,14 @@ use Rattle.sync_machine.specs.States.{HoldsAlways}
 use Rattle.sync_machine.specs.Views.{HasOwnIds}
 use Rattle.sync_parse.specs.declared.trees.RawText.{RawText}
 use Rattle.sync_parse.specs.declared.trees.RawProof.{RawProof}
-use Rattle.sync_names.specs.declared.scopes.Scope.{Scope}
-use Rattle.sync_induct.specs.Checks.{ProofTree}
+use Rattle.sync_read_names.specs.declared.scopes.Scope.{Scope}
+use Rattle.sync_terms.specs.Proofs.{ProofTree}
 use Rattle.sync_induct.specs.Grown.{HasGrown}
 use Rattle.sync_read.proofs.Whole.{machine_stays}
 use Rattle.sync_read.specs.Scripts.{proof_in, proofs_from}
 use Rattle.sync_read.specs.Resolving.{machine_in}
 use Rattle.sync_read.specs.Texts.{TextTree, first_scope, resolved}
-use Rattle.sync_grammar.specs.Texts.{Spells, HasScripts}
+use Rattle.sync_parse_grammar.specs.Texts.{Spells, HasScripts}
 use Rattle.sync_check.specs.Checking.{Means, IsMeant, IsAccepted}
 
 -- what a value that is there comes from

@@ -6,10 +6,10 @@ use Rattle.sync_base.specs.declared.stops.Refusal.{Refusal}
 use Rattle.sync_base.specs.declared.stops.Rule.TheVariants.{L1}
 use Rattle.sync_base.specs.Outcome.{first, ◌>>=◌}
 use Rattle.sync_lex.specs.Lexemes.{lexemes_of}
-use Rattle.sync_tokens.specs.Words.{worded}
+use Rattle.sync_lex.specs.Terminals.{terminals_in}
 use Rattle.sync_parse.specs.Machines.{parsed}
 use Rattle.sync_parse.specs.declared.trees.RawText.{RawText}
-use Rattle.sync_grammar.specs.Texts.{Spells, HasScripts}
+use Rattle.sync_parse_grammar.specs.Texts.{Spells, HasScripts}
 use Rattle.sync_machine.specs.Machines.{MachineTree}
 use Rattle.sync_machine.specs.States.{HoldsAlways}
 use Rattle.sync_rules.specs.Faults.{strategy_fault}
@@ -60,5 +60,5 @@ IsAccepted bytes scripts = (t : TextTree) × Means bytes t × HoldsAlways t.mach
 
 -- a text that is longer than the limit is refused for that
 pub spelled-too_long : (bytes : List ℕ) → most_bytes < length bytes → spelled bytes ≡ Err (record { line = 1; rule = L1 })
-unfolding parsed worded lexemes_of
+unfolding parsed terminals_in lexemes_of
 spelled-too_long bytes h = rw (lt-ltb most_bytes (length bytes) h) refl

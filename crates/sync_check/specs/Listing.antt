@@ -7,9 +7,9 @@ use Rattle.sync_base.specs.Outcome.{◌>>=◌}
 use Rattle.sync_base.specs.declared.names.Name.{Name}
 use Rattle.sync_base.specs.declared.names.NameList.{NameList}
 use Rattle.sync_machine.specs.Machines.{OperationTree, InvariantTree}
-use Rattle.sync_rules.specs.declared.claims.Claim.{Claim}
-use Rattle.sync_rules.specs.declared.claims.Claim.TheVariants.{At, Keeps}
-use Rattle.sync_rules.specs.declared.claims.Obligation.{Obligation}
+use Rattle.sync_terms.specs.declared.proofs.Claim.{Claim}
+use Rattle.sync_terms.specs.declared.proofs.Claim.TheVariants.{At, Keeps}
+use Rattle.sync_terms.specs.declared.proofs.Obligation.{Obligation}
 use Rattle.sync_rules.specs.Faults.{strategy_fault}
 use Rattle.sync_rules.specs.Obligations.{obligations_of}
 use Rattle.sync_read.specs.Texts.{TextTree}

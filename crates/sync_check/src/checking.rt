@@ -9,7 +9,7 @@ ghost use Rattle.sync_machine.specs.States.{HoldsAlways};
 ghost use Rattle.sync_machine.specs.Views.{HasOwnIds, machine_tree};
 ghost use Rattle.sync_rules.specs.Faults.{strategy_fault};
 ghost use Rattle.sync_rules.specs.Strategies.{AreAllowed};
-ghost use Rattle.sync_induct.specs.Checks.{AreScriptsOf};
+ghost use Rattle.sync_terms.specs.Proofs.{AreScriptsOf};
 ghost use Rattle.sync_induct.specs.Grown.{HasGrown};
 ghost use Rattle.sync_read.specs.Texts.{text_tree};
 ghost use Rattle.sync_read.specs.declared.texts.Text.{Text};
@@ -17,7 +17,7 @@ ghost use Rattle.sync_check.specs.Checking.{spelled, fault_of, machine_of, verdi
 
 use std::alloc::Global;
 use sync_base::Stop;
-use sync_grammar::read_tree;
+use sync_parse_grammar::read_tree;
 use sync_induct::{Inductive, inductive};
 use sync_machine::Machine;
 use sync_read::{Text, resolve};

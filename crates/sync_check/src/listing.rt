@@ -9,7 +9,8 @@ use sqlite_items::Items;
 use std::alloc::{AllocError, Global};
 use sync_base::{NameList, Stop};
 use sync_read::Text;
-use sync_rules::{Claim, Obligation, obligations};
+use sync_rules::obligations;
+use sync_terms::{Claim, Obligation};
 
 /// The spelling of the name with this number.
 fn spelling(names: &NameList, number: u32) -> &[u8]

@@ -11,8 +11,8 @@ use Rattle.sync_machine.specs.Statements.{binds}
 use Rattle.sync_join.specs.declared.tokens.Token.{Token}
 use Rattle.sync_join.specs.Shards.{perm}
 use Rattle.sync_join.specs.Join.{record_at}
-use Rattle.sync_eval.specs.Fitting.{form_fits}
-use Rattle.sync_slots.specs.declared.slots.Role.TheVariants.{Given, Read}
+use Rattle.sync_exchange_values.specs.Fitting.{form_fits}
+use Rattle.sync_rules.specs.declared.slots.Role.TheVariants.{Given, Read}
 use Rattle.sync_exchange.specs.declared.cases.Asked.{Asked}
 use Rattle.sync_exchange.specs.declared.hands.XStop.{XStop}
 use Rattle.sync_exchange.specs.declared.hands.XStop.TheVariants.{Differs, RequireFalse, Width}

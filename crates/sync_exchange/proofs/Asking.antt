@@ -5,7 +5,7 @@ use Rattle.sync_terms.specs.Trees.{Tree}
 use Rattle.sync_machine.specs.Machines.{PatternTree, Bind, Term, PlaceTree}
 use Rattle.sync_machine.specs.Statements.{key_of}
 use Rattle.sync_join.specs.declared.tokens.Token.{Token}
-use Rattle.sync_eval.specs.Fitting.{number_fits}
+use Rattle.sync_exchange_values.specs.Fitting.{number_fits}
 use Rattle.sync_exchange.specs.declared.hands.XStop.{XStop}
 use Rattle.sync_exchange.specs.declared.hands.XStop.TheVariants.{Missing, Differs, RequireFalse, StoreEmpty, Width, Memory}
 use Rattle.sync_exchange.specs.Exchange.{Exchanging, Answer, unless, named, is_token, is_asked, key_at, amount_at, place_fits, asked_token, asked_object, stored_at}

@@ -8,8 +8,8 @@ use Rattle.sync_terms.specs.Trees.{Tree, Name}
 use Rattle.sync_terms.specs.Maps as maps
 use Rattle.sync_terms.specs.Values.{Valuation}
 use Rattle.sync_machine.specs.declared.fields.Field.{Field}
-use Rattle.sync_machine.specs.declared.fields.OpMode.{OpMode}
-use Rattle.sync_machine.specs.declared.fields.OpMode.TheVariants as mode
+use Rattle.sync_base.specs.declared.strategies.OpMode.{OpMode}
+use Rattle.sync_base.specs.declared.strategies.OpMode.TheVariants as mode
 use Rattle.sync_machine.specs.Machines.{PlaceTree, ActTree, StepTree, OperationTree}
 use Rattle.sync_machine.specs.Machines as acts
 use Rattle.sync_machine.specs.Statements as statements
@@ -23,8 +23,8 @@ use Rattle.sync_join.specs.declared.tokens.Token.{Token}
 use Rattle.sync_join.specs.Shards.{Kept, IsOf, AreSoundShards}
 use Rattle.sync_join.specs.Join.{tokens_of, record_at, value_at, join_of, entries_of, number_of}
 use Rattle.sync_join.proofs.Through.{append-nothing}
-use Rattle.sync_slots.specs.Slots.{only_if, given_by, read_by, updated_to, valued, earliest, field_slot}
-use Rattle.sync_slots.specs.Slots as slots
+use Rattle.sync_rules.specs.Slots.{only_if, given_by, read_by, updated_to, valued, earliest, field_slot}
+use Rattle.sync_rules.specs.Slots as slots
 use Rattle.sync_exchange.specs.declared.hands.Held.{Held}
 use Rattle.sync_exchange.specs.Exchange.{tokens_in, token_name, names_before, beginning}
 use Rattle.sync_exchange.specs.Plain.{is_kept, is_at_hand, is_plain}
@@ -156,7 +156,7 @@ changed-updated fs f (acts.HaveVariable g) allowed first e var = absurd (cc)
 changed-updated fs f (acts.Have g p) allowed first e var = absurd (cc)
 changed-updated fs f (acts.Guard g p) allowed first e var = absurd (cc)
 
-pub valued-some : (role : Rattle.sync_slots.specs.declared.slots.Role.Role) (x line : ℕ) (o : Option Tree) → is_some o ≡ true → is_some (valued role x line o) ≡ true
+pub valued-some : (role : Rattle.sync_rules.specs.declared.slots.Role.Role) (x line : ℕ) (o : Option Tree) → is_some o ≡ true → is_some (valued role x line o) ≡ true
 valued-some role x line None e = absurd (cc)
 valued-some role x line (Some t) e = refl
 

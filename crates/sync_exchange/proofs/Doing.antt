@@ -9,7 +9,7 @@ use Rattle.sync_terms.specs.Trees.{Tree, Formula, Nil, Put, Del}
 use Rattle.sync_terms.specs.Maps as maps
 use Rattle.sync_terms.specs.Values.{Valuation, num, mapped, truth}
 use Rattle.sync_machine.specs.declared.fields.Field.{Field}
-use Rattle.sync_machine.specs.declared.fields.Strategy.TheVariants.{Variable, NotTokenized, Count, StorageMap}
+use Rattle.sync_base.specs.declared.strategies.Strategy.TheVariants.{Variable, NotTokenized, Count, StorageMap}
 use Rattle.sync_machine.specs.Machines.{PlaceTree, ActTree, StepTree}
 use Rattle.sync_machine.specs.Machines as acts
 use Rattle.sync_machine.specs.Statements.{field_of, changed_by, key_of, value_of, binds, enabling, safety, condition, after, added, removed}

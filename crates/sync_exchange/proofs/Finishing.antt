@@ -6,7 +6,7 @@ use Rattle.sync_machine.specs.declared.fields.Field.{Field}
 use Rattle.sync_machine.specs.Machines.{StepTree, OperationTree}
 use Rattle.sync_machine.specs.States.{State}
 use Rattle.sync_join.specs.Shards.{Kept}
-use Rattle.sync_slots.specs.Slots.{SlotTree}
+use Rattle.sync_rules.specs.Slots.{SlotTree}
 use Rattle.sync_exchange.specs.declared.hands.Held.{Held}
 use Rattle.sync_exchange.specs.declared.hands.XStop.{XStop}
 use Rattle.sync_exchange.specs.declared.hands.XStop.TheVariants.{Missing, Differs, RequireFalse, StoreEmpty, Width, Memory}

@@ -7,7 +7,7 @@ use Rattle.sync_machine.specs.Machines.{PatternTree, Bind, Term, PlaceTree}
 use Rattle.sync_machine.specs.Statements.{or_zero}
 use Rattle.sync_machine.specs.States.{Sort, Numbers, Maps}
 use Rattle.sync_rules.specs.Locality.{names_only, form_names_only, key_names_only, pattern_names_only, place_names_only}
-use Rattle.sync_eval.specs.Fitting.{values_fit, number_fits, map_fits, form_fits}
+use Rattle.sync_exchange_values.specs.Fitting.{values_fit, number_fits, map_fits, form_fits}
 use Rattle.sync_exchange.specs.Exchange.{Exchanging, term_fits, place_fits, is_asked, key_at}
 use Rattle.sync_exchange.proofs.Terms.{Same, num-same, mapped-same, and_left, and_right, and_three}
 

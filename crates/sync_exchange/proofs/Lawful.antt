@@ -10,7 +10,7 @@ use Rattle.sync_machine.specs.States.{strategy_of, strategy_at}
 use Rattle.sync_rules.specs.Strategies.{kind_of, HasKind}
 use Rattle.sync_rules.specs.Shapes.{fits}
 use Rattle.sync_rules.specs.Locality.{names_only, form_names_only, key_names_only, pattern_names_only, place_names_only}
-use Rattle.sync_slots.specs.Slots.{has_amounts}
+use Rattle.sync_rules.specs.Slots.{has_amounts}
 use Rattle.sync_join.proofs.Maps.{equal}
 use Rattle.sync_exchange.specs.Exchange.{Exchanging, key_at, amount_at, is_asked}
 use Rattle.sync_exchange.proofs.Terms.{Same, num-same, and_left, and_right}

@@ -37,3 +37,10 @@ pub mod Raising
 pub mod Placing
 pub mod Passages
 pub mod Meaning
+pub mod MovesApart
+pub mod MovesSplitting
+pub mod MovesExchanging
+pub mod MovesNamed
+pub mod Moving
+pub mod MovesStarting
+mod MoveExamples

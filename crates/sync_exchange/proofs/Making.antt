@@ -7,7 +7,7 @@ use Rattle.std.proofs.lemmas.List.{get_or-set_same, get_or-set_other, set-get_or
 use Rattle.sync_terms.specs.Trees.{Tree, Nil}
 use Rattle.sync_terms.specs.Values.{Valuation}
 use Rattle.sync_machine.specs.declared.fields.Field.{Field}
-use Rattle.sync_machine.specs.declared.fields.Strategy.TheVariants.{Count, StorageMap}
+use Rattle.sync_base.specs.declared.strategies.Strategy.TheVariants.{Count, StorageMap}
 use Rattle.sync_machine.specs.States.{Value, Number, sort_of, value_in, strategy_at}
 use Rattle.sync_join.specs.declared.tokens.Token.{Token}
 use Rattle.sync_join.specs.Shards.{Kept, IsToken, IsOf, AreRecords, AreSoundShards}

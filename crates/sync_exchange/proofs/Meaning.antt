@@ -3,7 +3,7 @@ use Rattle.std.specs.Prelude.{◌≡◌, ℕ, ℤ, List, Some, Result, Ok, Err, 
 use Rattle.sync_machine.specs.Machines.{OperationTree, MachineTree}
 use Rattle.sync_machine.specs.States.{State}
 use Rattle.sync_join.specs.Shards.{Kept}
-use Rattle.sync_eval.specs.Narrow.{is_narrow}
+use Rattle.sync_exchange_values.specs.Narrow.{is_narrow}
 use Rattle.sync_exchange.specs.declared.hands.Held.{Held}
 use Rattle.sync_exchange.specs.declared.hands.Bound.{Bound}
 use Rattle.sync_exchange.specs.declared.hands.XStop.{XStop}

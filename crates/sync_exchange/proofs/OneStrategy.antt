@@ -3,8 +3,8 @@ use Rattle.std.proofs.Common.{◌≡◌, ℕ, ◌<◌, ◌≤◌, ℤ, pos, Bool
 use Rattle.sync_join.proofs.Through.{is_other}
 use Rattle.sync_terms.specs.Trees.{Tree}
 use Rattle.sync_terms.specs.Values.{Valuation, num, mapped}
-use Rattle.sync_machine.specs.declared.fields.Strategy.{Strategy}
-use Rattle.sync_machine.specs.declared.fields.Strategy.TheVariants.{Variable, Constant, NotTokenized, Option as OptionField, Map, Set, Multiset, Count, PersistentOption, PersistentMap, PersistentSet, PersistentCount, StorageMap}
+use Rattle.sync_base.specs.declared.strategies.Strategy.{Strategy}
+use Rattle.sync_base.specs.declared.strategies.Strategy.TheVariants.{Variable, Constant, NotTokenized, Option as OptionField, Map, Set, Multiset, Count, PersistentOption, PersistentMap, PersistentSet, PersistentCount, StorageMap}
 use Rattle.sync_machine.specs.Machines.{PlaceTree}
 use Rattle.sync_machine.specs.Statements.{binds}
 use Rattle.sync_machine.specs.States.{Value, Number, Mapped, Sort, Numbers, Maps, sort_of, value_in}

@@ -6,8 +6,8 @@ use Rattle.sync_base.specs.Outcome.{first}
 use Rattle.sync_terms.specs.Maps as maps
 use Rattle.sync_terms.specs.Values.{Valuation, num, with_value}
 use Rattle.sync_machine.specs.declared.fields.Field.{Field}
-use Rattle.sync_machine.specs.declared.fields.Strategy.{Strategy}
-use Rattle.sync_machine.specs.declared.fields.Strategy.TheVariants.{Variable, Count}
+use Rattle.sync_base.specs.declared.strategies.Strategy.{Strategy}
+use Rattle.sync_base.specs.declared.strategies.Strategy.TheVariants.{Variable, Count}
 use Rattle.sync_machine.specs.Machines.{ActTree, StepTree}
 use Rattle.sync_machine.specs.Machines as acts
 use Rattle.sync_machine.specs.States.{Value, strategy_at, sort_of, value_in, blank}
@@ -16,8 +16,8 @@ use Rattle.sync_rules.specs.Locality.{is_variable}
 use Rattle.sync_join.specs.declared.tokens.Token.{Token}
 use Rattle.sync_join.specs.Shards.{IsTokenOf, AreSoundShards}
 use Rattle.sync_join.specs.Join.{tokens_of, record_at, value_at, only_value}
-use Rattle.sync_slots.specs.declared.slots.Role.TheVariants.{Given}
-use Rattle.sync_slots.specs.Slots.{SlotTree, started_at, given_by, changed_by, read_by, earliest, field_slot}
+use Rattle.sync_rules.specs.declared.slots.Role.TheVariants.{Given}
+use Rattle.sync_rules.specs.Slots.{SlotTree, started_at, given_by, changed_by, read_by, earliest, field_slot}
 use Rattle.sync_exchange.specs.Exchange.{Exchanging, held_as, token_name, next_name, later_names, after_giving, knowing, use_variable, use_variables}
 use Rattle.sync_exchange.specs.Projection.{names_new}
 use Rattle.sync_exchange.proofs.Tokens.{times, holds, under, given-part, held_as-last}

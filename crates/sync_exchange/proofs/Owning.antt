@@ -9,8 +9,8 @@ use Rattle.sync_machine.specs.Machines.{ActTree, StepTree, OperationTree}
 use Rattle.sync_machine.specs.Machines as acts
 use Rattle.sync_machine.specs.States.{strategy_at}
 use Rattle.sync_join.proofs.Through.{append-nothing}
-use Rattle.sync_slots.specs.declared.slots.Role.TheVariants.{Given}
-use Rattle.sync_slots.specs.Slots.{SlotTree, only_if, value_slot, has_amounts, act_slot, statement_slot, field_slot}
+use Rattle.sync_rules.specs.declared.slots.Role.TheVariants.{Given}
+use Rattle.sync_rules.specs.Slots.{SlotTree, only_if, value_slot, has_amounts, act_slot, statement_slot, field_slot}
 use Rattle.sync_exchange.specs.declared.hands.Held.{Held}
 use Rattle.sync_exchange.specs.Projection.{names_new, AreNames}
 use Rattle.sync_exchange.proofs.Tokens.{times, names_in, holds}

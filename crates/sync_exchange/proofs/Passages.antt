@@ -12,7 +12,7 @@ use Rattle.sync_join.specs.declared.tokens.Token.{Token}
 use Rattle.sync_join.specs.declared.tokens.Rest.{Rest}
 use Rattle.sync_join.specs.declared.values.Value.{Value}
 use Rattle.sync_join.specs.Views.{value_tree, kept_of}
-use Rattle.sync_slots.specs.Slots.{SlotTree, field_slot}
+use Rattle.sync_rules.specs.Slots.{SlotTree, field_slot}
 use Rattle.sync_exchange.specs.declared.hands.Held.{Held}
 use Rattle.sync_exchange.specs.declared.hands.XStop.{XStop}
 use Rattle.sync_exchange.specs.declared.works.Work.{Work}

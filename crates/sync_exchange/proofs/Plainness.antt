@@ -7,19 +7,19 @@ use Rattle.std.proofs.lemmas.List.Elements.{filter_map-append}
 use Rattle.sync_terms.specs.Maps as maps
 use Rattle.sync_terms.specs.Values.{Valuation, with_value}
 use Rattle.sync_machine.specs.declared.fields.Field.{Field}
-use Rattle.sync_machine.specs.declared.fields.Strategy.{Strategy}
-use Rattle.sync_machine.specs.declared.fields.Strategy.TheVariants.{Variable, Constant, NotTokenized, Option as OptionField, Map, Set, Multiset, Count, PersistentOption, PersistentMap, PersistentSet, PersistentCount, StorageMap}
-use Rattle.sync_machine.specs.declared.fields.OpMode.{OpMode}
-use Rattle.sync_machine.specs.declared.fields.OpMode.TheVariants as mode
+use Rattle.sync_base.specs.declared.strategies.Strategy.{Strategy}
+use Rattle.sync_base.specs.declared.strategies.Strategy.TheVariants.{Variable, Constant, NotTokenized, Option as OptionField, Map, Set, Multiset, Count, PersistentOption, PersistentMap, PersistentSet, PersistentCount, StorageMap}
+use Rattle.sync_base.specs.declared.strategies.OpMode.{OpMode}
+use Rattle.sync_base.specs.declared.strategies.OpMode.TheVariants as mode
 use Rattle.sync_machine.specs.Machines.{StepTree, OperationTree}
 use Rattle.sync_machine.specs.States.{Sort, Numbers, State, sort_of, strategy_at}
 use Rattle.sync_machine.specs.Naming.{bound_by, bound_names, is_in}
 use Rattle.sync_join.specs.declared.tokens.Token.{Token}
 use Rattle.sync_join.specs.Shards.{Kept}
 use Rattle.sync_join.specs.Join.{entries_of, number_of}
-use Rattle.sync_slots.specs.declared.slots.Role.{Role}
-use Rattle.sync_slots.specs.declared.slots.Role.TheVariants.{Change, Taken, Read, Given, In, Out, Seen}
-use Rattle.sync_slots.specs.Slots.{SlotTree, field_slot}
+use Rattle.sync_rules.specs.declared.slots.Role.{Role}
+use Rattle.sync_rules.specs.declared.slots.Role.TheVariants.{Change, Taken, Read, Given, In, Out, Seen}
+use Rattle.sync_rules.specs.Slots.{SlotTree, field_slot}
 use Rattle.sync_exchange.specs.declared.hands.XStop.TheVariants.{Differs}
 use Rattle.sync_exchange.specs.Exchange.{Exchanging, Answer, unless, is_token, knowing, next_name, after_reading, seen, names_before, beginning, use_variable, use_variables, does, does_all}
 use Rattle.sync_exchange.specs.Projection.{ReadsNoState}

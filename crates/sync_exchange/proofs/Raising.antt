@@ -1,8 +1,8 @@
 -- What becomes of records, strategy by strategy.
 use Rattle.std.proofs.Common.{◌≡◌, ℕ, ℤ, ◌⊎◌, inl, inr, Result, Ok, Err, OnOk, ap, ◌∙◌}
 use Rattle.sync_terms.specs.Maps.{put}
-use Rattle.sync_machine.specs.declared.fields.Strategy.{Strategy}
-use Rattle.sync_machine.specs.declared.fields.Strategy.TheVariants.{Constant, NotTokenized, PersistentOption, PersistentMap, PersistentSet}
+use Rattle.sync_base.specs.declared.strategies.Strategy.{Strategy}
+use Rattle.sync_base.specs.declared.strategies.Strategy.TheVariants.{Constant, NotTokenized, PersistentOption, PersistentMap, PersistentSet}
 use Rattle.sync_machine.specs.States.{Value, Mapped}
 use Rattle.sync_join.specs.Join.{entries_of}
 use Rattle.sync_exchange.specs.Exchange.{Exchanging, raised, started, recording}

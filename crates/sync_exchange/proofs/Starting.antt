@@ -7,15 +7,15 @@ use Rattle.std.proofs.lemmas.List.{get_or-set_other}
 use Rattle.sync_terms.specs.Trees.{Tree, Lit, Name, Add, Sub, Scale, Get, Has, Size, Sum, Nil, Put, Del, Bump}
 use Rattle.sync_terms.specs.Values.{Valuation, num, truth}
 use Rattle.sync_machine.specs.declared.fields.Field.{Field}
-use Rattle.sync_machine.specs.declared.fields.Strategy.{Strategy}
-use Rattle.sync_machine.specs.declared.fields.Strategy.TheVariants.{Variable, Constant, NotTokenized, Option as OptionField, Map, Set, Multiset, Count, PersistentOption, PersistentMap, PersistentSet, PersistentCount, StorageMap}
+use Rattle.sync_base.specs.declared.strategies.Strategy.{Strategy}
+use Rattle.sync_base.specs.declared.strategies.Strategy.TheVariants.{Variable, Constant, NotTokenized, Option as OptionField, Map, Set, Multiset, Count, PersistentOption, PersistentMap, PersistentSet, PersistentCount, StorageMap}
 use Rattle.sync_machine.specs.Machines.{ActTree, StepTree}
 use Rattle.sync_machine.specs.Machines as acts
 use Rattle.sync_machine.specs.Statements.{field_of, changed_by, enabling, safety, condition, after, amount_is_natural}
 use Rattle.sync_machine.specs.States.{Value, Number, Sort, Maps, sort_of, value_in, strategy_at, strategy_of, current_of, blank, IsMet}
 use Rattle.sync_rules.specs.Shapes.{fits, is_start, is_nil}
 use Rattle.sync_rules.specs.Locality.{is_variable}
-use Rattle.sync_slots.specs.Slots.{has_amounts}
+use Rattle.sync_rules.specs.Slots.{has_amounts}
 use Rattle.sync_join.specs.declared.tokens.Token.{Token}
 use Rattle.sync_join.specs.Shards.{Kept, IsTokenOf, IsOf}
 use Rattle.sync_join.specs.Join.{tokens_of, joined, record_at, number_of, sum_of, borne_out}

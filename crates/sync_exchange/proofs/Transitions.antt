@@ -19,7 +19,7 @@ use Rattle.sync_join.specs.declared.tokens.Token.{Token}
 use Rattle.sync_join.specs.Shards.{Kept, AreSoundShards}
 use Rattle.sync_join.specs.Join.{join_of, value_at}
 use Rattle.sync_join.proofs.States.{joined-state}
-use Rattle.sync_slots.specs.Slots.{field_slot}
+use Rattle.sync_rules.specs.Slots.{field_slot}
 use Rattle.sync_exchange.specs.declared.hands.Held.{Held}
 use Rattle.sync_exchange.specs.Exchange.{Exchanging, Exchanged, Answer, outcome, tokens_in, token_name, argument, beginning, variable_slots, use_variables, does_all}
 use Rattle.sync_exchange.specs.Plain.{is_plain}

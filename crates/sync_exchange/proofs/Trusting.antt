@@ -5,10 +5,10 @@ use Rattle.std.proofs.lemmas.Bool.{le-ltb}
 use Rattle.sync_base.specs.Outcome.{first}
 use Rattle.sync_terms.specs.Trees.{Tree, Lit, Name, Add, Sub, Scale, Get, Has, Size, Sum, Nil, Put, Del, Bump, Formula, Le, Lt, Eq, Not, And, Or, Imp}
 use Rattle.sync_machine.specs.declared.fields.Field.{Field}
-use Rattle.sync_machine.specs.declared.fields.Strategy.{Strategy}
-use Rattle.sync_machine.specs.declared.fields.Strategy.TheVariants.{Variable, Constant, NotTokenized, Option as OptionField, Map, Set, Multiset, Count, PersistentOption, PersistentMap, PersistentSet, PersistentCount, StorageMap}
-use Rattle.sync_machine.specs.declared.fields.OpMode.{OpMode}
-use Rattle.sync_machine.specs.declared.fields.OpMode.TheVariants as mode
+use Rattle.sync_base.specs.declared.strategies.Strategy.{Strategy}
+use Rattle.sync_base.specs.declared.strategies.Strategy.TheVariants.{Variable, Constant, NotTokenized, Option as OptionField, Map, Set, Multiset, Count, PersistentOption, PersistentMap, PersistentSet, PersistentCount, StorageMap}
+use Rattle.sync_base.specs.declared.strategies.OpMode.{OpMode}
+use Rattle.sync_base.specs.declared.strategies.OpMode.TheVariants as mode
 use Rattle.sync_machine.specs.Machines.{PatternTree, Bind, Term, PlaceTree, ActTree, StepTree, OperationTree}
 use Rattle.sync_machine.specs.Machines as acts
 use Rattle.sync_machine.specs.States.{strategy_at}
@@ -16,7 +16,7 @@ use Rattle.sync_rules.specs.Obligations.{names}
 use Rattle.sync_rules.specs.Locality.{names_only, form_names_only, key_names_only, pattern_names_only, place_names_only, is_variable, is_known, is_known_field, is_local, has_local_terms}
 use Rattle.sync_rules.specs.Strategies.{kind_of}
 use Rattle.sync_rules.specs.Order.{is_first_value}
-use Rattle.sync_slots.specs.Slots.{read_slot, only_if, needs, key_names, pattern_names, place_names, given_by, changed_by, read_by, earliest, variable_slot, field_slot}
+use Rattle.sync_rules.specs.Slots.{read_slot, only_if, needs, key_names, pattern_names, place_names, given_by, changed_by, read_by, earliest, variable_slot, field_slot}
 use Rattle.sync_exchange.specs.Plain.{is_kept, is_at_hand, reads_at_hand}
 use Rattle.sync_exchange.proofs.Terms.{and_left, and_right, and_both, or_left, or_right, only-more, form-only-more}
 use Rattle.sync_exchange.proofs.Lawful.{reads_only}

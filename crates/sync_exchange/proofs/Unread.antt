@@ -5,8 +5,8 @@ use Rattle.sync_base.specs.Outcome.{◌>>=◌}
 use Rattle.sync_terms.specs.Maps as maps
 use Rattle.sync_terms.specs.Values.{Valuation, with_value}
 use Rattle.sync_machine.specs.declared.fields.Field.{Field}
-use Rattle.sync_machine.specs.declared.fields.Strategy.{Strategy}
-use Rattle.sync_machine.specs.declared.fields.Strategy.TheVariants.{Variable, Constant, NotTokenized, Option as OptionField, Map, Set, Multiset, Count, PersistentOption, PersistentMap, PersistentSet, PersistentCount, StorageMap}
+use Rattle.sync_base.specs.declared.strategies.Strategy.{Strategy}
+use Rattle.sync_base.specs.declared.strategies.Strategy.TheVariants.{Variable, Constant, NotTokenized, Option as OptionField, Map, Set, Multiset, Count, PersistentOption, PersistentMap, PersistentSet, PersistentCount, StorageMap}
 use Rattle.sync_machine.specs.Machines.{PatternTree, Bind, Term, PlaceTree, ActTree, StepTree}
 use Rattle.sync_machine.specs.Machines as acts
 use Rattle.sync_machine.specs.Statements.{binds, field_of}

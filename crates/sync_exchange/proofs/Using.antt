@@ -7,8 +7,8 @@ use Rattle.sync_terms.specs.Trees.{Tree, Name, Nil}
 use Rattle.sync_terms.specs.Maps as maps
 use Rattle.sync_terms.specs.Values.{Valuation, num, with_value}
 use Rattle.sync_machine.specs.declared.fields.Field.{Field}
-use Rattle.sync_machine.specs.declared.fields.OpMode.{OpMode}
-use Rattle.sync_machine.specs.declared.fields.OpMode.TheVariants as mode
+use Rattle.sync_base.specs.declared.strategies.OpMode.{OpMode}
+use Rattle.sync_base.specs.declared.strategies.OpMode.TheVariants as mode
 use Rattle.sync_machine.specs.Machines.{ActTree, StepTree}
 use Rattle.sync_machine.specs.Machines as acts
 use Rattle.sync_machine.specs.Statements as statements
@@ -19,9 +19,9 @@ use Rattle.sync_rules.specs.Order.{may_stand_in, keeps_still, is_first_value}
 use Rattle.sync_join.specs.declared.tokens.Token.{Token}
 use Rattle.sync_join.specs.Join.{tokens_of, record_at}
 use Rattle.sync_join.proofs.Leaving.{only_value-out}
-use Rattle.sync_slots.specs.declared.slots.Role.{Role}
-use Rattle.sync_slots.specs.declared.slots.Role.TheVariants.{Change, Read, Given}
-use Rattle.sync_slots.specs.Slots.{SlotTree, value_slot, read_slot, only_if, needs, started_at, updated_to, valued, given_by, changed_by, read_by, earliest, variable_slot, field_slot}
+use Rattle.sync_rules.specs.declared.slots.Role.{Role}
+use Rattle.sync_rules.specs.declared.slots.Role.TheVariants.{Change, Read, Given}
+use Rattle.sync_rules.specs.Slots.{SlotTree, value_slot, read_slot, only_if, needs, started_at, updated_to, valued, given_by, changed_by, read_by, earliest, variable_slot, field_slot}
 use Rattle.sync_exchange.specs.declared.hands.XStop.TheVariants.{Differs}
 use Rattle.sync_exchange.specs.Exchange.{Exchanging, held_as, tokens_in, without, token_name, next_name, named, is_token, after_reading, knowing, use_variable, use_variables}
 use Rattle.sync_exchange.proofs.Terms.{and_left}

@@ -11,7 +11,7 @@ use Rattle.sync_machine.specs.Machines.{PatternTree, Bind, Term, PlaceTree, ActT
 use Rattle.sync_machine.specs.Machines as acts
 use Rattle.sync_machine.specs.States.{Sort, Numbers, Maps, sort_of, strategy_at}
 use Rattle.sync_machine.specs.Statements.{key_of, one}
-use Rattle.sync_eval.specs.Fitting.{values_fit, number_fits, map_fits, form_fits}
+use Rattle.sync_exchange_values.specs.Fitting.{values_fit, number_fits, map_fits, form_fits}
 use Rattle.sync_exchange.specs.declared.hands.XStop.{XStop}
 use Rattle.sync_exchange.specs.declared.hands.XStop.TheVariants.{Width, RequireFalse}
 use Rattle.sync_exchange.specs.Exchange.{Exchanging, Answer, unless, outcome, beginning, place_fits, term_fits, use_variables, variable_slots, does, does_all}

@@ -6,3 +6,6 @@ pub mod Outcomes
 pub mod Works
 pub mod Splitting
 pub mod Laws
+pub mod Moves
+pub mod Runs
+pub mod MoveLaws

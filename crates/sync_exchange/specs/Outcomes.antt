@@ -1,7 +1,7 @@
 -- How an answer that may stop for want of memory compares with what a definition gives.
 use Rattle.std.specs.Prelude.{◌≡◌, List, Bool, true, false, Result, Ok, Err}
-use Rattle.sync_eval.specs.declared.stops.EvalStop.{EvalStop}
-use Rattle.sync_eval.specs.declared.stops.EvalStop.TheVariants as eval
+use Rattle.sync_exchange_values.specs.declared.stops.EvalStop.{EvalStop}
+use Rattle.sync_exchange_values.specs.declared.stops.EvalStop.TheVariants as eval
 use Rattle.sync_join.specs.Shards.{Kept}
 use Rattle.sync_exchange.specs.declared.hands.Bound.{Bound}
 use Rattle.sync_exchange.specs.declared.hands.Held.{Held}

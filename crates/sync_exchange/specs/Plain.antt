@@ -2,13 +2,13 @@
 use Rattle.std.specs.Prelude.{ℕ, Bool, true, false, ◌||◌, nat_lt, is_some, List, not, length}
 use Rattle.std.specs.List.{list_all}
 use Rattle.sync_machine.specs.declared.fields.Field.{Field}
-use Rattle.sync_machine.specs.declared.fields.Strategy.{Strategy}
-use Rattle.sync_machine.specs.declared.fields.Strategy.TheVariants.{Variable, Constant, NotTokenized, Option as OptionField, Map, Set, Multiset, Count, PersistentOption, PersistentMap, PersistentSet, PersistentCount, StorageMap}
+use Rattle.sync_base.specs.declared.strategies.Strategy.{Strategy}
+use Rattle.sync_base.specs.declared.strategies.Strategy.TheVariants.{Variable, Constant, NotTokenized, Option as OptionField, Map, Set, Multiset, Count, PersistentOption, PersistentMap, PersistentSet, PersistentCount, StorageMap}
 use Rattle.sync_machine.specs.Machines.{ActTree, StepTree, OperationTree, PlaceTree}
 use Rattle.sync_machine.specs.Machines as acts
 use Rattle.sync_machine.specs.States.{strategy_at}
 use Rattle.sync_rules.specs.Locality.{names_only, is_variable}
-use Rattle.sync_slots.specs.Slots.{field_slot}
+use Rattle.sync_rules.specs.Slots.{field_slot}
 
 -- the values of these are kept beside the tokens
 abbrev pub is_kept : Strategy → Bool

@@ -11,9 +11,9 @@ use Rattle.sync_rules.specs.Faults.{strategy_fault}
 use Rattle.sync_join.specs.declared.tokens.Token.{Token}
 use Rattle.sync_join.specs.Shards.{Kept, perm, AreSoundShards}
 use Rattle.sync_join.specs.Join.{join_of}
-use Rattle.sync_slots.specs.declared.slots.Role.{Role}
-use Rattle.sync_slots.specs.declared.slots.Role.TheVariants.{Change, Taken, Read, Given, In, Out, Seen}
-use Rattle.sync_slots.specs.Slots.{SlotTree, slots_of}
+use Rattle.sync_rules.specs.declared.slots.Role.{Role}
+use Rattle.sync_rules.specs.declared.slots.Role.TheVariants.{Change, Taken, Read, Given, In, Out, Seen}
+use Rattle.sync_rules.specs.Slots.{SlotTree, slots_of}
 use Rattle.sync_exchange.specs.declared.hands.Held.{Held}
 use Rattle.sync_exchange.specs.Exchange.{Exchanged, exchange_in, tokens_in}
 use Rattle.sync_exchange.specs.Plain.{is_plain}

@@ -6,18 +6,18 @@ use Rattle.sync_terms.specs.declared.nodes.Sym.{Sym}
 use Rattle.sync_terms.specs.Maps as maps
 use Rattle.sync_terms.specs.Values.{Valuation, with_value}
 use Rattle.sync_machine.specs.declared.fields.Field.{Field}
-use Rattle.sync_machine.specs.declared.fields.Strategy.{Strategy}
-use Rattle.sync_machine.specs.declared.fields.Strategy.TheVariants.{Variable, Constant, NotTokenized, Option as OptionField, Map, Set, Multiset, Count, PersistentOption, PersistentMap, PersistentSet, PersistentCount, StorageMap}
+use Rattle.sync_base.specs.declared.strategies.Strategy.{Strategy}
+use Rattle.sync_base.specs.declared.strategies.Strategy.TheVariants.{Variable, Constant, NotTokenized, Option as OptionField, Map, Set, Multiset, Count, PersistentOption, PersistentMap, PersistentSet, PersistentCount, StorageMap}
 use Rattle.sync_machine.specs.States.{Value, Number, Mapped, State, Sort, Numbers, Maps, strategy_at}
 use Rattle.sync_machine.specs.Machines.{PatternTree, Bind, Term, StepTree}
 use Rattle.sync_machine.specs.Statements.{one}
 use Rattle.sync_machine.specs.Views.{symbols_of}
-use Rattle.sync_eval.specs.Fitting.{number_fits}
+use Rattle.sync_exchange_values.specs.Fitting.{number_fits}
 use Rattle.sync_join.specs.declared.tokens.Token.{Token}
 use Rattle.sync_join.specs.Shards.{Kept}
 use Rattle.sync_join.specs.Join.{entries_of, number_of, tokens_of, map_of}
 use Rattle.sync_join.specs.Views.{value_tree}
-use Rattle.sync_slots.specs.Slots.{SlotTree}
+use Rattle.sync_rules.specs.Slots.{SlotTree}
 use Rattle.sync_exchange.specs.declared.hands.Held.{Held}
 use Rattle.sync_exchange.specs.declared.changes.Change.{Change}
 use Rattle.sync_exchange.specs.declared.changes.Change.TheVariants as change

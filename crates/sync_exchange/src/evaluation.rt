@@ -8,8 +8,8 @@ ghost use Rattle.sync_terms.specs.declared.nodes.Sym.{Sym as Symbol};
 ghost use Rattle.sync_machine.specs.States as states;
 ghost use Rattle.sync_machine.specs.Statements as statements;
 ghost use Rattle.sync_machine.specs.Views.{key_tree, pattern_tree, place_tree, HasKeyId, HasPatternId, HasPlaceIds};
-ghost use Rattle.sync_eval.specs.Fitting.{number_fits, map_fits, form_fits};
-ghost use Rattle.sync_eval.specs.Narrow.{is_narrow};
+ghost use Rattle.sync_exchange_values.specs.Fitting.{number_fits, map_fits, form_fits};
+ghost use Rattle.sync_exchange_values.specs.Narrow.{is_narrow};
 ghost use Rattle.sync_join.specs.Views.{value_tree};
 ghost use Rattle.sync_exchange.specs.declared.cases.Asked.{Asked as Wanted};
 ghost use Rattle.sync_exchange.specs.declared.evaluation.Found.{Found as Match};
@@ -23,7 +23,7 @@ use crate::hands::{XStop, stored_at};
 use crate::scopes::Scope;
 use crate::works::Work;
 use std::alloc::Global;
-use sync_eval::{Meanings, map_of, number_of, truth_of};
+use sync_exchange_values::{Meanings, map_of, number_of, truth_of};
 use sync_join::{Entries, Token, Value};
 use sync_machine::{Pattern, Place, Strategy, strategy_at};
 use sync_terms::{FormId, Sym, TermId};
@@ -139,7 +139,7 @@ impl Work {
     }
 
     /// The key of a place, 0 where the strategy has none.
-    #[tactic(auto, unfolding(sync_eval::specs::Fitting::number_fits))]
+    #[tactic(auto, unfolding(sync_exchange_values::specs::Fitting::number_fits))]
     fn key(&self, alloc: Global, case: &Case<'_>, key: Option<TermId>) -> Result<i128, XStop>
         requires { HasKeyId case.now.m.now.terms key }
         ensures { Measures (λ (n : ℤ). n) result (number_fits is_narrow (now_of case.now self.now).names (statements.or_zero (key_tree case.now.m.now.terms key))) (num (now_of case.now self.now).names (statements.or_zero (key_tree case.now.m.now.terms key))) }
@@ -151,7 +151,7 @@ impl Work {
     }
 
     /// The value or amount of a place, or what the name that it binds stands for; 1 for an element of a set.
-    #[tactic(auto, unfolding(sync_eval::specs::Fitting::number_fits))]
+    #[tactic(auto, unfolding(sync_exchange_values::specs::Fitting::number_fits))]
     fn amount(
         &self,
         alloc: Global,

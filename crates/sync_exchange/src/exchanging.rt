@@ -5,9 +5,9 @@ ghost use Rattle.sync_machine.specs.Machines.{OperationTree};
 ghost use Rattle.sync_machine.specs.States as states;
 ghost use Rattle.sync_machine.specs.Views.{machine_tree, steps_tree, HasActIds, HasOwnIds};
 ghost use Rattle.sync_machine.specs.declared.machine.Step.{Step as Statement};
-ghost use Rattle.sync_eval.specs.Narrow.{is_narrow};
+ghost use Rattle.sync_exchange_values.specs.Narrow.{is_narrow};
 ghost use Rattle.sync_join.specs.Views.{value_tree, state_tree, kept_of};
-ghost use Rattle.sync_slots.specs.Slots.{field_slot};
+ghost use Rattle.sync_rules.specs.Slots.{field_slot};
 ghost use Rattle.sync_exchange.specs.Exchange as exchanges;
 ghost use Rattle.sync_exchange.specs.Exchange.{exchange_in};
 ghost use Rattle.sync_exchange.specs.Projection.{IsStep, IsStart};
@@ -25,7 +25,7 @@ use std::alloc::Global;
 use sync_base::NoMemory;
 use sync_join::{Rest, State, Value};
 use sync_machine::{Machine, Step};
-use sync_slots::variable_slots;
+use sync_rules::variable_slots;
 
 /// Does the operation with this number on the tokens of one holder and on what is kept beside all tokens, and tells
 /// the values of the names that it binds.

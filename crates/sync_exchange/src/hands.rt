@@ -10,7 +10,7 @@ ghost use Rattle.sync_exchange.specs.Works.{revalued_as};
 use sqlite_items::Items;
 use std::alloc::{AllocError, AllocFailed, Global};
 use sync_base::NoMemory;
-use sync_eval::EvalStop;
+use sync_exchange_values::EvalStop;
 use sync_join::Token;
 
 /// A token under a name of its holder.

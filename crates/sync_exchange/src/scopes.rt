@@ -7,7 +7,7 @@ ghost use Rattle.sync_join.specs.Views.{value_tree};
 ghost use Rattle.sync_exchange.specs.Exchange as exchanges;
 ghost use Rattle.sync_exchange.specs.Works.{outer_meaning, outer_number, outer_value, known_over, last_known, value_in_list};
 
-use sync_eval::Meanings;
+use sync_exchange_values::Meanings;
 use sync_join::{Entries, Value};
 use sync_machine::{Field, Strategy, strategy_at};
 use sync_terms::Sym;

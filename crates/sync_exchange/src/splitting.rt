@@ -4,7 +4,7 @@ ghost use Rattle.std.specs.Int.{w128};
 ghost use Rattle.sync_join.specs.declared.tokens.Token.{Token as Piece};
 ghost use Rattle.sync_exchange.specs.declared.hands.Held.{Held as Owned};
 ghost use Rattle.sync_exchange.specs.Exchange as exchanges;
-ghost use Rattle.sync_machine.specs.declared.fields.Strategy.TheVariants.{Count};
+ghost use Rattle.sync_base.specs.declared.strategies.Strategy.TheVariants.{Count};
 ghost use Rattle.sync_machine.specs.States.{strategy_at};
 ghost use Rattle.sync_exchange.specs.Splitting.{held, split_of, merged_of, copied_of, is_persistent, IsHeld, KeepsShards};
 

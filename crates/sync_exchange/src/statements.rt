@@ -6,10 +6,10 @@ ghost use Rattle.sync_machine.specs.Machines as acts;
 ghost use Rattle.sync_machine.specs.States as states;
 ghost use Rattle.sync_machine.specs.Views.{step_tree, steps_tree, act_tree, place_tree, HasActIds, HasPlaceIds};
 ghost use Rattle.sync_machine.specs.declared.machine.Step.{Step as Statement};
-ghost use Rattle.sync_eval.specs.Narrow.{is_narrow};
+ghost use Rattle.sync_exchange_values.specs.Narrow.{is_narrow};
 ghost use Rattle.sync_join.specs.Join as shards;
 ghost use Rattle.sync_join.specs.Views.{value_tree};
-ghost use Rattle.sync_slots.specs.Views.{slots_tree};
+ghost use Rattle.sync_rules.specs.Views.{slots_tree};
 ghost use Rattle.sync_exchange.specs.Exchange as exchanges;
 ghost use Rattle.sync_exchange.specs.Exchange.{does, does_all};
 ghost use Rattle.sync_exchange.specs.Outcomes.{Leaves};
@@ -24,7 +24,7 @@ use std::alloc::Global;
 use sync_base::NoMemory;
 use sync_join::{PERM, Token, Value};
 use sync_machine::{Act, Place, Step, Strategy, strategy_at};
-use sync_slots::{Role, Slot};
+use sync_rules::{Role, Slot};
 use sync_terms::{FormId, TermId};
 
 /// A value as a number; a map counts as 0.

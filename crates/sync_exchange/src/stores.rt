@@ -1,7 +1,7 @@
 //! Stored objects as maps.
 ghost use Rattle.std.specs.Prelude.{◌≡◌, IfOk};
 ghost use Rattle.sync_machine.specs.States as states;
-ghost use Rattle.sync_machine.specs.declared.fields.Strategy.TheVariants.{StorageMap};
+ghost use Rattle.sync_base.specs.declared.strategies.Strategy.TheVariants.{StorageMap};
 ghost use Rattle.sync_join.specs.Join as shards;
 ghost use Rattle.sync_exchange.specs.Works.{AreStores};
 

@@ -13,7 +13,7 @@ use Rattle.sync_machine.specs.Scope.{Known, IsConditionIn, AreConditionsIn}
 use Rattle.sync_rules.specs.Obligations.{form_names, touches, is_touched, has_to_keep}
 use Rattle.sync_kernel.specs.Facts.{Fact}
 use Rattle.sync_induct.specs.Duties.{Duty, condition_facts, step_facts, safety_duties, step_duties, facts_behind, closing, keeps_duties, operation_duties, duties_from, givens_of, IsProved, AreProved}
-use Rattle.sync_rules.specs.declared.claims.Claim.TheVariants as claims
+use Rattle.sync_terms.specs.declared.proofs.Claim.TheVariants as claims
 use Rattle.sync_induct.proofs.Agreement.{Agree, Agree-part, truth-agree}
 
 -- ---- lists of facts

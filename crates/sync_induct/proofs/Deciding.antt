@@ -17,12 +17,13 @@ use Rattle.sync_machine.specs.declared.machine.Machine.{Machine}
 use Rattle.sync_machine.specs.Machines.{MachineTree}
 use Rattle.sync_machine.specs.Views.{operation_tree, invariant_tree, machine_tree, HasActIds, HasOwnIds}
 use Rattle.sync_machine.specs.Scope.{IsNamed}
-use Rattle.sync_rules.specs.declared.claims.Obligation.{Obligation}
+use Rattle.sync_terms.specs.declared.proofs.Obligation.{Obligation}
 use Rattle.sync_rules.specs.Obligations.{obligations_of}
 use Rattle.sync_induct.specs.declared.index.Title.{Title}
-use Rattle.sync_induct.specs.declared.proofs.Proof.{Proof}
+use Rattle.sync_terms.specs.declared.proofs.Proof.{Proof}
 use Rattle.sync_induct.specs.Checklist.{checks_from, checks_of}
-use Rattle.sync_induct.specs.Checks.{ProofTree, title_of, titles_of, proofs_in, has_title, stray_fault, checks_fault, proof_fault}
+use Rattle.sync_induct.specs.Checks.{has_title, stray_fault, checks_fault, proof_fault}
+use Rattle.sync_terms.specs.Proofs.{ProofTree, title_of, titles_of, proofs_in}
 use Rattle.sync_induct.specs.Closing.{IsKeepable, AreWanted}
 use Rattle.sync_induct.proofs.Lasting.{operation-stays, invariants-stay}
 use Rattle.sync_induct.proofs.Ready.{operations-ids, invariants-keepable}

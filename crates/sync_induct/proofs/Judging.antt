@@ -9,15 +9,16 @@ use Rattle.sync_base.specs.declared.stops.Stop.{Stop}
 use Rattle.sync_base.specs.Outcome.{Passes}
 use Rattle.sync_terms.specs.Trees.{formula_size}
 use Rattle.sync_terms.specs.Stored.{Stored}
-use Rattle.sync_rules.specs.declared.claims.Obligation.{Obligation}
+use Rattle.sync_terms.specs.declared.proofs.Obligation.{Obligation}
 use Rattle.sync_terms.specs.Plans.{Plan, plan_of}
 use Rattle.sync_kernel.specs.Scripts.{script_fault}
 use Rattle.sync_induct.specs.declared.index.Title.{Title}
-use Rattle.sync_induct.specs.declared.proofs.Proof.{Proof}
+use Rattle.sync_terms.specs.declared.proofs.Proof.{Proof}
 use Rattle.sync_induct.specs.Duties.{Duty}
 use Rattle.sync_induct.specs.Titles.{titled, same_title, first_at}
 use Rattle.sync_induct.proofs.Titles.{none_of}
-use Rattle.sync_induct.specs.Checks.{ProofTree, title_of, titles_of, proofs_in, proof_of, sequent_size, is_large, judged, duty_fault}
+use Rattle.sync_induct.specs.Checks.{proof_of, sequent_size, is_large, judged, duty_fault}
+use Rattle.sync_terms.specs.Proofs.{ProofTree, title_of, titles_of, proofs_in}
 
 cond_at : {A : Type 0} (b : Bool) (x y : A) → b ≡ true → cond b x y ≡ x
 cond_at true x y e = refl

@@ -16,13 +16,14 @@ use Rattle.sync_machine.specs.declared.machine.Invariant.{Invariant}
 use Rattle.sync_machine.specs.Machines.{InvariantTree, OperationTree}
 use Rattle.sync_machine.specs.Views.{invariant_tree, symbols_of}
 use Rattle.sync_kernel.specs.Facts.{Fact}
-use Rattle.sync_rules.specs.declared.claims.Claim.TheVariants as claims
-use Rattle.sync_rules.specs.declared.claims.Obligation.{Obligation}
+use Rattle.sync_terms.specs.declared.proofs.Claim.TheVariants as claims
+use Rattle.sync_terms.specs.declared.proofs.Obligation.{Obligation}
 use Rattle.sync_rules.specs.Obligations.{has_to_keep}
 use Rattle.sync_induct.specs.declared.index.Title.{Title}
 use Rattle.sync_induct.specs.declared.walks.Walk.{Walk}
 use Rattle.sync_induct.specs.Checklist.{Check, Proves, proves}
-use Rattle.sync_induct.specs.Checks.{ProofTree, duty_fault, checks_fault, duty_of}
+use Rattle.sync_induct.specs.Checks.{duty_fault, checks_fault, duty_of}
+use Rattle.sync_terms.specs.Proofs.{ProofTree}
 use Rattle.sync_induct.specs.Duties.{Duty, closed_form, kept_duty, keeps_duties, IsProved}
 use Rattle.sync_induct.specs.Titles.{title}
 use Rattle.sync_induct.specs.Closing.{IsKeepable, AreWanted}

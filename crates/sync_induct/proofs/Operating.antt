@@ -22,7 +22,8 @@ use Rattle.sync_kernel.specs.Facts.{Fact}
 use Rattle.sync_induct.specs.declared.index.Title.{Title}
 use Rattle.sync_induct.specs.declared.walks.Walk.{Walk}
 use Rattle.sync_induct.specs.Checklist.{Check, proves, step_checks, operation_checks, checks_from, AreShown}
-use Rattle.sync_induct.specs.Checks.{ProofTree, checks_fault}
+use Rattle.sync_induct.specs.Checks.{checks_fault}
+use Rattle.sync_terms.specs.Proofs.{ProofTree}
 use Rattle.sync_induct.specs.Closing.{IsKeepable, AreWanted}
 use Rattle.sync_induct.specs.Duties.{facts_behind, keeps_duties, base_facts}
 use Rattle.sync_induct.specs.Walks.{HasCome, values_of, known_of}

@@ -5,7 +5,8 @@ use Rattle.sync_base.specs.declared.stops.Stop.{Stop}
 use Rattle.sync_base.specs.declared.stops.Stop.TheVariants.{Refused, Memory}
 use Rattle.sync_base.specs.Outcome.{first, Passes}
 use Rattle.sync_induct.specs.Checklist.{Check, IsShown, AreShown}
-use Rattle.sync_induct.specs.Checks.{ProofTree, check_fault, checks_fault}
+use Rattle.sync_induct.specs.Checks.{check_fault, checks_fault}
+use Rattle.sync_terms.specs.Proofs.{ProofTree}
 
 first-assoc : (x y z : Option Refusal) → first (first x y) z ≡ first x (first y z)
 first-assoc (Some r) y z = refl

@@ -6,10 +6,11 @@ use Rattle.sync_base.specs.Outcome.{Passes}
 use Rattle.sync_terms.specs.Plans.{plan_of, IsScriptOf}
 use Rattle.sync_terms.specs.Stored.{Stored, Extends}
 use Rattle.sync_terms.proofs.Extending.{Extends-trans}
-use Rattle.sync_induct.specs.declared.proofs.Proof.{Proof}
+use Rattle.sync_terms.specs.declared.proofs.Proof.{Proof}
 use Rattle.sync_induct.specs.Duties.{Duty}
 use Rattle.sync_induct.specs.Checklist.{Check}
-use Rattle.sync_induct.specs.Checks.{ProofTree, title_of, proofs_in, AreScriptsOf, duty_fault, checks_fault}
+use Rattle.sync_induct.specs.Checks.{duty_fault, checks_fault}
+use Rattle.sync_terms.specs.Proofs.{ProofTree, title_of, proofs_in, AreScriptsOf}
 
 module _ (s t : Stored) (e : Extends s t) where
   pub scripts-stay : (ps : List Proof) → AreScriptsOf s ps → AreScriptsOf t ps

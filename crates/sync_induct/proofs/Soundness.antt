@@ -9,8 +9,8 @@ use Rattle.std.proofs.lemmas.List.Elements.{All-contains, All-from_recursion}
 use Rattle.sync_terms.specs.Trees.{Tree, Name, Nil, Formula, replaced_in}
 use Rattle.sync_terms.specs.Values.{Valuation, num, mapped, Holds, HoldsForAll, with_value, IsValid}
 use Rattle.sync_machine.specs.declared.fields.Field.{Field}
-use Rattle.sync_machine.specs.declared.fields.OpMode.{OpMode}
-use Rattle.sync_machine.specs.declared.fields.OpMode.TheVariants as mode
+use Rattle.sync_base.specs.declared.strategies.OpMode.{OpMode}
+use Rattle.sync_base.specs.declared.strategies.OpMode.TheVariants as mode
 use Rattle.sync_machine.specs.Machines.{OperationTree, InvariantTree, MachineTree}
 use Rattle.sync_machine.specs.States.{State, Sort, Numbers, Maps, sort_of, value_in, StandsFor, IsAt, strategy_at, last_values, first_values, blank, AreMet, values_in, IsInit, Steps, Starts, IsReached, starts, steps, MeetsInvariants, HoldsAlways}
 use Rattle.sync_machine.specs.Scope.{Known, IsNumber, IsMap, IsFormula, HasSort, knows, IsNameSymbol, IsScopedOperation, IsScopedInvariant, ChangesNothing, IsScoped}

@@ -17,20 +17,21 @@ use Rattle.sync_terms.specs.declared.nodes.TermId.{TermId}
 use Rattle.sync_terms.specs.declared.nodes.FormId.{FormId}
 use Rattle.sync_terms.specs.Stored.{Stored, tree, formula, IsTerm, IsForm, Extends}
 use Rattle.sync_machine.specs.declared.fields.Field.{Field}
-use Rattle.sync_machine.specs.declared.fields.Strategy.{Strategy}
+use Rattle.sync_base.specs.declared.strategies.Strategy.{Strategy}
 use Rattle.sync_machine.specs.declared.machine.Step.{Step}
 use Rattle.sync_machine.specs.Machines.{ActTree, StepTree, Init, Require, Assert, Update, HaveVariable, Add, Remove, Have, Deposit, Withdraw, Guard}
 use Rattle.sync_machine.specs.Statements.{safety, condition, after, field_of}
 use Rattle.sync_machine.specs.States.{strategy_of, current_of, advanced}
 use Rattle.sync_machine.specs.Views.{act_tree, step_tree}
-use Rattle.sync_acts.specs.Building.{HasCondition, Stops, condition_size}
-use Rattle.sync_rules.specs.declared.claims.Claim.TheVariants as claims
-use Rattle.sync_rules.specs.declared.claims.Obligation.{Obligation}
+use Rattle.sync_induct_acts.specs.Building.{HasCondition, Stops, condition_size}
+use Rattle.sync_terms.specs.declared.proofs.Claim.TheVariants as claims
+use Rattle.sync_terms.specs.declared.proofs.Obligation.{Obligation}
 use Rattle.sync_induct.specs.declared.statements.Statement.{Statement}
 use Rattle.sync_induct.specs.declared.walks.Walk.{Walk}
 use Rattle.sync_induct.specs.Duties.{Duty, safety_duties, condition_facts, IsProved}
 use Rattle.sync_induct.specs.Checklist.{Check, Proves, Fits, proves, AreShown}
-use Rattle.sync_induct.specs.Checks.{ProofTree, duty_of, duty_fault, size_fault, check_fault, checks_fault}
+use Rattle.sync_induct.specs.Checks.{duty_of, duty_fault, size_fault, check_fault, checks_fault}
+use Rattle.sync_terms.specs.Proofs.{ProofTree}
 use Rattle.sync_induct.specs.Walks.{IsWalk, HasCome, IsStatement, values_of, known_of, safety_at, condition_at, value_at, owed, tree_or_nil, values_with, checks_at, facts_after, values_after}
 use Rattle.sync_induct.proofs.Lasting.{act-ids, step-stays, known-stays, values-stay, as-come}
 use Rattle.sync_induct.proofs.Remaining.{Remains, remains-whole, remains-past, remains-refused, remains-past_one, remains-refused_one}

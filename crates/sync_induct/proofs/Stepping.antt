@@ -7,7 +7,8 @@ use Rattle.sync_machine.specs.declared.fields.Field.{Field}
 use Rattle.sync_machine.specs.Machines.{StepTree}
 use Rattle.sync_machine.specs.States.{strategy_of, current_of, advanced, last_values}
 use Rattle.sync_kernel.specs.Facts.{Fact}
-use Rattle.sync_induct.specs.Checks.{ProofTree, checks_fault}
+use Rattle.sync_induct.specs.Checks.{checks_fault}
+use Rattle.sync_terms.specs.Proofs.{ProofTree}
 use Rattle.sync_induct.specs.Duties.{step_facts, facts_behind}
 use Rattle.sync_induct.specs.Checklist.{Check, statement_checks, step_checks, AreShown}
 use Rattle.sync_induct.proofs.Remaining.{Remains, remains-same, remains-past, remains-refused}

@@ -6,13 +6,14 @@ use Rattle.std.proofs.lemmas.Bool.{cases_Bool, eqb-true, true≢false, false≢t
 use Rattle.sync_base.specs.declared.stops.Refusal.{Refusal}
 use Rattle.sync_base.specs.declared.stops.Rule.TheVariants.{I2}
 use Rattle.sync_base.specs.Outcome.{first}
-use Rattle.sync_rules.specs.declared.claims.Obligation.{Obligation}
+use Rattle.sync_terms.specs.declared.proofs.Obligation.{Obligation}
 use Rattle.sync_induct.specs.declared.index.Title.{Title}
-use Rattle.sync_induct.specs.declared.proofs.Proof.{Proof}
+use Rattle.sync_terms.specs.declared.proofs.Proof.{Proof}
 use Rattle.std.proofs.Math.Seq.{drop-cons}
 use Rattle.std.proofs.lemmas.List.{take_more, map-append}
 use Rattle.std.proofs.Math.ListN.{drop_of_length-le}
-use Rattle.sync_induct.specs.Checks.{title_of, titles_of, has_title, stray_fault}
+use Rattle.sync_induct.specs.Checks.{has_title, stray_fault}
+use Rattle.sync_terms.specs.Proofs.{title_of, titles_of}
 use Rattle.sync_induct.specs.Titles.{titled, same_title, first_at}
 
 beq_true : (a b : Bool) → beq a b ≡ true → a ≡ b

@@ -11,7 +11,8 @@ use Rattle.sync_machine.specs.Views.{step_tree, steps_tree, HasActIds}
 use Rattle.sync_induct.specs.declared.walks.Walk.{Walk}
 use Rattle.sync_induct.specs.Duties.{step_facts}
 use Rattle.sync_induct.specs.Checklist.{Check, statement_checks, AreShown}
-use Rattle.sync_induct.specs.Checks.{ProofTree, checks_fault}
+use Rattle.sync_induct.specs.Checks.{checks_fault}
+use Rattle.sync_terms.specs.Proofs.{ProofTree}
 use Rattle.sync_induct.specs.Walks.{HasCome, values_of, known_of, checks_at, facts_after, values_after}
 use Rattle.sync_induct.proofs.Lasting.{step-stays}
 use Rattle.sync_induct.proofs.Stepping.{Place, Continues, checks_left, own_checks, behind, goes-on, fails-here}

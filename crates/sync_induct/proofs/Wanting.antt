@@ -5,8 +5,8 @@ use Rattle.std.proofs.lemmas.Bool.{ne_eqb, eq-eqb}
 use Rattle.std.proofs.lemmas.List.Folds.{list_any-append}
 use Rattle.sync_machine.specs.declared.fields.Field.{Field}
 use Rattle.sync_machine.specs.Machines.{StepTree, OperationTree, InvariantTree, MachineTree}
-use Rattle.sync_rules.specs.declared.claims.Claim.TheVariants.{At, Keeps}
-use Rattle.sync_rules.specs.declared.claims.Obligation.{Obligation}
+use Rattle.sync_terms.specs.declared.proofs.Claim.TheVariants.{At, Keeps}
+use Rattle.sync_terms.specs.declared.proofs.Obligation.{Obligation}
 use Rattle.sync_rules.specs.Obligations.{has_safety, safety_claims, has_to_keep, keeps_claims, claims_of, obligations_of}
 use Rattle.sync_induct.specs.declared.index.Title.{Title}
 use Rattle.sync_induct.specs.Titles.{title, titled, same_title}

@@ -3,12 +3,12 @@ use Rattle.std.specs.Prelude.{ℕ, suc, List, [], ◌∷◌, ◌++◌, map}
 use Rattle.std.specs.List.{AllByRecursion}
 use Rattle.sync_terms.specs.Trees.{Tree, tree_size}
 use Rattle.sync_machine.specs.declared.fields.Field.{Field}
-use Rattle.sync_machine.specs.declared.fields.Strategy.{Strategy}
+use Rattle.sync_base.specs.declared.strategies.Strategy.{Strategy}
 use Rattle.sync_machine.specs.Machines.{StepTree, OperationTree, InvariantTree, MachineTree}
 use Rattle.sync_machine.specs.Statements.{safety, condition, after}
 use Rattle.sync_machine.specs.States.{strategy_of, current_of, advanced, last_values, first_values}
 use Rattle.sync_kernel.specs.Facts.{Fact}
-use Rattle.sync_acts.specs.Building.{condition_size}
+use Rattle.sync_induct_acts.specs.Building.{condition_size}
 use Rattle.sync_induct.specs.Duties.{Duty, IsProved, safety_duties, step_facts, facts_behind, keeps_duties, base_facts}
 
 -- a duty has a proof; what the statement in a line makes, of so many nodes, is not too large

@@ -8,40 +8,19 @@ use Rattle.sync_terms.specs.Trees.{Formula, formula_size, neg}
 use Rattle.sync_terms.specs.declared.nodes.FormId.{FormId}
 use Rattle.sync_terms.specs.Stored.{Stored, formula}
 use Rattle.sync_machine.specs.Machines.{MachineTree}
-use Rattle.sync_rules.specs.declared.claims.Obligation.{Obligation}
+use Rattle.sync_terms.specs.declared.proofs.Obligation.{Obligation}
 use Rattle.sync_rules.specs.Obligations.{obligations_of}
 use Rattle.sync_kernel.specs.Facts.{Fact, facts_size}
 use Rattle.sync_kernel.specs.Hypotheses.{known_in}
 use Rattle.sync_terms.specs.Plans.{Plan, plan_of, IsScriptOf}
 use Rattle.sync_kernel.specs.Scripts.{script_fault}
-use Rattle.sync_induct.specs.declared.proofs.Proof.{Proof}
+use Rattle.sync_terms.specs.declared.proofs.Proof.{Proof}
+use Rattle.sync_terms.specs.Proofs.{ProofTree}
 use Rattle.sync_induct.specs.declared.index.Title.{Title}
 use Rattle.sync_kernel.specs.declared.hypotheses.Hypotheses.{Hypotheses}
 use Rattle.sync_induct.specs.Duties.{Duty}
 use Rattle.sync_induct.specs.Checklist.{Check, Proves, Fits, checks_of}
 use Rattle.sync_induct.specs.Titles.{titled, same_title}
-
--- a proof: what it is of, with its own line, and its script as a plan
-pub record ProofTree : Type 0 where
-  pub title : Obligation
-  pub plan : Plan
-
-abbrev pub title_of : Proof → Obligation
-title_of p = record { op = p.op; claim = p.claim; line = p.line }
-
-abbrev pub titles_of : List Proof → List Obligation
-titles_of ps = map title_of ps
-
--- the ids of a script are of the store
-abbrev pub proof_in : Stored → Proof → ProofTree
-proof_in s p = record { title = title_of p; plan = plan_of s p.script.block }
-
-abbrev pub proofs_in : Stored → List Proof → List ProofTree
-proofs_in s ps = map (proof_in s) ps
-
--- the scripts' ids are of the store: whatever it gains, they stay the same
-abbrev pub AreScriptsOf : Stored → List Proof → Type 0
-AreScriptsOf s ps = AllByRecursion (λ (p : Proof). IsScriptOf s p.script.block) ps
 
 -- a list has a proof or an obligation of this title
 abbrev pub has_title : List Obligation → Title → Bool

@@ -10,7 +10,7 @@ use Rattle.sync_machine.specs.Machines.{OperationTree, InvariantTree}
 use Rattle.sync_machine.specs.Scope.{IsNameSymbol}
 use Rattle.sync_machine.specs.Views.{symbols_of}
 use Rattle.sync_rules.specs.Obligations.{has_to_keep}
-use Rattle.sync_rules.specs.declared.claims.Claim.TheVariants.{Keeps}
+use Rattle.sync_terms.specs.declared.proofs.Claim.TheVariants.{Keeps}
 use Rattle.sync_induct.specs.declared.index.Title.{Title}
 use Rattle.sync_induct.specs.Titles.{title}
 

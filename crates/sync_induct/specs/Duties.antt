@@ -5,13 +5,13 @@ use Rattle.sync_terms.specs.declared.scripts.HypName.TheVariants.{Label, At}
 use Rattle.sync_terms.specs.Trees.{Tree, Name, Nil, Formula, replaced_in}
 use Rattle.sync_terms.specs.Values.{IsValid}
 use Rattle.sync_machine.specs.declared.fields.Field.{Field}
-use Rattle.sync_machine.specs.declared.fields.OpMode.{OpMode}
-use Rattle.sync_machine.specs.declared.fields.OpMode.TheVariants as mode
+use Rattle.sync_base.specs.declared.strategies.OpMode.{OpMode}
+use Rattle.sync_base.specs.declared.strategies.OpMode.TheVariants as mode
 use Rattle.sync_machine.specs.Machines.{StepTree, OperationTree, InvariantTree, MachineTree}
 use Rattle.sync_machine.specs.Statements.{safety, condition}
 use Rattle.sync_machine.specs.States.{strategy_of, current_of, advanced, last_values, first_values}
-use Rattle.sync_rules.specs.declared.claims.Claim.TheVariants as claims
-use Rattle.sync_rules.specs.declared.claims.Obligation.{Obligation}
+use Rattle.sync_terms.specs.declared.proofs.Claim.TheVariants as claims
+use Rattle.sync_terms.specs.declared.proofs.Obligation.{Obligation}
 use Rattle.sync_rules.specs.Obligations.{has_to_keep}
 use Rattle.sync_terms.specs.Values.{Given}
 use Rattle.sync_kernel.specs.Facts.{Fact, given}

@@ -1,9 +1,9 @@
 -- The titles of proofs: an operation, and a statement or an invariant.
 use Rattle.std.specs.Prelude.{ℕ, suc, List, [], ◌∷◌, Bool, true, false, ◌&&◌, nat_eq, Option, Some, None, if◌then◌else◌}
 use Rattle.std.specs.Bool.{beq}
-use Rattle.sync_rules.specs.declared.claims.Claim.{Claim}
-use Rattle.sync_rules.specs.declared.claims.Claim.TheVariants.{At, Keeps}
-use Rattle.sync_rules.specs.declared.claims.Obligation.{Obligation}
+use Rattle.sync_terms.specs.declared.proofs.Claim.{Claim}
+use Rattle.sync_terms.specs.declared.proofs.Claim.TheVariants.{At, Keeps}
+use Rattle.sync_terms.specs.declared.proofs.Obligation.{Obligation}
 use Rattle.sync_induct.specs.declared.index.Title.{Title}
 
 abbrev pub title : ℕ → Claim → Title

@@ -7,17 +7,18 @@ ghost use Rattle.sync_machine.specs.Scope.{IsNamed, ChangesNothing};
 ghost use Rattle.sync_machine.specs.States.{HoldsAlways};
 ghost use Rattle.sync_machine.specs.Views.{HasOwnIds, machine_tree};
 ghost use Rattle.sync_rules.specs.Strategies.{AreAllowed};
-ghost use Rattle.sync_induct.specs.Checks.{AreScriptsOf, proofs_in, proof_fault};
+ghost use Rattle.sync_induct.specs.Checks.{proof_fault};
+ghost use Rattle.sync_terms.specs.Proofs.{AreScriptsOf, proofs_in};
 ghost use Rattle.sync_induct.specs.Grown.{HasGrown};
 
 use crate::holding::Inductive;
 use crate::index::{Book, places, wanted};
 use crate::operations::check_operations;
-use crate::proofs::Proofs;
 use std::alloc::Global;
 use sync_base::Stop;
 use sync_machine::Machine;
 use sync_rules::obligations;
+use sync_terms::Proofs;
 
 /// Checks that proofs prove all that has to be proved of a machine, which then holds always.
 ///

@@ -3,14 +3,14 @@ ghost use Rattle.std.specs.Prelude.{◌≡◌, List, [], IfOk};
 ghost use Rattle.std.specs.HashSet.{contains};
 ghost use Rattle.std.specs.HashMap.{get};
 ghost use Rattle.sync_base.specs.Outcome.{Passes};
-ghost use Rattle.sync_induct.specs.Checks.{titles_of, has_title, stray_fault};
+ghost use Rattle.sync_induct.specs.Checks.{has_title, stray_fault};
+ghost use Rattle.sync_terms.specs.Proofs.{titles_of};
 ghost use Rattle.sync_induct.specs.Titles.{same_title, first_at};
 
-use crate::proofs::Proof;
 use std::alloc::Global;
 use std::collections::{HashMap, HashSet};
 use sync_base::{NoMemory, Refusal, Rule, Stop};
-use sync_rules::{Claim, Obligation};
+use sync_terms::{Claim, Obligation, Proof};
 
 /// What a proof is of: an operation, and the number of a statement of it or of an invariant.
 #[derive(Clone, Copy, PartialEq, Eq, Hash, Debug)]

@@ -5,19 +5,18 @@ ghost use Rattle.sync_base.specs.Outcome.{Passes};
 ghost use Rattle.sync_terms.specs.Stored.{Stored, Extends, IsForm, formula};
 ghost use Rattle.sync_terms.specs.Values.{IsValid};
 ghost use Rattle.sync_kernel.specs.Hypotheses.{AreReady, known_in};
-ghost use Rattle.sync_induct.specs.Checks.{titles_of, AreScriptsOf, proofs_in, duty_fault, duty_of, is_large};
+ghost use Rattle.sync_induct.specs.Checks.{duty_fault, duty_of, is_large};
+ghost use Rattle.sync_terms.specs.Proofs.{titles_of, AreScriptsOf, proofs_in};
 ghost use Rattle.sync_induct.specs.Duties.{Duty, givens_of};
 ghost use Rattle.sync_induct.specs.Titles.{same_title, first_at};
 ghost use Rattle.sync_induct.specs.declared.index.Title.{Title};
 
 use crate::index::{Book, Places, Title};
-use crate::proofs::Proof;
 use crate::sizes::denied_size;
 use std::alloc::Global;
 use sync_base::{Refusal, Rule, Stop};
 use sync_kernel::{Hypotheses, prove_from};
-use sync_rules::Obligation;
-use sync_terms::{FormId, Terms};
+use sync_terms::{FormId, Obligation, Proof, Terms};
 
 pub fn refused(line: u32, rule: Rule) -> Stop
     ensures { result ≡ Stop.Refused (record { line = line; rule = rule }) }

@@ -7,7 +7,6 @@ mod holding;
 mod index;
 mod judges;
 mod operations;
-mod proofs;
 mod sizes;
 mod starts;
 mod statements;
@@ -15,4 +14,4 @@ mod walks;
 
 pub use checking::inductive;
 pub use holding::Inductive;
-pub use proofs::{Proof, Proofs};
+pub use sync_terms::{Proof, Proofs};

@@ -17,7 +17,7 @@ use Rattle.sync_terms.specs.Kept.{limit}
 use Rattle.sync_terms.specs.Trees.{Formula, neg, formula_size}
 use Rattle.sync_terms.specs.Values.{Given}
 use Rattle.sync_terms.specs.Stored.{Stored, Extends, IsForm, formula}
-use Rattle.sync_facts.specs.Building.{BuildsForm}
+use Rattle.sync_kernel_facts.specs.Building.{BuildsForm}
 use Rattle.sync_kernel.specs.declared.literals.Literal.{Literal}
 use Rattle.sync_kernel.specs.declared.splits.Pair.{Pair}
 use Rattle.sync_kernel.specs.declared.branches.Said.{Said}

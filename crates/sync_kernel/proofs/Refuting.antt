@@ -14,8 +14,8 @@ use Rattle.sync_terms.specs.Trees.{Tree, Formula, neg, replaced_in}
 use Rattle.sync_terms.specs.Values.{Valuation, truth, Holds, HoldsForAll, Given, IsValid}
 use Rattle.sync_terms.specs.Plans.{Plan, End, Same, Sum, Inst, Parts, Split, Cut, Read, Size, Total, Cong}
 use Rattle.sync_terms.proofs.Meaning.{truth-neg}
-use Rattle.sync_facts.specs.Lemmas.{cong_fact, read_fact, size_fact, total_fact}
-use Rattle.sync_facts.specs.Laws.{AreTrue}
+use Rattle.sync_kernel_facts.specs.Lemmas.{cong_fact, read_fact, size_fact, total_fact}
+use Rattle.sync_kernel_facts.specs.Laws.{AreTrue}
 use Rattle.sync_kernel.specs.Facts.{Fact, same_name, newest, denial, given, facts_size}
 use Rattle.sync_kernel.specs.Steps.{at_line, no_params, is_plain, same_fault, sum_fault}
 use Rattle.sync_kernel.specs.Taking.{Two, parts_of, cases_of, plain_fact, taken, by_params, instance}

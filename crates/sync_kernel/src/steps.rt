@@ -2,8 +2,8 @@
 ghost use Rattle.std.specs.Prelude.{◌≡◌, ℕ, All, Ok, OnOk, IfOk, map, length, zip};
 ghost use Rattle.sync_terms.specs.Stored.{Stored, Extends, IsTerm, IsForm, tree, formula};
 ghost use Rattle.sync_terms.specs.Trees.{Formula};
-ghost use Rattle.sync_facts.specs.Building.{BuildsForm};
-ghost use Rattle.sync_facts.specs.Lemmas.{cong_fact as cong_form, read_fact as read_form, size_fact as size_form, total_fact as total_form};
+ghost use Rattle.sync_kernel_facts.specs.Building.{BuildsForm};
+ghost use Rattle.sync_kernel_facts.specs.Lemmas.{cong_fact as cong_form, read_fact as read_form, size_fact as size_form, total_fact as total_form};
 ghost use Rattle.sync_kernel.specs.Facts.{newest, named};
 ghost use Rattle.sync_kernel.specs.Literals.{literal_form, IsLiteral, pair_forms, IsPair};
 ghost use Rattle.sync_kernel.specs.Branches.{facts_in, said_fact, IsSaid, AreSaid, Begins};
@@ -18,7 +18,7 @@ use crate::stops::{refusal, too_large};
 use sqlite_items::Items;
 use std::alloc::{AllocError, Global};
 use sync_base::{Rule, Stop};
-use sync_facts::{cong_fact, read_fact, size_fact, total_fact};
+use sync_kernel_facts::{cong_fact, read_fact, size_fact, total_fact};
 use sync_terms::{FormId, HypName, Sym, TermId, TermStop, Terms};
 
 /// Whether a step leaves its branch open, or has closed it.

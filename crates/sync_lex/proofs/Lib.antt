@@ -4,3 +4,5 @@ pub mod Numbers
 pub mod Within
 pub mod Matches
 pub mod Places
+pub mod TerminalNumbers
+pub mod Interned

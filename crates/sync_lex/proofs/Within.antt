@@ -14,7 +14,7 @@ use Rattle.sync_lex.specs.declared.lexemes.Kind.{Kind}
 use Rattle.sync_lex.specs.declared.lexemes.Kind.TheVariants.{Name, Number}
 use Rattle.sync_base.specs.declared.stops.Rule.TheVariants.{L3, L4}
 use Rattle.sync_lex.specs.Bytes.{is_blank, begins_name, continues_name, number_value}
-use Rattle.sync_lex.specs.Signs.{signs, longest, sign_len}
+use Rattle.sync_lex.specs.Punctuation.{signs, longest, sign_len}
 use Rattle.sync_lex.specs.Pieces.{name_piece, number_piece, sign_piece, piece}
 use Rattle.sync_lex.proofs.SignLen.{both}
 

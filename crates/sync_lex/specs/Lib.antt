@@ -1,5 +1,8 @@
 pub mod Bytes
-pub mod Signs
+pub mod Punctuation
 pub mod Pieces
 pub mod Lexemes
 pub mod Spelling
+pub mod Signs
+pub mod Strategies
+pub mod Terminals

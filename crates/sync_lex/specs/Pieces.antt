@@ -7,7 +7,7 @@ use Rattle.sync_lex.specs.declared.lexemes.Kind.TheVariants.{Name, Number, Sign}
 use Rattle.sync_lex.specs.declared.pieces.Piece.{Piece}
 use Rattle.sync_lex.specs.declared.pieces.Piece.TheVariants.{Gap, Word, Broken}
 use Rattle.sync_lex.specs.Bytes.{is_blank, begins_name, continues_name, number_value}
-use Rattle.sync_lex.specs.Signs.{sign_len}
+use Rattle.sync_lex.specs.Punctuation.{sign_len}
 
 -- a name of so many bytes
 abbrev pub name_piece : ℕ → Piece

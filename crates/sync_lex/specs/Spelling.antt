@@ -6,7 +6,7 @@ use Rattle.sync_lex.specs.declared.lexemes.Kind.{Kind}
 use Rattle.sync_lex.specs.declared.lexemes.Kind.TheVariants.{Name, Number, Sign}
 use Rattle.sync_lex.specs.declared.lexemes.Lexeme.{Lexeme}
 use Rattle.sync_lex.specs.Bytes.{begins_name, continues_name}
-use Rattle.sync_lex.specs.Signs.{signs}
+use Rattle.sync_lex.specs.Punctuation.{signs}
 
 -- the bytes spell a lexeme of the kind
 abbrev pub IsSpelled : Kind → List ℕ → Type 0

@@ -7,7 +7,7 @@ ghost use Rattle.sync_lex.specs.Pieces.{name_piece, number_piece, piece};
 
 use crate::bytes::{begins_name, continues_name, is_blank};
 use crate::lexemes::Kind;
-use crate::signs::sign_len;
+use crate::punctuation::sign_len;
 use sync_base::Rule;
 
 const LARGEST: u128 = 170141183460469231731687303715884105727;

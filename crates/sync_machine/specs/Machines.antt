@@ -2,7 +2,7 @@
 use Rattle.std.specs.Prelude.{ℕ, List, Option}
 use Rattle.sync_terms.specs.Trees.{Tree, Formula}
 use Rattle.sync_machine.specs.declared.fields.Field.{Field}
-use Rattle.sync_machine.specs.declared.fields.OpMode.{OpMode}
+use Rattle.sync_base.specs.declared.strategies.OpMode.{OpMode}
 
 -- a new name for the value, or a term that the value equals
 pub data PatternTree : Type 0 where

@@ -11,8 +11,8 @@ use Rattle.sync_base.specs.declared.stops.Rule.TheVariants.{N1, N2, N4, N5, N6}
 use Rattle.sync_base.specs.Outcome.{first}
 use Rattle.sync_terms.specs.Trees.{Tree, Lit, Name, Add, Sub, Scale, Get, Has, Size, Sum, Nil, Put, Del, Bump, Formula, Le, Lt, Eq, Not, And, Or, Imp}
 use Rattle.sync_machine.specs.declared.fields.Field.{Field}
-use Rattle.sync_machine.specs.declared.fields.OpMode.{OpMode}
-use Rattle.sync_machine.specs.declared.fields.OpMode.TheVariants as mode
+use Rattle.sync_base.specs.declared.strategies.OpMode.{OpMode}
+use Rattle.sync_base.specs.declared.strategies.OpMode.TheVariants as mode
 use Rattle.sync_machine.specs.Machines.{PatternTree, Bind, Term, PlaceTree, ActTree, StepTree, OperationTree, InvariantTree, MachineTree}
 use Rattle.sync_machine.specs.Machines as acts
 use Rattle.sync_machine.specs.Statements.{binds}

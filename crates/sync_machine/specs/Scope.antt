@@ -3,7 +3,7 @@ use Rattle.std.specs.Prelude.{◌≡◌, ℕ, ◌+◌, ◌*◌, ◌<◌, ◌≤�
 use Rattle.std.specs.List.{list_any, AllByRecursion}
 use Rattle.sync_terms.specs.Trees.{Tree, Lit, Name, Add, Sub, Scale, Get, Has, Size, Sum, Nil, Put, Del, Bump, Formula, Le, Lt, Eq, Not, And, Or, Imp}
 use Rattle.sync_machine.specs.declared.fields.Field.{Field}
-use Rattle.sync_machine.specs.declared.fields.OpMode.TheVariants as mode
+use Rattle.sync_base.specs.declared.strategies.OpMode.TheVariants as mode
 use Rattle.sync_machine.specs.Machines.{PatternTree, Bind, Term, PlaceTree, ActTree, StepTree, OperationTree, InvariantTree, MachineTree}
 use Rattle.sync_machine.specs.Machines as acts
 use Rattle.sync_machine.specs.Statements.{condition, changed_by}

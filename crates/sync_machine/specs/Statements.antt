@@ -6,8 +6,8 @@
 use Rattle.std.specs.Prelude.{ℕ, pos, Option, Some, None}
 use Rattle.sync_terms.specs.Trees.{Tree, Lit, Name, Sub, Get, Has, Put, Del, Bump, Nil, Formula, Le, Eq, And, Or}
 use Rattle.sync_terms.specs.Trees as trees
-use Rattle.sync_machine.specs.declared.fields.Strategy.{Strategy}
-use Rattle.sync_machine.specs.declared.fields.Strategy.TheVariants.{Variable, Constant, NotTokenized, Option as OptionField, Map, Set, Multiset, Count, PersistentOption, PersistentMap, PersistentSet, PersistentCount, StorageMap}
+use Rattle.sync_base.specs.declared.strategies.Strategy.{Strategy}
+use Rattle.sync_base.specs.declared.strategies.Strategy.TheVariants.{Variable, Constant, NotTokenized, Option as OptionField, Map, Set, Multiset, Count, PersistentOption, PersistentMap, PersistentSet, PersistentCount, StorageMap}
 use Rattle.sync_machine.specs.Machines.{PatternTree, Bind, Term, PlaceTree, ActTree, Init, Require, Assert, Update, HaveVariable, Add, Remove, Have, Deposit, Withdraw, Guard}
 
 abbrev pub zero : Tree

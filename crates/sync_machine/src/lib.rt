@@ -6,9 +6,10 @@ mod machine;
 mod naming;
 mod scope;
 
-pub use fields::{Field, OpMode, Strategy, strategy_at};
+pub use fields::{Field, strategy_at};
 pub use machine::{Act, Invariant, Machine, Operation, Pattern, Place, Step};
 pub use naming::well_formed;
+pub use sync_base::{OpMode, Strategy};
 
 #[cfg(test)]
 mod tests;

@@ -1,6 +1,7 @@
 //! The trees of a machine.
-use crate::fields::{Field, OpMode};
+use crate::fields::Field;
 use sqlite_items::Items;
+use sync_base::OpMode;
 use sync_terms::{FormId, Sym, TermId, Terms};
 
 /// What a place asks of a value: a new name for it, or a term that it equals.

@@ -7,10 +7,10 @@ ghost use Rattle.sync_machine.specs.Scope.{IsNamed};
 ghost use Rattle.sync_machine.specs.Scoped.{starts, starts_each, HaveIds};
 ghost use Rattle.sync_machine.specs.Naming.{Tells, at_line, first_fault, is_field_name, is_taken, is_invariant_name, repeated, parameter_fault, step_fault, start_fault, field_fault, head_fault, operation_fault, invariant_rule, invariant_fault, machine_fault, AreTextNames};
 
-use crate::fields::{Field, OpMode};
+use crate::fields::Field;
 use crate::machine::{Act, Invariant, Machine, Operation, Step};
 use crate::scope::{Scope, is_fields_name, is_listed};
-use sync_base::{Refusal, Rule};
+use sync_base::{OpMode, Refusal, Rule};
 use sync_terms::Sym;
 
 /// The most fields of a machine.

@@ -10,9 +10,9 @@ ghost use Rattle.sync_machine.specs.Scope.{knows};
 ghost use Rattle.sync_machine.specs.Naming.{Tells, broken, is_map_sort, bound_by, bound_names, is_in, is_fields, repeated, unknown_field, begins_unknown, number_fault, map_fault, formula_fault, value_fault, key_fault, pattern_fault, on_place, on_value, act_fault};
 ghost use Rattle.sync_machine.specs.Scoped.{names_in, known_in, is_the};
 
-use crate::fields::{Field, Strategy};
+use crate::fields::Field;
 use crate::machine::{Act, Pattern, Place, Step};
-use sync_base::Rule;
+use sync_base::{Rule, Strategy};
 use sync_terms::{FormId, FormNode, Node, Sym, TermId, Terms};
 
 /// Whether the values of a strategy are maps.

@@ -2,8 +2,8 @@
 use Rattle.std.specs.Prelude.{ℕ, Result, Ok, Err}
 use Rattle.sync_base.specs.declared.stops.Refusal.{Refusal}
 use Rattle.sync_base.specs.declared.stops.Rule.TheVariants as rule
-use Rattle.sync_exprs.specs.declared.faults.Fault.{Fault}
-use Rattle.sync_exprs.specs.declared.faults.Fault.TheVariants as fault
+use Rattle.sync_parse_exprs.specs.declared.faults.Fault.{Fault}
+use Rattle.sync_parse_exprs.specs.declared.faults.Fault.TheVariants as fault
 
 -- the rule that a fault breaks, in a text whose last line this is
 unfoldable pub refusal_of : ℕ → Fault → Refusal

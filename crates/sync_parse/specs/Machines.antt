@@ -2,16 +2,16 @@
 use Rattle.std.specs.Prelude.{ℕ, ◌-◌, ◌==◌, Bool, false, List, [], ◌∷◌, length, Result, Ok, Err, Option, Some, None, is_some, if◌then◌else◌}
 use Rattle.sync_base.specs.Outcome.{◌>>=◌}
 use Rattle.sync_base.specs.declared.stops.Refusal.{Refusal}
-use Rattle.sync_machine.specs.declared.fields.OpMode.{OpMode}
-use Rattle.sync_machine.specs.declared.fields.OpMode.TheVariants as mode
-use Rattle.sync_tokens.specs.declared.signs.Sign.{Sign}
-use Rattle.sync_tokens.specs.declared.signs.Sign.TheVariants as sign
-use Rattle.sync_tokens.specs.declared.words.Word.{Word}
-use Rattle.sync_tokens.specs.Words.{is_sign, worded}
-use Rattle.sync_exprs.specs.declared.faults.Fault.{Fault}
-use Rattle.sync_exprs.specs.declared.faults.Fault.TheVariants.{Ended, Wanted, Version, Unbuilt}
-use Rattle.sync_exprs.specs.declared.expressions.Expr.{Expr}
-use Rattle.sync_exprs.specs.declared.naming.Named.{Named}
+use Rattle.sync_base.specs.declared.strategies.OpMode.{OpMode}
+use Rattle.sync_base.specs.declared.strategies.OpMode.TheVariants as mode
+use Rattle.sync_lex.specs.declared.signs.Sign.{Sign}
+use Rattle.sync_lex.specs.declared.signs.Sign.TheVariants as sign
+use Rattle.sync_lex.specs.declared.terminals.Terminal.{Terminal}
+use Rattle.sync_lex.specs.Terminals.{is_sign, terminals_in}
+use Rattle.sync_parse_exprs.specs.declared.faults.Fault.{Fault}
+use Rattle.sync_parse_exprs.specs.declared.faults.Fault.TheVariants.{Ended, Wanted, Version, Unbuilt}
+use Rattle.sync_parse_exprs.specs.declared.expressions.Expr.{Expr}
+use Rattle.sync_parse_exprs.specs.declared.naming.Named.{Named}
 use Rattle.sync_parse.specs.declared.trees.RawText.{RawText}
 use Rattle.sync_parse.specs.declared.trees.RawMachine.{RawMachine}
 use Rattle.sync_parse.specs.declared.trees.RawField.{RawField}
@@ -28,8 +28,8 @@ use Rattle.sync_parse.specs.declared.trees.RawProof.{RawProof}
 use Rattle.sync_parse.specs.declared.trees.RawClaim.{RawClaim}
 use Rattle.sync_parse.specs.declared.trees.RawClaim.TheVariants as claim
 use Rattle.sync_parse.specs.Faults.{refused}
-use Rattle.sync_exprs.specs.Lexemes.{Read, Reader, within, first_line, begins_with, sign_at, name_at, number_at, strategy_at, row, goes_on, names_at}
-use Rattle.sync_exprs.specs.Expressions.{expr_at}
+use Rattle.sync_parse_exprs.specs.Lexemes.{Read, Reader, within, first_line, begins_with, sign_at, name_at, number_at, strategy_at, row, goes_on, names_at}
+use Rattle.sync_parse_exprs.specs.Expressions.{expr_at}
 use Rattle.sync_parse.specs.Scripts.{place_of, refuse, script_at}
 
 -- ---- places
@@ -79,32 +79,32 @@ closed_place left ts = do
 
 -- `require` and `assert`
 unfoldable pub formula_act : Sign → (Expr → RawActKind) → ℕ → Reader RawActKind
-formula_act word made left ts = do
-  w ← sign_at left word ts
+formula_act terminal made left ts = do
+  w ← sign_at left terminal ts
   e ← closed_expr left w.1
   Ok (made e.0, e.1)
 
 -- `init` and `update`
 unfoldable pub value_act : Sign → (Named → Expr → RawActKind) → ℕ → Reader RawActKind
-value_act word made left ts = do
-  w ← sign_at left word ts
+value_act terminal made left ts = do
+  w ← sign_at left terminal ts
   n ← name_at left w.1
   q ← sign_at left sign.Equal n.1
   e ← closed_expr left q.1
   Ok (made n.0 e.0, e.1)
 
--- a word, the name of a field, a sign and a place
+-- a terminal, the name of a field, a sign and a place
 unfoldable pub field_place : Sign → Sign → ℕ → Reader (Named × RawPlace)
-field_place word symbol left ts = do
-  w ← sign_at left word ts
+field_place terminal symbol left ts = do
+  w ← sign_at left terminal ts
   n ← name_at left w.1
   q ← sign_at left symbol n.1
   p ← closed_place left q.1
   Ok ((n.0, p.0), p.1)
 
 unfoldable pub place_act : Sign → Sign → (Named → RawPlace → RawActKind) → ℕ → Reader RawActKind
-place_act word symbol made left ts = do
-  x ← field_place word symbol left ts
+place_act terminal symbol made left ts = do
+  x ← field_place terminal symbol left ts
   Ok (made x.0.0 x.0.1, x.1)
 
 -- `;` after the name, or a place
@@ -155,14 +155,14 @@ field_at left ts = do
 unfoldable pub fields : ℕ → Reader (List RawField)
 fields left ts = row (begins_with sign.Field) (field_at left) (length ts) [] ts
 
-unfoldable pub mode_of : Word → Option OpMode
+unfoldable pub mode_of : Terminal → Option OpMode
 mode_of w =
     if is_sign w sign.Init then Some mode.Init
     else if is_sign w sign.Transition then Some mode.Transition
     else if is_sign w sign.Property then Some mode.Property
     else None
 
-abbrev pub mode_said : ℕ → Word → List Word → Option OpMode → Read OpMode
+abbrev pub mode_said : ℕ → Terminal → List Terminal → Option OpMode → Read OpMode
 mode_said left w ws (Some m) = within left w.line (Ok (m, ws))
 mode_said left w ws None = Err (Wanted w.line)
 
@@ -180,7 +180,7 @@ operation_at left ts = do
   e ← sign_at (left - 1) sign.CloseBrace xs.1
   Ok (record { mode = m.0; name = n.0; params = ps.0; acts = xs.0; line = first_line ts }, e.1)
 
-abbrev pub begins_operation : List Word → Bool
+abbrev pub begins_operation : List Terminal → Bool
 begins_operation [] = false
 begins_operation (w ∷ ws) = is_some (mode_of w)
 
@@ -250,12 +250,12 @@ version_at left ts = do
   if n.0 == 1 then Ok (v.0, n.1) else Err (Version (first_line v.1))
 
 -- the end of the text; a program is not read yet
-abbrev pub at_end : {A : Type 0} → A → List Word → Result A Fault
+abbrev pub at_end : {A : Type 0} → A → List Terminal → Result A Fault
 at_end x [] = Ok x
 at_end x (w ∷ ws) = if is_sign w sign.Program then Err (Unbuilt w.line) else Err (Wanted w.line)
 
 -- a machine and its proofs, where 65 levels are left
-unfoldable pub text_of : List Word → Result (RawMachine × List RawProof) Fault
+unfoldable pub text_of : List Terminal → Result (RawMachine × List RawProof) Fault
 text_of ts = do
   v ← version_at 65 ts
   s ← sign_at 65 sign.Semicolon v.1
@@ -266,7 +266,7 @@ text_of ts = do
 -- the raw tree that a text spells, or the first rule L, else the first rule G, that it breaks
 unfoldable pub parsed : List ℕ → Result RawText Refusal
 parsed text = do
-  w ← worded text
+  w ← terminals_in text
   t ← refused w.last_line (text_of w.list)
   Ok (record { machine = t.0; proofs = t.1; names = w.names })
 

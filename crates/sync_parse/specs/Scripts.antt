@@ -1,18 +1,18 @@
 -- Reading proof scripts.
 use Rattle.std.specs.Prelude.{ℕ, zero, suc, ◌-◌, Bool, true, false, ℤ, neg_ℤ, List, [], ◌∷◌, length, min, Result, Ok, Err, Option, Some, None, if◌then◌else◌}
 use Rattle.sync_base.specs.Outcome.{◌>>=◌}
-use Rattle.sync_tokens.specs.declared.signs.Sign.{Sign}
-use Rattle.sync_tokens.specs.declared.signs.Sign.TheVariants as sign
-use Rattle.sync_tokens.specs.declared.words.What.{What}
-use Rattle.sync_tokens.specs.declared.words.What.TheVariants as what
-use Rattle.sync_tokens.specs.declared.words.Word.{Word}
-use Rattle.sync_tokens.specs.Signs.{is_same}
-use Rattle.sync_tokens.specs.Words.{is_sign}
-use Rattle.sync_exprs.specs.declared.faults.Fault.TheVariants.{Ended, Wanted}
-use Rattle.sync_exprs.specs.declared.naming.Named.{Named}
-use Rattle.sync_exprs.specs.declared.expressions.Expr.{Expr}
-use Rattle.sync_exprs.specs.declared.expressions.Special.{Special}
-use Rattle.sync_exprs.specs.declared.expressions.Special.TheVariants as special
+use Rattle.sync_lex.specs.declared.signs.Sign.{Sign}
+use Rattle.sync_lex.specs.declared.signs.Sign.TheVariants as sign
+use Rattle.sync_lex.specs.declared.terminals.TerminalKind.{TerminalKind}
+use Rattle.sync_lex.specs.declared.terminals.TerminalKind.TheVariants as what
+use Rattle.sync_lex.specs.declared.terminals.Terminal.{Terminal}
+use Rattle.sync_lex.specs.Signs.{is_same}
+use Rattle.sync_lex.specs.Terminals.{is_sign}
+use Rattle.sync_parse_exprs.specs.declared.faults.Fault.TheVariants.{Ended, Wanted}
+use Rattle.sync_parse_exprs.specs.declared.naming.Named.{Named}
+use Rattle.sync_parse_exprs.specs.declared.expressions.Expr.{Expr}
+use Rattle.sync_parse_exprs.specs.declared.expressions.Special.{Special}
+use Rattle.sync_parse_exprs.specs.declared.expressions.Special.TheVariants as special
 use Rattle.sync_parse.specs.declared.scripts.Subject.{Subject}
 use Rattle.sync_parse.specs.declared.scripts.Subject.TheVariants as subject
 use Rattle.sync_parse.specs.declared.scripts.RawHyp.{RawHyp}
@@ -23,8 +23,8 @@ use Rattle.sync_parse.specs.declared.scripts.RawBlock.{RawBlock, roll-RawBlock}
 use Rattle.sync_parse.specs.declared.scripts.RawStep.{RawStep, roll-RawStep}
 use Rattle.sync_parse.specs.declared.scripts.RawStepKind.{RawStepKind}
 use Rattle.sync_parse.specs.declared.scripts.RawStepKind.TheVariants as step
-use Rattle.sync_exprs.specs.Lexemes.{Read, Reader, within, first_line, begins_with, sign_at, name_at, number_at, row, goes_on, series}
-use Rattle.sync_exprs.specs.Expressions.{signed, expr_at, exprs_at}
+use Rattle.sync_parse_exprs.specs.Lexemes.{Read, Reader, within, first_line, begins_with, sign_at, name_at, number_at, row, goes_on, series}
+use Rattle.sync_parse_exprs.specs.Expressions.{signed, expr_at, exprs_at}
 
 -- a number of a statement; 4,294,967,295 stands for all from there on
 abbrev pub place_of : ℕ → ℕ
@@ -44,14 +44,14 @@ bounded_of s =
     else if is_same s sign.Wrap then Some special.Wrap
     else None
 
-abbrev pub subject_word : ℕ → ℕ → List Word → Option Special → Read Subject
-subject_word left line ws None = Err (Wanted line)
-subject_word left line ws (Some word) = within left line (Ok (subject.Special word line, ws))
+abbrev pub subject_terminal : ℕ → ℕ → List Terminal → Option Special → Read Subject
+subject_terminal left line ws None = Err (Wanted line)
+subject_terminal left line ws (Some terminal) = within left line (Ok (subject.Special terminal line, ws))
 
-abbrev pub subject_said : ℕ → ℕ → List Word → What → Read Subject
+abbrev pub subject_said : ℕ → ℕ → List Terminal → TerminalKind → Read Subject
 subject_said left line ws (what.Name n strategy) = within left line (Ok (subject.Name (record { name = n; line = line }), ws))
 subject_said left line ws (what.Number n) = Err (Wanted line)
-subject_said left line ws (what.Sign s) = subject_word left line ws (bounded_of s)
+subject_said left line ws (what.Sign s) = subject_terminal left line ws (bounded_of s)
 
 -- a name, or `old`, `new` or `wrap`
 unfoldable pub subject_at : ℕ → Reader Subject
@@ -139,8 +139,8 @@ parts_step left ts = do
 
 -- a map and a key, as `read`, `size` and `total` take them
 unfoldable pub lookup_step : Sign → (Expr → Expr → Named → RawStepKind) → ℕ → Reader RawStepKind
-lookup_step word made left ts = do
-  s ← sign_at left word ts
+lookup_step terminal made left ts = do
+  s ← sign_at left terminal ts
   m ← expr_at left s.1
   c ← sign_at left sign.Comma m.1
   k ← expr_at left c.1

@@ -1,56 +1,56 @@
 //! Reading the statements of operations. `left` is 65 less the number of brackets that are open.
 ghost use Rattle.std.specs.Prelude.{◌≡◌};
-ghost use Rattle.sync_tokens.specs.declared.signs.Sign.TheVariants as sign;
+ghost use Rattle.sync_lex.specs.declared.signs.Sign.TheVariants as sign;
 ghost use Rattle.sync_parse.specs.declared.trees.RawActKind.TheVariants as act;
-ghost use Rattle.sync_exprs.specs.Faults.{Reads};
+ghost use Rattle.sync_parse_exprs.specs.Faults.{Reads};
 ghost use Rattle.sync_parse.specs.Machines.{pattern_at, keyed, place_at, closed_expr, closed_place, formula_act, value_act, field_place, place_act, have_act, act_kind, act_at, acts};
 
 use crate::trees::{RawAct, RawActKind, RawPattern, RawPlace};
 use sqlite_items::Items;
 use std::alloc::Global;
-use sync_exprs::{
+use sync_parse_exprs::{
     Expr, Fault, Halt, Named, Read, begins_with, expr, first_line, goes_on, name, next, sign,
     wanted,
 };
-use sync_tokens::{Sign, Word};
+use sync_lex::{Sign, Terminal};
 
 #[tactic(auto, unfolding(crate::specs::Machines::pattern_at))]
-fn pattern<'a>(alloc: Global, words: &'a [Word], left: u32) -> Read<'a, RawPattern>
-    ensures { Reads (λ x. (x.0, x.1.now)) result (pattern_at left words.now) }
+fn pattern<'a>(alloc: Global, terminals: &'a [Terminal], left: u32) -> Read<'a, RawPattern>
+    ensures { Reads (λ x. (x.0, x.1.now)) result (pattern_at left terminals.now) }
 {
-    if begins_with(words, Sign::Question) {
-        let (_, rest) = sign(words, left, Sign::Question)?;
+    if begins_with(terminals, Sign::Question) {
+        let (_, rest) = sign(terminals, left, Sign::Question)?;
         let (bound, rest) = name(rest, left)?;
         return Ok((RawPattern::Bind(bound), rest));
     }
-    let (term, rest) = expr(alloc, words, left)?;
+    let (term, rest) = expr(alloc, terminals, left)?;
     Ok((RawPattern::Term(term), rest))
 }
 
 /// A place with a key; its value where `=>` comes.
 #[tactic(auto, unfolding(crate::specs::Machines::keyed))]
-fn keyed<'a>(alloc: Global, words: &'a [Word], left: u32, key: Expr) -> Read<'a, RawPlace>
-    ensures { Reads (λ x. (x.0, x.1.now)) result (keyed left key words.now) }
+fn keyed<'a>(alloc: Global, terminals: &'a [Terminal], left: u32, key: Expr) -> Read<'a, RawPlace>
+    ensures { Reads (λ x. (x.0, x.1.now)) result (keyed left key terminals.now) }
 {
-    if begins_with(words, Sign::MapsTo) {
-        let (_, rest) = sign(words, left, Sign::MapsTo)?;
+    if begins_with(terminals, Sign::MapsTo) {
+        let (_, rest) = sign(terminals, left, Sign::MapsTo)?;
         let (value, rest) = pattern(alloc, rest, left)?;
         return Ok((RawPlace::Entry(key, value), rest));
     }
-    Ok((RawPlace::Key(key), words))
+    Ok((RawPlace::Key(key), terminals))
 }
 
 #[tactic(auto, unfolding(crate::specs::Machines::place_at))]
-fn place<'a>(alloc: Global, words: &'a [Word], left: u32) -> Read<'a, RawPlace>
-    ensures { Reads (λ x. (x.0, x.1.now)) result (place_at left words.now) }
+fn place<'a>(alloc: Global, terminals: &'a [Terminal], left: u32) -> Read<'a, RawPlace>
+    ensures { Reads (λ x. (x.0, x.1.now)) result (place_at left terminals.now) }
 {
-    if begins_with(words, Sign::OpenRound) {
-        let (_, rest) = sign(words, left, Sign::OpenRound)?;
+    if begins_with(terminals, Sign::OpenRound) {
+        let (_, rest) = sign(terminals, left, Sign::OpenRound)?;
         let (value, rest) = pattern(alloc, rest, left - 1)?;
         let (_, rest) = sign(rest, left - 1, Sign::CloseRound)?;
         return Ok((RawPlace::Value(value), rest));
     }
-    let (_, rest) = sign(words, left, Sign::OpenSquare)?;
+    let (_, rest) = sign(terminals, left, Sign::OpenSquare)?;
     let (key, rest) = expr(alloc, rest, left - 1)?;
     let (place, rest) = keyed(alloc, rest, left - 1, key)?;
     let (_, rest) = sign(rest, left - 1, Sign::CloseSquare)?;
@@ -59,47 +59,47 @@ fn place<'a>(alloc: Global, words: &'a [Word], left: u32) -> Read<'a, RawPlace>
 
 /// An expression and `;`.
 #[tactic(auto, unfolding(crate::specs::Machines::closed_expr))]
-pub(crate) fn closed_expr<'a>(alloc: Global, words: &'a [Word], left: u32) -> Read<'a, Expr>
-    ensures { Reads (λ x. (x.0, x.1.now)) result (closed_expr left words.now) }
+pub(crate) fn closed_expr<'a>(alloc: Global, terminals: &'a [Terminal], left: u32) -> Read<'a, Expr>
+    ensures { Reads (λ x. (x.0, x.1.now)) result (closed_expr left terminals.now) }
 {
-    let (value, rest) = expr(alloc, words, left)?;
+    let (value, rest) = expr(alloc, terminals, left)?;
     let (_, rest) = sign(rest, left, Sign::Semicolon)?;
     Ok((value, rest))
 }
 
 /// A place and `;`.
 #[tactic(auto, unfolding(crate::specs::Machines::closed_place))]
-fn closed_place<'a>(alloc: Global, words: &'a [Word], left: u32) -> Read<'a, RawPlace>
-    ensures { Reads (λ x. (x.0, x.1.now)) result (closed_place left words.now) }
+fn closed_place<'a>(alloc: Global, terminals: &'a [Terminal], left: u32) -> Read<'a, RawPlace>
+    ensures { Reads (λ x. (x.0, x.1.now)) result (closed_place left terminals.now) }
 {
-    let (place, rest) = place(alloc, words, left)?;
+    let (place, rest) = place(alloc, terminals, left)?;
     let (_, rest) = sign(rest, left, Sign::Semicolon)?;
     Ok((place, rest))
 }
 
 #[tactic(auto, unfolding(crate::specs::Machines::formula_act))]
-fn require_act<'a>(alloc: Global, words: &'a [Word], left: u32) -> Read<'a, RawActKind>
-    ensures { Reads (λ x. (x.0, x.1.now)) result (formula_act sign.Require act.Require left words.now) }
+fn require_act<'a>(alloc: Global, terminals: &'a [Terminal], left: u32) -> Read<'a, RawActKind>
+    ensures { Reads (λ x. (x.0, x.1.now)) result (formula_act sign.Require act.Require left terminals.now) }
 {
-    let (_, rest) = sign(words, left, Sign::Require)?;
+    let (_, rest) = sign(terminals, left, Sign::Require)?;
     let (form, rest) = closed_expr(alloc, rest, left)?;
     Ok((RawActKind::Require(form), rest))
 }
 
 #[tactic(auto, unfolding(crate::specs::Machines::formula_act))]
-fn assert_act<'a>(alloc: Global, words: &'a [Word], left: u32) -> Read<'a, RawActKind>
-    ensures { Reads (λ x. (x.0, x.1.now)) result (formula_act sign.Assert act.Assert left words.now) }
+fn assert_act<'a>(alloc: Global, terminals: &'a [Terminal], left: u32) -> Read<'a, RawActKind>
+    ensures { Reads (λ x. (x.0, x.1.now)) result (formula_act sign.Assert act.Assert left terminals.now) }
 {
-    let (_, rest) = sign(words, left, Sign::Assert)?;
+    let (_, rest) = sign(terminals, left, Sign::Assert)?;
     let (form, rest) = closed_expr(alloc, rest, left)?;
     Ok((RawActKind::Assert(form), rest))
 }
 
 #[tactic(auto, unfolding(crate::specs::Machines::value_act))]
-fn init_act<'a>(alloc: Global, words: &'a [Word], left: u32) -> Read<'a, RawActKind>
-    ensures { Reads (λ x. (x.0, x.1.now)) result (value_act sign.Init act.Init left words.now) }
+fn init_act<'a>(alloc: Global, terminals: &'a [Terminal], left: u32) -> Read<'a, RawActKind>
+    ensures { Reads (λ x. (x.0, x.1.now)) result (value_act sign.Init act.Init left terminals.now) }
 {
-    let (_, rest) = sign(words, left, Sign::Init)?;
+    let (_, rest) = sign(terminals, left, Sign::Init)?;
     let (field, rest) = name(rest, left)?;
     let (_, rest) = sign(rest, left, Sign::Equal)?;
     let (value, rest) = closed_expr(alloc, rest, left)?;
@@ -107,28 +107,28 @@ fn init_act<'a>(alloc: Global, words: &'a [Word], left: u32) -> Read<'a, RawActK
 }
 
 #[tactic(auto, unfolding(crate::specs::Machines::value_act))]
-fn update_act<'a>(alloc: Global, words: &'a [Word], left: u32) -> Read<'a, RawActKind>
-    ensures { Reads (λ x. (x.0, x.1.now)) result (value_act sign.Update act.Update left words.now) }
+fn update_act<'a>(alloc: Global, terminals: &'a [Terminal], left: u32) -> Read<'a, RawActKind>
+    ensures { Reads (λ x. (x.0, x.1.now)) result (value_act sign.Update act.Update left terminals.now) }
 {
-    let (_, rest) = sign(words, left, Sign::Update)?;
+    let (_, rest) = sign(terminals, left, Sign::Update)?;
     let (field, rest) = name(rest, left)?;
     let (_, rest) = sign(rest, left, Sign::Equal)?;
     let (value, rest) = closed_expr(alloc, rest, left)?;
     Ok((RawActKind::Update(field, value), rest))
 }
 
-/// A word, the name of a field, a sign and a place.
+/// A terminal, the name of a field, a sign and a place.
 #[tactic(auto, unfolding(crate::specs::Machines::field_place))]
 fn field_and_place<'a>(
     alloc: Global,
-    words: &'a [Word],
+    terminals: &'a [Terminal],
     left: u32,
-    word: Sign,
+    terminal: Sign,
     symbol: Sign,
 ) -> Read<'a, (Named, RawPlace)>
-    ensures { Reads (λ x. (x.0, x.1.now)) result (field_place word symbol left words.now) }
+    ensures { Reads (λ x. (x.0, x.1.now)) result (field_place terminal symbol left terminals.now) }
 {
-    let (_, rest) = sign(words, left, word)?;
+    let (_, rest) = sign(terminals, left, terminal)?;
     let (field, rest) = name(rest, left)?;
     let (_, rest) = sign(rest, left, symbol)?;
     let (place, rest) = closed_place(alloc, rest, left)?;
@@ -136,28 +136,28 @@ fn field_and_place<'a>(
 }
 
 #[tactic(auto, unfolding(crate::specs::Machines::place_act))]
-fn guard_act<'a>(alloc: Global, words: &'a [Word], left: u32) -> Read<'a, RawActKind>
-    ensures { Reads (λ x. (x.0, x.1.now)) result (place_act sign.Guard sign.AtLeast act.Guard left words.now) }
+fn guard_act<'a>(alloc: Global, terminals: &'a [Terminal], left: u32) -> Read<'a, RawActKind>
+    ensures { Reads (λ x. (x.0, x.1.now)) result (place_act sign.Guard sign.AtLeast act.Guard left terminals.now) }
 {
-    let ((field, place), rest) = field_and_place(alloc, words, left, Sign::Guard, Sign::AtLeast)?;
+    let ((field, place), rest) = field_and_place(alloc, terminals, left, Sign::Guard, Sign::AtLeast)?;
     Ok((RawActKind::Guard(field, place), rest))
 }
 
 #[tactic(auto, unfolding(crate::specs::Machines::place_act))]
-fn add_act<'a>(alloc: Global, words: &'a [Word], left: u32) -> Read<'a, RawActKind>
-    ensures { Reads (λ x. (x.0, x.1.now)) result (place_act sign.Add sign.PlusEqual act.Add left words.now) }
+fn add_act<'a>(alloc: Global, terminals: &'a [Terminal], left: u32) -> Read<'a, RawActKind>
+    ensures { Reads (λ x. (x.0, x.1.now)) result (place_act sign.Add sign.PlusEqual act.Add left terminals.now) }
 {
-    let ((field, place), rest) = field_and_place(alloc, words, left, Sign::Add, Sign::PlusEqual)?;
+    let ((field, place), rest) = field_and_place(alloc, terminals, left, Sign::Add, Sign::PlusEqual)?;
     Ok((RawActKind::Add(field, place), rest))
 }
 
 #[tactic(auto, unfolding(crate::specs::Machines::place_act))]
-fn deposit_act<'a>(alloc: Global, words: &'a [Word], left: u32) -> Read<'a, RawActKind>
-    ensures { Reads (λ x. (x.0, x.1.now)) result (place_act sign.Deposit sign.PlusEqual act.Deposit left words.now) }
+fn deposit_act<'a>(alloc: Global, terminals: &'a [Terminal], left: u32) -> Read<'a, RawActKind>
+    ensures { Reads (λ x. (x.0, x.1.now)) result (place_act sign.Deposit sign.PlusEqual act.Deposit left terminals.now) }
 {
     let ((field, place), rest) = field_and_place(
         alloc,
-        words,
+        terminals,
         left,
         Sign::Deposit,
         Sign::PlusEqual,
@@ -166,12 +166,12 @@ fn deposit_act<'a>(alloc: Global, words: &'a [Word], left: u32) -> Read<'a, RawA
 }
 
 #[tactic(auto, unfolding(crate::specs::Machines::place_act))]
-fn remove_act<'a>(alloc: Global, words: &'a [Word], left: u32) -> Read<'a, RawActKind>
-    ensures { Reads (λ x. (x.0, x.1.now)) result (place_act sign.Remove sign.MinusEqual act.Remove left words.now) }
+fn remove_act<'a>(alloc: Global, terminals: &'a [Terminal], left: u32) -> Read<'a, RawActKind>
+    ensures { Reads (λ x. (x.0, x.1.now)) result (place_act sign.Remove sign.MinusEqual act.Remove left terminals.now) }
 {
     let ((field, place), rest) = field_and_place(
         alloc,
-        words,
+        terminals,
         left,
         Sign::Remove,
         Sign::MinusEqual,
@@ -180,12 +180,12 @@ fn remove_act<'a>(alloc: Global, words: &'a [Word], left: u32) -> Read<'a, RawAc
 }
 
 #[tactic(auto, unfolding(crate::specs::Machines::place_act))]
-fn withdraw_act<'a>(alloc: Global, words: &'a [Word], left: u32) -> Read<'a, RawActKind>
-    ensures { Reads (λ x. (x.0, x.1.now)) result (place_act sign.Withdraw sign.MinusEqual act.Withdraw left words.now) }
+fn withdraw_act<'a>(alloc: Global, terminals: &'a [Terminal], left: u32) -> Read<'a, RawActKind>
+    ensures { Reads (λ x. (x.0, x.1.now)) result (place_act sign.Withdraw sign.MinusEqual act.Withdraw left terminals.now) }
 {
     let ((field, place), rest) = field_and_place(
         alloc,
-        words,
+        terminals,
         left,
         Sign::Withdraw,
         Sign::MinusEqual,
@@ -195,10 +195,10 @@ fn withdraw_act<'a>(alloc: Global, words: &'a [Word], left: u32) -> Read<'a, Raw
 
 /// `;` after the name, or a place.
 #[tactic(auto, unfolding(crate::specs::Machines::have_act))]
-fn have_act<'a>(alloc: Global, words: &'a [Word], left: u32) -> Read<'a, RawActKind>
-    ensures { Reads (λ x. (x.0, x.1.now)) result (have_act left words.now) }
+fn have_act<'a>(alloc: Global, terminals: &'a [Terminal], left: u32) -> Read<'a, RawActKind>
+    ensures { Reads (λ x. (x.0, x.1.now)) result (have_act left terminals.now) }
 {
-    let (_, rest) = sign(words, left, Sign::Have)?;
+    let (_, rest) = sign(terminals, left, Sign::Have)?;
     let (field, rest) = name(rest, left)?;
     if begins_with(rest, Sign::Semicolon) {
         let (_, rest) = sign(rest, left, Sign::Semicolon)?;
@@ -210,52 +210,52 @@ fn have_act<'a>(alloc: Global, words: &'a [Word], left: u32) -> Read<'a, RawActK
 }
 
 #[tactic(auto, unfolding(crate::specs::Machines::act_kind))]
-fn act_kind<'a>(alloc: Global, words: &'a [Word], left: u32) -> Read<'a, RawActKind>
-    ensures { Reads (λ x. (x.0, x.1.now)) result (act_kind left words.now) }
+fn act_kind<'a>(alloc: Global, terminals: &'a [Terminal], left: u32) -> Read<'a, RawActKind>
+    ensures { Reads (λ x. (x.0, x.1.now)) result (act_kind left terminals.now) }
 {
-    let (word, _) = next(words).ok_or(Halt::Fault(Fault::Ended))?;
-    if word.is(Sign::Init) {
-        init_act(alloc, words, left)
-    } else if word.is(Sign::Require) {
-        require_act(alloc, words, left)
-    } else if word.is(Sign::Assert) {
-        assert_act(alloc, words, left)
-    } else if word.is(Sign::Update) {
-        update_act(alloc, words, left)
-    } else if word.is(Sign::Have) {
-        have_act(alloc, words, left)
-    } else if word.is(Sign::Guard) {
-        guard_act(alloc, words, left)
-    } else if word.is(Sign::Add) {
-        add_act(alloc, words, left)
-    } else if word.is(Sign::Deposit) {
-        deposit_act(alloc, words, left)
-    } else if word.is(Sign::Remove) {
-        remove_act(alloc, words, left)
-    } else if word.is(Sign::Withdraw) {
-        withdraw_act(alloc, words, left)
+    let (terminal, _) = next(terminals).ok_or(Halt::Fault(Fault::Ended))?;
+    if terminal.is(Sign::Init) {
+        init_act(alloc, terminals, left)
+    } else if terminal.is(Sign::Require) {
+        require_act(alloc, terminals, left)
+    } else if terminal.is(Sign::Assert) {
+        assert_act(alloc, terminals, left)
+    } else if terminal.is(Sign::Update) {
+        update_act(alloc, terminals, left)
+    } else if terminal.is(Sign::Have) {
+        have_act(alloc, terminals, left)
+    } else if terminal.is(Sign::Guard) {
+        guard_act(alloc, terminals, left)
+    } else if terminal.is(Sign::Add) {
+        add_act(alloc, terminals, left)
+    } else if terminal.is(Sign::Deposit) {
+        deposit_act(alloc, terminals, left)
+    } else if terminal.is(Sign::Remove) {
+        remove_act(alloc, terminals, left)
+    } else if terminal.is(Sign::Withdraw) {
+        withdraw_act(alloc, terminals, left)
     } else {
-        Err(wanted(word.line))
+        Err(wanted(terminal.line))
     }
 }
 
 #[tactic(auto, unfolding(crate::specs::Machines::act_at))]
-fn act<'a>(alloc: Global, words: &'a [Word], left: u32) -> Read<'a, RawAct>
-    ensures { Reads (λ x. (x.0, x.1.now)) result (act_at left words.now) }
+fn act<'a>(alloc: Global, terminals: &'a [Terminal], left: u32) -> Read<'a, RawAct>
+    ensures { Reads (λ x. (x.0, x.1.now)) result (act_at left terminals.now) }
 {
-    let line = first_line(words);
-    let (what, rest) = act_kind(alloc, words, left)?;
+    let line = first_line(terminals);
+    let (what, rest) = act_kind(alloc, terminals, left)?;
     Ok((RawAct { what, line }, rest))
 }
 
 /// The statements up to a closing brace.
-#[tactic(auto, unfolding(crate::specs::Machines::acts, sync_exprs::specs::Lexemes::row))]
-pub(crate) fn acts<'a>(alloc: Global, words: &'a [Word], left: u32) -> Read<'a, Items<RawAct>>
-    ensures { Reads (λ x. (x.0, x.1.now)) result (acts left words.now) }
+#[tactic(auto, unfolding(crate::specs::Machines::acts, sync_parse_exprs::specs::Lexemes::row))]
+pub(crate) fn acts<'a>(alloc: Global, terminals: &'a [Terminal], left: u32) -> Read<'a, Items<RawAct>>
+    ensures { Reads (λ x. (x.0, x.1.now)) result (acts left terminals.now) }
 {
     let mut held = Items::new(alloc);
-    let mut rest = words;
-    for _ in 0..words.len() {
+    let mut rest = terminals;
+    for _ in 0..terminals.len() {
         if goes_on(rest) {
             let (item, after) = act(alloc, rest, left)?;
             held.push(item)?;

@@ -1,7 +1,7 @@
 //! Reading machines, proofs and texts. `left` is 65 less the number of brackets that are open.
 ghost use Rattle.std.specs.Prelude.{◌≡◌, length, IfOk};
 ghost use Rattle.sync_base.specs.Outcome.{Gives};
-ghost use Rattle.sync_exprs.specs.Faults.{Reads};
+ghost use Rattle.sync_parse_exprs.specs.Faults.{Reads};
 ghost use Rattle.sync_parse.specs.Faults.{refusal_of};
 ghost use Rattle.sync_parse.specs.Machines.{field_at, fields, mode_of, mode_at, begins_operation, operation_at, operations, invariant_at, invariants, machine_at, claim_at, proof_at, proof_row, proofs_at, version_at, text_of, parsed};
 
@@ -10,22 +10,21 @@ use crate::script_reader::{place_of, script};
 use crate::trees::{RawClaim, RawField, RawInvariant, RawMachine, RawOperation, RawProof, RawText};
 use sqlite_items::Items;
 use std::alloc::Global;
-use sync_base::{Refusal, Rule, Stop};
-use sync_exprs::{
+use sync_base::{OpMode, Refusal, Rule, Stop};
+use sync_parse_exprs::{
     Fault, Halt, Read, begins_with, deep, first_line, goes_on, name, names, next, number, sign,
     strategy, wanted,
 };
-use sync_machine::OpMode;
-use sync_tokens::{Sign, Word, read_words};
+use sync_lex::{Sign, Terminal, read_terminals};
 
 /// The levels of a text: 64 brackets may be open before a lexeme.
 const LEVELS: u32 = 65;
 
 #[tactic(auto, unfolding(crate::specs::Machines::field_at))]
-fn field<'a>(words: &'a [Word], left: u32) -> Read<'a, RawField>
-    ensures { Reads (λ x. (x.0, x.1.now)) result (field_at left words.now) }
+fn field<'a>(terminals: &'a [Terminal], left: u32) -> Read<'a, RawField>
+    ensures { Reads (λ x. (x.0, x.1.now)) result (field_at left terminals.now) }
 {
-    let (line, rest) = sign(words, left, Sign::Field)?;
+    let (line, rest) = sign(terminals, left, Sign::Field)?;
     let (name, rest) = name(rest, left)?;
     let (_, rest) = sign(rest, left, Sign::Colon)?;
     let (strategy, rest) = strategy(rest, left)?;
@@ -40,13 +39,13 @@ fn field<'a>(words: &'a [Word], left: u32) -> Read<'a, RawField>
     ))
 }
 
-#[tactic(auto, unfolding(crate::specs::Machines::fields, sync_exprs::specs::Lexemes::row))]
-fn fields<'a>(alloc: Global, words: &'a [Word], left: u32) -> Read<'a, Items<RawField>>
-    ensures { Reads (λ x. (x.0, x.1.now)) result (fields left words.now) }
+#[tactic(auto, unfolding(crate::specs::Machines::fields, sync_parse_exprs::specs::Lexemes::row))]
+fn fields<'a>(alloc: Global, terminals: &'a [Terminal], left: u32) -> Read<'a, Items<RawField>>
+    ensures { Reads (λ x. (x.0, x.1.now)) result (fields left terminals.now) }
 {
     let mut held = Items::new(alloc);
-    let mut rest = words;
-    for _ in 0..words.len() {
+    let mut rest = terminals;
+    for _ in 0..terminals.len() {
         if begins_with(rest, Sign::Field) {
             let (item, after) = field(rest, left)?;
             held.push(item)?;
@@ -59,49 +58,49 @@ fn fields<'a>(alloc: Global, words: &'a [Word], left: u32) -> Read<'a, Items<Raw
 }
 
 #[tactic(auto, unfolding(crate::specs::Machines::mode_of))]
-fn mode_of(word: Word) -> Option<OpMode>
-    ensures { result ≡ mode_of word }
+fn mode_of(terminal: Terminal) -> Option<OpMode>
+    ensures { result ≡ mode_of terminal }
 {
-    if word.is(Sign::Init) {
+    if terminal.is(Sign::Init) {
         Some(OpMode::Init)
-    } else if word.is(Sign::Transition) {
+    } else if terminal.is(Sign::Transition) {
         Some(OpMode::Transition)
-    } else if word.is(Sign::Property) {
+    } else if terminal.is(Sign::Property) {
         Some(OpMode::Property)
     } else {
         None
     }
 }
 
-fn begins_operation(words: &[Word]) -> bool
-    ensures { result ≡ begins_operation words.now }
+fn begins_operation(terminals: &[Terminal]) -> bool
+    ensures { result ≡ begins_operation terminals.now }
 {
-    match next(words) {
-        Some((word, _)) => mode_of(word).is_some(),
+    match next(terminals) {
+        Some((terminal, _)) => mode_of(terminal).is_some(),
         None => false,
     }
 }
 
 #[tactic(auto, unfolding(crate::specs::Machines::mode_at))]
-fn mode<'a>(words: &'a [Word], left: u32) -> Read<'a, OpMode>
-    ensures { Reads (λ x. (x.0, x.1.now)) result (mode_at left words.now) }
+fn mode<'a>(terminals: &'a [Terminal], left: u32) -> Read<'a, OpMode>
+    ensures { Reads (λ x. (x.0, x.1.now)) result (mode_at left terminals.now) }
 {
-    let (word, rest) = next(words).ok_or(Halt::Fault(Fault::Ended))?;
-    let Some(mode) = mode_of(word) else {
-        return Err(wanted(word.line));
+    let (terminal, rest) = next(terminals).ok_or(Halt::Fault(Fault::Ended))?;
+    let Some(mode) = mode_of(terminal) else {
+        return Err(wanted(terminal.line));
     };
     if left == 0 {
-        return Err(deep(word.line));
+        return Err(deep(terminal.line));
     }
     Ok((mode, rest))
 }
 
 #[tactic(auto, unfolding(crate::specs::Machines::operation_at))]
-fn operation<'a>(alloc: Global, words: &'a [Word], left: u32) -> Read<'a, RawOperation>
-    ensures { Reads (λ x. (x.0, x.1.now)) result (operation_at left words.now) }
+fn operation<'a>(alloc: Global, terminals: &'a [Terminal], left: u32) -> Read<'a, RawOperation>
+    ensures { Reads (λ x. (x.0, x.1.now)) result (operation_at left terminals.now) }
 {
-    let line = first_line(words);
-    let (mode, rest) = mode(words, left)?;
+    let line = first_line(terminals);
+    let (mode, rest) = mode(terminals, left)?;
     let (name, rest) = name(rest, left)?;
     let (params, rest) = names(alloc, rest, left)?;
     let (_, rest) = sign(rest, left, Sign::OpenBrace)?;
@@ -119,13 +118,13 @@ fn operation<'a>(alloc: Global, words: &'a [Word], left: u32) -> Read<'a, RawOpe
     ))
 }
 
-#[tactic(auto, unfolding(crate::specs::Machines::operations, sync_exprs::specs::Lexemes::row))]
-fn operations<'a>(alloc: Global, words: &'a [Word], left: u32) -> Read<'a, Items<RawOperation>>
-    ensures { Reads (λ x. (x.0, x.1.now)) result (operations left words.now) }
+#[tactic(auto, unfolding(crate::specs::Machines::operations, sync_parse_exprs::specs::Lexemes::row))]
+fn operations<'a>(alloc: Global, terminals: &'a [Terminal], left: u32) -> Read<'a, Items<RawOperation>>
+    ensures { Reads (λ x. (x.0, x.1.now)) result (operations left terminals.now) }
 {
     let mut held = Items::new(alloc);
-    let mut rest = words;
-    for _ in 0..words.len() {
+    let mut rest = terminals;
+    for _ in 0..terminals.len() {
         if begins_operation(rest) {
             let (item, after) = operation(alloc, rest, left)?;
             held.push(item)?;
@@ -138,10 +137,10 @@ fn operations<'a>(alloc: Global, words: &'a [Word], left: u32) -> Read<'a, Items
 }
 
 #[tactic(auto, unfolding(crate::specs::Machines::invariant_at))]
-fn invariant<'a>(alloc: Global, words: &'a [Word], left: u32) -> Read<'a, RawInvariant>
-    ensures { Reads (λ x. (x.0, x.1.now)) result (invariant_at left words.now) }
+fn invariant<'a>(alloc: Global, terminals: &'a [Terminal], left: u32) -> Read<'a, RawInvariant>
+    ensures { Reads (λ x. (x.0, x.1.now)) result (invariant_at left terminals.now) }
 {
-    let (line, rest) = sign(words, left, Sign::Invariant)?;
+    let (line, rest) = sign(terminals, left, Sign::Invariant)?;
     let (name, rest) = name(rest, left)?;
     let (params, rest) = names(alloc, rest, left)?;
     let (_, rest) = sign(rest, left, Sign::Colon)?;
@@ -157,13 +156,13 @@ fn invariant<'a>(alloc: Global, words: &'a [Word], left: u32) -> Read<'a, RawInv
     ))
 }
 
-#[tactic(auto, unfolding(crate::specs::Machines::invariants, sync_exprs::specs::Lexemes::row))]
-fn invariants<'a>(alloc: Global, words: &'a [Word], left: u32) -> Read<'a, Items<RawInvariant>>
-    ensures { Reads (λ x. (x.0, x.1.now)) result (invariants left words.now) }
+#[tactic(auto, unfolding(crate::specs::Machines::invariants, sync_parse_exprs::specs::Lexemes::row))]
+fn invariants<'a>(alloc: Global, terminals: &'a [Terminal], left: u32) -> Read<'a, Items<RawInvariant>>
+    ensures { Reads (λ x. (x.0, x.1.now)) result (invariants left terminals.now) }
 {
     let mut held = Items::new(alloc);
-    let mut rest = words;
-    for _ in 0..words.len() {
+    let mut rest = terminals;
+    for _ in 0..terminals.len() {
         if begins_with(rest, Sign::Invariant) {
             let (item, after) = invariant(alloc, rest, left)?;
             held.push(item)?;
@@ -176,10 +175,10 @@ fn invariants<'a>(alloc: Global, words: &'a [Word], left: u32) -> Read<'a, Items
 }
 
 #[tactic(auto, unfolding(crate::specs::Machines::machine_at))]
-fn machine<'a>(alloc: Global, words: &'a [Word], left: u32) -> Read<'a, RawMachine>
-    ensures { Reads (λ x. (x.0, x.1.now)) result (machine_at left words.now) }
+fn machine<'a>(alloc: Global, terminals: &'a [Terminal], left: u32) -> Read<'a, RawMachine>
+    ensures { Reads (λ x. (x.0, x.1.now)) result (machine_at left terminals.now) }
 {
-    let (line, rest) = sign(words, left, Sign::Machine)?;
+    let (line, rest) = sign(terminals, left, Sign::Machine)?;
     let (name, rest) = name(rest, left)?;
     let (_, rest) = sign(rest, left, Sign::OpenBrace)?;
     let (fields, rest) = fields(alloc, rest, left - 1)?;
@@ -199,24 +198,24 @@ fn machine<'a>(alloc: Global, words: &'a [Word], left: u32) -> Read<'a, RawMachi
 }
 
 #[tactic(auto, unfolding(crate::specs::Machines::claim_at))]
-fn claim<'a>(words: &'a [Word], left: u32) -> Read<'a, RawClaim>
-    ensures { Reads (λ x. (x.0, x.1.now)) result (claim_at left words.now) }
+fn claim<'a>(terminals: &'a [Terminal], left: u32) -> Read<'a, RawClaim>
+    ensures { Reads (λ x. (x.0, x.1.now)) result (claim_at left terminals.now) }
 {
-    if begins_with(words, Sign::At) {
-        let (_, rest) = sign(words, left, Sign::At)?;
+    if begins_with(terminals, Sign::At) {
+        let (_, rest) = sign(terminals, left, Sign::At)?;
         let (at, rest) = number(rest, left)?;
         return Ok((RawClaim::At(place_of(at)), rest));
     }
-    let (_, rest) = sign(words, left, Sign::Keeps)?;
+    let (_, rest) = sign(terminals, left, Sign::Keeps)?;
     let (name, rest) = name(rest, left)?;
     Ok((RawClaim::Keeps(name), rest))
 }
 
 #[tactic(auto, unfolding(crate::specs::Machines::proof_at))]
-fn proof<'a>(alloc: Global, words: &'a [Word], left: u32) -> Read<'a, RawProof>
-    ensures { Reads (λ x. (x.0, x.1.now)) result (proof_at left words.now) }
+fn proof<'a>(alloc: Global, terminals: &'a [Terminal], left: u32) -> Read<'a, RawProof>
+    ensures { Reads (λ x. (x.0, x.1.now)) result (proof_at left terminals.now) }
 {
-    let (operation, rest) = name(words, left)?;
+    let (operation, rest) = name(terminals, left)?;
     let (claim, rest) = claim(rest, left)?;
     let (script, rest) = script(alloc, rest, left)?;
     Ok((
@@ -229,13 +228,13 @@ fn proof<'a>(alloc: Global, words: &'a [Word], left: u32) -> Read<'a, RawProof>
     ))
 }
 
-#[tactic(auto, unfolding(crate::specs::Machines::proof_row, sync_exprs::specs::Lexemes::row))]
-fn proof_row<'a>(alloc: Global, words: &'a [Word], left: u32) -> Read<'a, Items<RawProof>>
-    ensures { Reads (λ x. (x.0, x.1.now)) result (proof_row left words.now) }
+#[tactic(auto, unfolding(crate::specs::Machines::proof_row, sync_parse_exprs::specs::Lexemes::row))]
+fn proof_row<'a>(alloc: Global, terminals: &'a [Terminal], left: u32) -> Read<'a, Items<RawProof>>
+    ensures { Reads (λ x. (x.0, x.1.now)) result (proof_row left terminals.now) }
 {
     let mut held = Items::new(alloc);
-    let mut rest = words;
-    for _ in 0..words.len() {
+    let mut rest = terminals;
+    for _ in 0..terminals.len() {
         if goes_on(rest) {
             let (item, after) = proof(alloc, rest, left)?;
             held.push(item)?;
@@ -249,13 +248,13 @@ fn proof_row<'a>(alloc: Global, words: &'a [Word], left: u32) -> Read<'a, Items<
 
 /// The proofs, or none where they do not begin.
 #[tactic(auto, unfolding(crate::specs::Machines::proofs_at))]
-fn proofs<'a>(alloc: Global, words: &'a [Word], left: u32) -> Read<'a, Items<RawProof>>
-    ensures { Reads (λ x. (x.0, x.1.now)) result (proofs_at left words.now) }
+fn proofs<'a>(alloc: Global, terminals: &'a [Terminal], left: u32) -> Read<'a, Items<RawProof>>
+    ensures { Reads (λ x. (x.0, x.1.now)) result (proofs_at left terminals.now) }
 {
-    if !begins_with(words, Sign::Proofs) {
-        return Ok((Items::new(alloc), words));
+    if !begins_with(terminals, Sign::Proofs) {
+        return Ok((Items::new(alloc), terminals));
     }
-    let (_, rest) = sign(words, left, Sign::Proofs)?;
+    let (_, rest) = sign(terminals, left, Sign::Proofs)?;
     let (_, rest) = sign(rest, left, Sign::OpenBrace)?;
     let (proofs, rest) = proof_row(alloc, rest, left - 1)?;
     let (_, rest) = sign(rest, left - 1, Sign::CloseBrace)?;
@@ -264,10 +263,10 @@ fn proofs<'a>(alloc: Global, words: &'a [Word], left: u32) -> Read<'a, Items<Raw
 
 /// `version` and the number 1.
 #[tactic(auto, unfolding(crate::specs::Machines::version_at))]
-fn version<'a>(words: &'a [Word], left: u32) -> Read<'a, u32>
-    ensures { Reads (λ x. (x.0, x.1.now)) result (version_at left words.now) }
+fn version<'a>(terminals: &'a [Terminal], left: u32) -> Read<'a, u32>
+    ensures { Reads (λ x. (x.0, x.1.now)) result (version_at left terminals.now) }
 {
-    let (line, rest) = sign(words, left, Sign::Version)?;
+    let (line, rest) = sign(terminals, left, Sign::Version)?;
     let number_line = first_line(rest);
     let (version, rest) = number(rest, left)?;
     if version != 1 {
@@ -276,18 +275,18 @@ fn version<'a>(words: &'a [Word], left: u32) -> Read<'a, u32>
     Ok((line, rest))
 }
 
-/// The machine and the proofs that the words of a text spell.
+/// The machine and the proofs that the terminals of a text spell.
 #[tactic(auto, unfolding(crate::specs::Machines::text_of))]
-fn text_of(alloc: Global, words: &[Word]) -> Result<(RawMachine, Items<RawProof>), Halt>
-    ensures { Reads (λ x. x) result (text_of words.now) }
+fn text_of(alloc: Global, terminals: &[Terminal]) -> Result<(RawMachine, Items<RawProof>), Halt>
+    ensures { Reads (λ x. x) result (text_of terminals.now) }
 {
-    let (_, rest) = version(words, LEVELS)?;
+    let (_, rest) = version(terminals, LEVELS)?;
     let (_, rest) = sign(rest, LEVELS, Sign::Semicolon)?;
     let (machine, rest) = machine(alloc, rest, LEVELS)?;
     let (proofs, rest) = proofs(alloc, rest, LEVELS)?;
     match next(rest) {
-        Some((word, _)) if word.is(Sign::Program) => Err(Halt::Fault(Fault::Unbuilt(word.line))),
-        Some((word, _)) => Err(wanted(word.line)),
+        Some((terminal, _)) if terminal.is(Sign::Program) => Err(Halt::Fault(Fault::Unbuilt(terminal.line))),
+        Some((terminal, _)) => Err(wanted(terminal.line)),
         None => Ok((machine, proofs)),
     }
 }
@@ -315,14 +314,14 @@ fn refusal_of(last_line: u32, fault: Fault) -> Refusal
 pub fn parse(alloc: Global, text: &[u8]) -> Result<RawText, Stop>
     ensures { Gives (λ t. t) result (parsed text.now) }
 {
-    let words = read_words(alloc, text)?;
-    match text_of(alloc, words.list.as_slice()) {
+    let terminals = read_terminals(alloc, text)?;
+    match text_of(alloc, terminals.list.as_slice()) {
         Ok((machine, proofs)) => Ok(RawText {
             machine,
             proofs,
-            names: words.names,
+            names: terminals.names,
         }),
-        Err(Halt::Fault(fault)) => Err(Stop::Refused(refusal_of(words.last_line, fault))),
+        Err(Halt::Fault(fault)) => Err(Stop::Refused(refusal_of(terminals.last_line, fault))),
         Err(Halt::Memory) => Err(Stop::Memory),
     }
 }

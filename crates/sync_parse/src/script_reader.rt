@@ -1,19 +1,19 @@
 //! Reading proof scripts. `left` is 65 less the number of brackets that are open.
 ghost use Rattle.std.specs.Prelude.{◌≡◌, ◌-◌, ◌<◌};
-ghost use Rattle.sync_tokens.specs.declared.signs.Sign.TheVariants as sign;
+ghost use Rattle.sync_lex.specs.declared.signs.Sign.TheVariants as sign;
 ghost use Rattle.sync_parse.specs.declared.scripts.RawStepKind.TheVariants as step;
-ghost use Rattle.sync_exprs.specs.Faults.{Reads};
-ghost use Rattle.sync_exprs.specs.Lexemes.{series};
+ghost use Rattle.sync_parse_exprs.specs.Faults.{Reads};
+ghost use Rattle.sync_parse_exprs.specs.Lexemes.{series};
 ghost use Rattle.sync_parse.specs.Scripts.{place_of, times_of, bounded_of, subject_at, hyp_at, as_name, scaled, part_at, same_step, sum_step, inst_step, parts_step, lookup_step, cong_step, plain_step, split_step, cut_step, step_at, steps, nested, block_at, script_at};
 
 use crate::scripts::{RawBlock, RawHyp, RawPart, RawScript, RawStep, RawStepKind, Subject};
 use sqlite_items::Items;
 use std::alloc::Global;
-use sync_exprs::{
+use sync_parse_exprs::{
     Fault, Halt, Named, Read, Special, begins_with, deep, expr, exprs, first_line, goes_on, name,
     next, number, sign, signed, wanted,
 };
-use sync_tokens::{Sign, What, Word};
+use sync_lex::{Sign, TerminalKind, Terminal};
 
 /// The number of a statement as it is kept.
 pub(crate) fn place_of(number: u128) -> u32
@@ -39,18 +39,18 @@ fn bounded_of(sign: Sign) -> Option<Special>
 
 /// A name, or `old`, `new` or `wrap`.
 #[tactic(auto, unfolding(crate::specs::Scripts::subject_at))]
-fn subject<'a>(words: &'a [Word], left: u32) -> Read<'a, Subject>
-    ensures { Reads (λ x. (x.0, x.1.now)) result (subject_at left words.now) }
+fn subject<'a>(terminals: &'a [Terminal], left: u32) -> Read<'a, Subject>
+    ensures { Reads (λ x. (x.0, x.1.now)) result (subject_at left terminals.now) }
 {
-    let (word, rest) = next(words).ok_or(Halt::Fault(Fault::Ended))?;
-    let line = word.line;
-    let subject = match word.what {
-        What::Name(name, _) => Subject::Name(Named { name, line }),
-        What::Sign(sign) => match bounded_of(sign) {
-            Some(word) => Subject::Special(word, line),
+    let (terminal, rest) = next(terminals).ok_or(Halt::Fault(Fault::Ended))?;
+    let line = terminal.line;
+    let subject = match terminal.what {
+        TerminalKind::Name(name, _) => Subject::Name(Named { name, line }),
+        TerminalKind::Sign(sign) => match bounded_of(sign) {
+            Some(terminal) => Subject::Special(terminal, line),
             None => return Err(wanted(line)),
         },
-        What::Number(_) => return Err(wanted(line)),
+        TerminalKind::Number(_) => return Err(wanted(line)),
     };
     if left == 0 {
         return Err(deep(line));
@@ -59,38 +59,38 @@ fn subject<'a>(words: &'a [Word], left: u32) -> Read<'a, Subject>
 }
 
 #[tactic(auto, unfolding(crate::specs::Scripts::hyp_at))]
-fn hyp<'a>(words: &'a [Word], left: u32) -> Read<'a, RawHyp>
-    ensures { Reads (λ x. (x.0, x.1.now)) result (hyp_at left words.now) }
+fn hyp<'a>(terminals: &'a [Terminal], left: u32) -> Read<'a, RawHyp>
+    ensures { Reads (λ x. (x.0, x.1.now)) result (hyp_at left terminals.now) }
 {
-    if begins_with(words, Sign::Denied) {
-        let (_, rest) = sign(words, left, Sign::Denied)?;
+    if begins_with(terminals, Sign::Denied) {
+        let (_, rest) = sign(terminals, left, Sign::Denied)?;
         return Ok((RawHyp::Denied, rest));
     }
-    if begins_with(words, Sign::At) {
-        let (_, rest) = sign(words, left, Sign::At)?;
+    if begins_with(terminals, Sign::At) {
+        let (_, rest) = sign(terminals, left, Sign::At)?;
         let (at, rest) = number(rest, left)?;
         return Ok((RawHyp::At(place_of(at)), rest));
     }
-    if begins_with(words, Sign::Low) {
-        let (_, rest) = sign(words, left, Sign::Low)?;
+    if begins_with(terminals, Sign::Low) {
+        let (_, rest) = sign(terminals, left, Sign::Low)?;
         let (subject, rest) = subject(rest, left)?;
         return Ok((RawHyp::Low(subject), rest));
     }
-    if begins_with(words, Sign::High) {
-        let (_, rest) = sign(words, left, Sign::High)?;
+    if begins_with(terminals, Sign::High) {
+        let (_, rest) = sign(terminals, left, Sign::High)?;
         let (subject, rest) = subject(rest, left)?;
         return Ok((RawHyp::High(subject), rest));
     }
-    let (label, rest) = name(words, left)?;
+    let (label, rest) = name(terminals, left)?;
     Ok((RawHyp::Label(label), rest))
 }
 
 /// `as` and the name that a step gives.
 #[tactic(auto, unfolding(crate::specs::Scripts::as_name))]
-fn as_name<'a>(words: &'a [Word], left: u32) -> Read<'a, Named>
-    ensures { Reads (λ x. (x.0, x.1.now)) result (as_name left words.now) }
+fn as_name<'a>(terminals: &'a [Terminal], left: u32) -> Read<'a, Named>
+    ensures { Reads (λ x. (x.0, x.1.now)) result (as_name left terminals.now) }
 {
-    let (_, rest) = sign(words, left, Sign::As)?;
+    let (_, rest) = sign(terminals, left, Sign::As)?;
     name(rest, left)
 }
 
@@ -105,10 +105,10 @@ fn times_of(minus: bool, number: u128) -> i128
 }
 
 #[tactic(auto, unfolding(crate::specs::Scripts::scaled))]
-fn scaled<'a>(words: &'a [Word], left: u32, minus: bool) -> Read<'a, RawPart>
-    ensures { Reads (λ x. (x.0, x.1.now)) result (scaled minus left words.now) }
+fn scaled<'a>(terminals: &'a [Terminal], left: u32, minus: bool) -> Read<'a, RawPart>
+    ensures { Reads (λ x. (x.0, x.1.now)) result (scaled minus left terminals.now) }
 {
-    let (number, rest) = number(words, left)?;
+    let (number, rest) = number(terminals, left)?;
     let (hyp, rest) = hyp(rest, left)?;
     let times = times_of(minus, number);
     Ok((RawPart { times, hyp }, rest))
@@ -116,27 +116,27 @@ fn scaled<'a>(words: &'a [Word], left: u32, minus: bool) -> Read<'a, RawPart>
 
 /// A number, which may have `-` before it, times a hypothesis.
 #[tactic(auto, unfolding(crate::specs::Scripts::part_at))]
-fn part<'a>(words: &'a [Word], left: u32) -> Read<'a, RawPart>
-    ensures { Reads (λ x. (x.0, x.1.now)) result (part_at left words.now) }
+fn part<'a>(terminals: &'a [Terminal], left: u32) -> Read<'a, RawPart>
+    ensures { Reads (λ x. (x.0, x.1.now)) result (part_at left terminals.now) }
 {
-    if begins_with(words, Sign::Minus) {
-        let (_, rest) = sign(words, left, Sign::Minus)?;
+    if begins_with(terminals, Sign::Minus) {
+        let (_, rest) = sign(terminals, left, Sign::Minus)?;
         return scaled(rest, left, true);
     }
-    scaled(words, left, false)
+    scaled(terminals, left, false)
 }
 
 /// Parts with commas between, at least one.
-#[tactic(auto, unfolding(sync_exprs::specs::Lexemes::series, sync_exprs::specs::Lexemes::behind_commas))]
-fn part_series<'a>(alloc: Global, words: &'a [Word], left: u32) -> Read<'a, Items<RawPart>>
-    ensures { Reads (λ x. (x.0, x.1.now)) result (series (part_at left) words.now) }
+#[tactic(auto, unfolding(sync_parse_exprs::specs::Lexemes::series, sync_parse_exprs::specs::Lexemes::behind_commas))]
+fn part_series<'a>(alloc: Global, terminals: &'a [Terminal], left: u32) -> Read<'a, Items<RawPart>>
+    ensures { Reads (λ x. (x.0, x.1.now)) result (series (part_at left) terminals.now) }
 {
-    let (first, mut rest) = part(words, left)?;
+    let (first, mut rest) = part(terminals, left)?;
     let mut held = Items::new(alloc);
     held.push(first)?;
     for _ in 0..rest.len() {
         match next(rest) {
-            Some((word, after)) if word.is(Sign::Comma) => {
+            Some((terminal, after)) if terminal.is(Sign::Comma) => {
                 let (item, after) = part(after, left)?;
                 held.push(item)?;
                 rest = after;
@@ -148,29 +148,29 @@ fn part_series<'a>(alloc: Global, words: &'a [Word], left: u32) -> Read<'a, Item
 }
 
 #[tactic(auto, unfolding(crate::specs::Scripts::same_step))]
-fn same_step<'a>(words: &'a [Word], left: u32) -> Read<'a, RawStepKind>
-    ensures { Reads (λ x. (x.0, x.1.now)) result (same_step left words.now) }
+fn same_step<'a>(terminals: &'a [Terminal], left: u32) -> Read<'a, RawStepKind>
+    ensures { Reads (λ x. (x.0, x.1.now)) result (same_step left terminals.now) }
 {
-    let (_, rest) = sign(words, left, Sign::Same)?;
+    let (_, rest) = sign(terminals, left, Sign::Same)?;
     let (_, rest) = sign(rest, left, Sign::Semicolon)?;
     Ok((RawStepKind::Same, rest))
 }
 
 #[tactic(auto, unfolding(crate::specs::Scripts::sum_step))]
-fn sum_step<'a>(alloc: Global, words: &'a [Word], left: u32) -> Read<'a, RawStepKind>
-    ensures { Reads (λ x. (x.0, x.1.now)) result (sum_step left words.now) }
+fn sum_step<'a>(alloc: Global, terminals: &'a [Terminal], left: u32) -> Read<'a, RawStepKind>
+    ensures { Reads (λ x. (x.0, x.1.now)) result (sum_step left terminals.now) }
 {
-    let (_, rest) = sign(words, left, Sign::Sum)?;
+    let (_, rest) = sign(terminals, left, Sign::Sum)?;
     let (parts, rest) = part_series(alloc, rest, left)?;
     let (_, rest) = sign(rest, left, Sign::Semicolon)?;
     Ok((RawStepKind::Sum(parts), rest))
 }
 
 #[tactic(auto, unfolding(crate::specs::Scripts::inst_step))]
-fn inst_step<'a>(alloc: Global, words: &'a [Word], left: u32) -> Read<'a, RawStepKind>
-    ensures { Reads (λ x. (x.0, x.1.now)) result (inst_step left words.now) }
+fn inst_step<'a>(alloc: Global, terminals: &'a [Terminal], left: u32) -> Read<'a, RawStepKind>
+    ensures { Reads (λ x. (x.0, x.1.now)) result (inst_step left terminals.now) }
 {
-    let (_, rest) = sign(words, left, Sign::Inst)?;
+    let (_, rest) = sign(terminals, left, Sign::Inst)?;
     let (hyp, rest) = hyp(rest, left)?;
     let (terms, rest) = exprs(alloc, rest, left)?;
     let (given, rest) = as_name(rest, left)?;
@@ -179,10 +179,10 @@ fn inst_step<'a>(alloc: Global, words: &'a [Word], left: u32) -> Read<'a, RawSte
 }
 
 #[tactic(auto, unfolding(crate::specs::Scripts::parts_step))]
-fn parts_step<'a>(words: &'a [Word], left: u32) -> Read<'a, RawStepKind>
-    ensures { Reads (λ x. (x.0, x.1.now)) result (parts_step left words.now) }
+fn parts_step<'a>(terminals: &'a [Terminal], left: u32) -> Read<'a, RawStepKind>
+    ensures { Reads (λ x. (x.0, x.1.now)) result (parts_step left terminals.now) }
 {
-    let (_, rest) = sign(words, left, Sign::Parts)?;
+    let (_, rest) = sign(terminals, left, Sign::Parts)?;
     let (hyp, rest) = hyp(rest, left)?;
     let (first, rest) = as_name(rest, left)?;
     let (_, rest) = sign(rest, left, Sign::Comma)?;
@@ -192,10 +192,10 @@ fn parts_step<'a>(words: &'a [Word], left: u32) -> Read<'a, RawStepKind>
 }
 
 #[tactic(auto, unfolding(crate::specs::Scripts::lookup_step))]
-fn read_step<'a>(alloc: Global, words: &'a [Word], left: u32) -> Read<'a, RawStepKind>
-    ensures { Reads (λ x. (x.0, x.1.now)) result (lookup_step sign.Read step.Read left words.now) }
+fn read_step<'a>(alloc: Global, terminals: &'a [Terminal], left: u32) -> Read<'a, RawStepKind>
+    ensures { Reads (λ x. (x.0, x.1.now)) result (lookup_step sign.Read step.Read left terminals.now) }
 {
-    let (_, rest) = sign(words, left, Sign::Read)?;
+    let (_, rest) = sign(terminals, left, Sign::Read)?;
     let (map, rest) = expr(alloc, rest, left)?;
     let (_, rest) = sign(rest, left, Sign::Comma)?;
     let (key, rest) = expr(alloc, rest, left)?;
@@ -205,10 +205,10 @@ fn read_step<'a>(alloc: Global, words: &'a [Word], left: u32) -> Read<'a, RawSte
 }
 
 #[tactic(auto, unfolding(crate::specs::Scripts::lookup_step))]
-fn size_step<'a>(alloc: Global, words: &'a [Word], left: u32) -> Read<'a, RawStepKind>
-    ensures { Reads (λ x. (x.0, x.1.now)) result (lookup_step sign.Size step.Size left words.now) }
+fn size_step<'a>(alloc: Global, terminals: &'a [Terminal], left: u32) -> Read<'a, RawStepKind>
+    ensures { Reads (λ x. (x.0, x.1.now)) result (lookup_step sign.Size step.Size left terminals.now) }
 {
-    let (_, rest) = sign(words, left, Sign::Size)?;
+    let (_, rest) = sign(terminals, left, Sign::Size)?;
     let (map, rest) = expr(alloc, rest, left)?;
     let (_, rest) = sign(rest, left, Sign::Comma)?;
     let (key, rest) = expr(alloc, rest, left)?;
@@ -218,10 +218,10 @@ fn size_step<'a>(alloc: Global, words: &'a [Word], left: u32) -> Read<'a, RawSte
 }
 
 #[tactic(auto, unfolding(crate::specs::Scripts::lookup_step))]
-fn total_step<'a>(alloc: Global, words: &'a [Word], left: u32) -> Read<'a, RawStepKind>
-    ensures { Reads (λ x. (x.0, x.1.now)) result (lookup_step sign.Total step.Total left words.now) }
+fn total_step<'a>(alloc: Global, terminals: &'a [Terminal], left: u32) -> Read<'a, RawStepKind>
+    ensures { Reads (λ x. (x.0, x.1.now)) result (lookup_step sign.Total step.Total left terminals.now) }
 {
-    let (_, rest) = sign(words, left, Sign::Total)?;
+    let (_, rest) = sign(terminals, left, Sign::Total)?;
     let (map, rest) = expr(alloc, rest, left)?;
     let (_, rest) = sign(rest, left, Sign::Comma)?;
     let (key, rest) = expr(alloc, rest, left)?;
@@ -231,10 +231,10 @@ fn total_step<'a>(alloc: Global, words: &'a [Word], left: u32) -> Read<'a, RawSt
 }
 
 #[tactic(auto, unfolding(crate::specs::Scripts::cong_step))]
-fn cong_step<'a>(alloc: Global, words: &'a [Word], left: u32) -> Read<'a, RawStepKind>
-    ensures { Reads (λ x. (x.0, x.1.now)) result (cong_step left words.now) }
+fn cong_step<'a>(alloc: Global, terminals: &'a [Terminal], left: u32) -> Read<'a, RawStepKind>
+    ensures { Reads (λ x. (x.0, x.1.now)) result (cong_step left terminals.now) }
 {
-    let (_, rest) = sign(words, left, Sign::Cong)?;
+    let (_, rest) = sign(terminals, left, Sign::Cong)?;
     let (map, rest) = expr(alloc, rest, left)?;
     let (_, rest) = sign(rest, left, Sign::Comma)?;
     let (first, rest) = expr(alloc, rest, left)?;
@@ -247,37 +247,37 @@ fn cong_step<'a>(alloc: Global, words: &'a [Word], left: u32) -> Read<'a, RawSte
 
 /// A step without a block.
 #[tactic(auto, unfolding(crate::specs::Scripts::plain_step))]
-fn plain_step<'a>(alloc: Global, words: &'a [Word], left: u32) -> Read<'a, RawStepKind>
-    ensures { Reads (λ x. (x.0, x.1.now)) result (plain_step left words.now) }
+fn plain_step<'a>(alloc: Global, terminals: &'a [Terminal], left: u32) -> Read<'a, RawStepKind>
+    ensures { Reads (λ x. (x.0, x.1.now)) result (plain_step left terminals.now) }
 {
-    let (word, _) = next(words).ok_or(Halt::Fault(Fault::Ended))?;
-    if word.is(Sign::Same) {
-        same_step(words, left)
-    } else if word.is(Sign::Sum) {
-        sum_step(alloc, words, left)
-    } else if word.is(Sign::Inst) {
-        inst_step(alloc, words, left)
-    } else if word.is(Sign::Parts) {
-        parts_step(words, left)
-    } else if word.is(Sign::Read) {
-        read_step(alloc, words, left)
-    } else if word.is(Sign::Size) {
-        size_step(alloc, words, left)
-    } else if word.is(Sign::Total) {
-        total_step(alloc, words, left)
-    } else if word.is(Sign::Cong) {
-        cong_step(alloc, words, left)
+    let (terminal, _) = next(terminals).ok_or(Halt::Fault(Fault::Ended))?;
+    if terminal.is(Sign::Same) {
+        same_step(terminals, left)
+    } else if terminal.is(Sign::Sum) {
+        sum_step(alloc, terminals, left)
+    } else if terminal.is(Sign::Inst) {
+        inst_step(alloc, terminals, left)
+    } else if terminal.is(Sign::Parts) {
+        parts_step(terminals, left)
+    } else if terminal.is(Sign::Read) {
+        read_step(alloc, terminals, left)
+    } else if terminal.is(Sign::Size) {
+        size_step(alloc, terminals, left)
+    } else if terminal.is(Sign::Total) {
+        total_step(alloc, terminals, left)
+    } else if terminal.is(Sign::Cong) {
+        cong_step(alloc, terminals, left)
     } else {
-        Err(wanted(word.line))
+        Err(wanted(terminal.line))
     }
 }
 
 #[cycle(script)]
 #[tactic(auto, unfolding(crate::specs::Scripts::split_step, crate::specs::Scripts::block_at))]
-fn split_step<'a>(alloc: Global, words: &'a [Word], left: u32) -> Read<'a, RawStepKind>
-    ensures { Reads (λ x. (x.0, x.1.now)) result (split_step (block_at left) left words.now) }
+fn split_step<'a>(alloc: Global, terminals: &'a [Terminal], left: u32) -> Read<'a, RawStepKind>
+    ensures { Reads (λ x. (x.0, x.1.now)) result (split_step (block_at left) left terminals.now) }
 {
-    let (_, rest) = sign(words, left, Sign::Split)?;
+    let (_, rest) = sign(terminals, left, Sign::Split)?;
     let (hyp, rest) = hyp(rest, left)?;
     let (given, rest) = as_name(rest, left)?;
     let (first, rest) = block(alloc, rest, left)?;
@@ -287,10 +287,10 @@ fn split_step<'a>(alloc: Global, words: &'a [Word], left: u32) -> Read<'a, RawSt
 
 #[cycle(script)]
 #[tactic(auto, unfolding(crate::specs::Scripts::cut_step, crate::specs::Scripts::block_at))]
-fn cut_step<'a>(alloc: Global, words: &'a [Word], left: u32) -> Read<'a, RawStepKind>
-    ensures { Reads (λ x. (x.0, x.1.now)) result (cut_step (block_at left) left words.now) }
+fn cut_step<'a>(alloc: Global, terminals: &'a [Terminal], left: u32) -> Read<'a, RawStepKind>
+    ensures { Reads (λ x. (x.0, x.1.now)) result (cut_step (block_at left) left terminals.now) }
 {
-    let (_, rest) = sign(words, left, Sign::Cut)?;
+    let (_, rest) = sign(terminals, left, Sign::Cut)?;
     let (form, rest) = expr(alloc, rest, left)?;
     let (given, rest) = as_name(rest, left)?;
     let (inner, rest) = block(alloc, rest, left)?;
@@ -299,16 +299,16 @@ fn cut_step<'a>(alloc: Global, words: &'a [Word], left: u32) -> Read<'a, RawStep
 
 #[cycle(script)]
 #[tactic(auto, unfolding(crate::specs::Scripts::step_at))]
-fn step<'a>(alloc: Global, words: &'a [Word], left: u32) -> Read<'a, RawStep>
-    ensures { Reads (λ x. (x.0, x.1.now)) result (step_at (block_at left) left words.now) }
+fn step<'a>(alloc: Global, terminals: &'a [Terminal], left: u32) -> Read<'a, RawStep>
+    ensures { Reads (λ x. (x.0, x.1.now)) result (step_at (block_at left) left terminals.now) }
 {
-    let line = first_line(words);
-    let (what, rest) = if begins_with(words, Sign::Split) {
-        split_step(alloc, words, left)?
-    } else if begins_with(words, Sign::Cut) {
-        cut_step(alloc, words, left)?
+    let line = first_line(terminals);
+    let (what, rest) = if begins_with(terminals, Sign::Split) {
+        split_step(alloc, terminals, left)?
+    } else if begins_with(terminals, Sign::Cut) {
+        cut_step(alloc, terminals, left)?
     } else {
-        plain_step(alloc, words, left)?
+        plain_step(alloc, terminals, left)?
     };
     Ok((RawStep { what, line }, rest))
 }
@@ -316,23 +316,23 @@ fn step<'a>(alloc: Global, words: &'a [Word], left: u32) -> Read<'a, RawStep>
 /// A step inside of a block that opens at a level.
 #[cycle(script)]
 #[tactic(auto, using(crate::proofs::Inside::nested_is))]
-fn step_inside<'a>(alloc: Global, words: &'a [Word], left: u32) -> Read<'a, RawStep>
+fn step_inside<'a>(alloc: Global, terminals: &'a [Terminal], left: u32) -> Read<'a, RawStep>
     requires { 0 < left }
-    ensures { Reads (λ x. (x.0, x.1.now)) result (step_at (nested left) (left - 1) words.now) }
+    ensures { Reads (λ x. (x.0, x.1.now)) result (step_at (nested left) (left - 1) terminals.now) }
 {
-    step(alloc, words, left - 1)
+    step(alloc, terminals, left - 1)
 }
 
 /// The steps of a block that opens at a level, up to its closing brace.
 #[cycle(script)]
-#[tactic(auto, unfolding(crate::specs::Scripts::steps, sync_exprs::specs::Lexemes::row))]
-fn steps<'a>(alloc: Global, words: &'a [Word], left: u32) -> Read<'a, Items<RawStep>>
+#[tactic(auto, unfolding(crate::specs::Scripts::steps, sync_parse_exprs::specs::Lexemes::row))]
+fn steps<'a>(alloc: Global, terminals: &'a [Terminal], left: u32) -> Read<'a, Items<RawStep>>
     requires { 0 < left }
-    ensures { Reads (λ x. (x.0, x.1.now)) result (steps (nested left) (left - 1) words.now) }
+    ensures { Reads (λ x. (x.0, x.1.now)) result (steps (nested left) (left - 1) terminals.now) }
 {
     let mut held = Items::new(alloc);
-    let mut rest = words;
-    for _ in 0..words.len() {
+    let mut rest = terminals;
+    for _ in 0..terminals.len() {
         if goes_on(rest) {
             let (item, after) = step_inside(alloc, rest, left)?;
             held.push(item)?;
@@ -346,10 +346,10 @@ fn steps<'a>(alloc: Global, words: &'a [Word], left: u32) -> Read<'a, Items<RawS
 
 #[cycle(script)]
 #[tactic(auto, unfolding(crate::specs::Scripts::block_at))]
-fn block<'a>(alloc: Global, words: &'a [Word], left: u32) -> Read<'a, RawBlock>
-    ensures { Reads (λ x. (x.0, x.1.now)) result (block_at left words.now) }
+fn block<'a>(alloc: Global, terminals: &'a [Terminal], left: u32) -> Read<'a, RawBlock>
+    ensures { Reads (λ x. (x.0, x.1.now)) result (block_at left terminals.now) }
 {
-    let (_, rest) = sign(words, left, Sign::OpenBrace)?;
+    let (_, rest) = sign(terminals, left, Sign::OpenBrace)?;
     let (steps, rest) = steps(alloc, rest, left)?;
     let (end_line, rest) = sign(rest, left - 1, Sign::CloseBrace)?;
     Ok((RawBlock { steps, end_line }, rest))
@@ -357,10 +357,10 @@ fn block<'a>(alloc: Global, words: &'a [Word], left: u32) -> Read<'a, RawBlock>
 
 /// `by` and a block.
 #[tactic(auto, unfolding(crate::specs::Scripts::script_at))]
-pub(crate) fn script<'a>(alloc: Global, words: &'a [Word], left: u32) -> Read<'a, RawScript>
-    ensures { Reads (λ x. (x.0, x.1.now)) result (script_at left words.now) }
+pub(crate) fn script<'a>(alloc: Global, terminals: &'a [Terminal], left: u32) -> Read<'a, RawScript>
+    ensures { Reads (λ x. (x.0, x.1.now)) result (script_at left terminals.now) }
 {
-    let (line, rest) = sign(words, left, Sign::By)?;
+    let (line, rest) = sign(terminals, left, Sign::By)?;
     let (block, rest) = block(alloc, rest, left)?;
     Ok((RawScript { block, line }, rest))
 }

@@ -1,6 +1,6 @@
 //! Proof scripts.
 use sqlite_items::Items;
-use sync_exprs::{Expr, Named, Special};
+use sync_parse_exprs::{Expr, Named, Special};
 
 /// `by` and a block, with the line of `by`.
 #[derive(Debug, Drop)]
@@ -17,7 +17,7 @@ pub struct RawBlock {
     pub end_line: u32,
 }
 
-/// A step, with the line of its first word.
+/// A step, with the line of its first terminal.
 #[derive(Debug, Drop)]
 #[cycle(scripts)]
 pub struct RawStep {

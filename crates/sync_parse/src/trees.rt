@@ -1,9 +1,8 @@
 //! What a text says, with names as numbers and a line wherever a rule on names or limits may want one.
 use crate::scripts::RawScript;
 use sqlite_items::Items;
-use sync_base::NameList;
-use sync_exprs::{Expr, Named};
-use sync_machine::{OpMode, Strategy};
+use sync_base::{NameList, OpMode, Strategy};
+use sync_parse_exprs::{Expr, Named};
 
 /// A machine and its proofs, and the names of the text.
 #[derive(Debug, Drop)]
@@ -31,7 +30,7 @@ pub struct RawField {
     pub line: u32,
 }
 
-/// An operation; the line is that of its first word.
+/// An operation; the line is that of its first terminal.
 #[derive(Debug, Drop)]
 pub struct RawOperation {
     pub mode: OpMode,
@@ -41,7 +40,7 @@ pub struct RawOperation {
     pub line: u32,
 }
 
-/// A statement of an operation; the line is that of its first word.
+/// A statement of an operation; the line is that of its first terminal.
 #[derive(Debug, Drop)]
 pub struct RawAct {
     pub what: RawActKind,

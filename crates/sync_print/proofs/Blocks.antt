@@ -2,8 +2,8 @@
 use Rattle.std.proofs.Common.{◌≡◌, ◌≤◌, ◌<◌, ◌+◌, ℕ, List, [], ◌∷◌, ◌++◌, length, drop, map, get_or, refl, sym, ap, ◌∙◌}
 use Rattle.std.proofs.Math.ListN.{drop_of_length-le}
 use Rattle.sync_base.specs.declared.names.NameList.{NameList}
-use Rattle.sync_exprs.specs.declared.naming.Named.{Named}
-use Rattle.sync_tokens.specs.declared.signs.Sign.TheVariants as sign
+use Rattle.sync_parse_exprs.specs.declared.naming.Named.{Named}
+use Rattle.sync_lex.specs.declared.signs.Sign.TheVariants as sign
 use Rattle.sync_parse.specs.declared.scripts.RawHyp.{RawHyp}
 use Rattle.sync_parse.specs.declared.scripts.RawBlock.{RawBlock, out-RawBlock, fold_out-RawBlock}
 use Rattle.sync_parse.specs.declared.scripts.RawStep.{RawStep, out-RawStep, fold_out-RawStep}

@@ -3,7 +3,7 @@ use Rattle.std.proofs.Common.{◌≡◌, ℕ, ◌==◌, true, false, List, [], �
 use Rattle.std.specs.List.{flat_map}
 use Rattle.std.proofs.lemmas.Bool.{eqb-true}
 use Rattle.sync_base.specs.declared.names.NameList.{NameList}
-use Rattle.sync_tokens.specs.declared.signs.Sign.TheVariants as sign
+use Rattle.sync_lex.specs.declared.signs.Sign.TheVariants as sign
 use Rattle.sync_parse.specs.declared.trees.RawProof.{RawProof}
 use Rattle.sync_print.specs.Texts.{plain_proof}
 use Rattle.sync_print.specs.Lexemes.{one, printed}

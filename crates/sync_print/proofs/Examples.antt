@@ -1,6 +1,6 @@
 -- Some expressions and their canonical lexemes, computed.
 use Rattle.std.proofs.Common.{◌≡◌, List, [], ◌∷◌, refl, pos, negsuc}
-use Rattle.sync_tokens.specs.declared.signs.Sign.TheVariants as sign
+use Rattle.sync_lex.specs.declared.signs.Sign.TheVariants as sign
 use Rattle.sync_print.specs.Exprs.{Plain, number, name, negation, times, two, implies, both, equal, plus, minus}
 use Rattle.sync_print.specs.Lexemes.{Lexeme, a_sign, a_number, a_name, one, one_name, one_number}
 use Rattle.sync_print.specs.ShowExprs.{show_expr}

@@ -1,18 +1,18 @@
 -- What an expression of a kind says, and how it is shown.
 use Rattle.std.proofs.Common.{◌≡◌, ℕ, ℤ, unsigned_abs, List, [], ◌∷◌, ◌++◌, map, refl, sym, ap, ◌∙◌}
-use Rattle.sync_exprs.specs.declared.expressions.Expr.{Expr, fold_out-Expr, roll-Expr}
-use Rattle.sync_exprs.specs.declared.expressions.ExprKind.{ExprKind, fold-ExprKind, fold-roll-ExprKind, roll-ExprKind}
-use Rattle.sync_exprs.specs.declared.expressions.ExprKind.TheViews.{out-Expr}
-use Rattle.sync_exprs.specs.declared.expressions.ExprKind.TheOpen.{ExprKind-F}
-use Rattle.sync_exprs.specs.declared.expressions.ExprKind.TheVariants as kinds
-use Rattle.sync_exprs.specs.declared.expressions.ExprKind.TheVariants.{rolls-Call}
-use Rattle.sync_exprs.specs.declared.expressions.Function.{Function}
-use Rattle.sync_exprs.specs.declared.expressions.Special.{Special}
-use Rattle.sync_exprs.specs.declared.expressions.Operator.{Operator}
-use Rattle.sync_exprs.specs.declared.expressions.Operator.TheVariants as operator
-use Rattle.sync_exprs.specs.declared.naming.Named.{Named}
-use Rattle.sync_tokens.specs.declared.signs.Sign.{Sign}
-use Rattle.sync_tokens.specs.declared.signs.Sign.TheVariants as sign
+use Rattle.sync_parse_exprs.specs.declared.expressions.Expr.{Expr, fold_out-Expr, roll-Expr}
+use Rattle.sync_parse_exprs.specs.declared.expressions.ExprKind.{ExprKind, fold-ExprKind, fold-roll-ExprKind, roll-ExprKind}
+use Rattle.sync_parse_exprs.specs.declared.expressions.ExprKind.TheViews.{out-Expr}
+use Rattle.sync_parse_exprs.specs.declared.expressions.ExprKind.TheOpen.{ExprKind-F}
+use Rattle.sync_parse_exprs.specs.declared.expressions.ExprKind.TheVariants as kinds
+use Rattle.sync_parse_exprs.specs.declared.expressions.ExprKind.TheVariants.{rolls-Call}
+use Rattle.sync_parse_exprs.specs.declared.expressions.Function.{Function}
+use Rattle.sync_parse_exprs.specs.declared.expressions.Special.{Special}
+use Rattle.sync_parse_exprs.specs.declared.expressions.Operator.{Operator}
+use Rattle.sync_parse_exprs.specs.declared.expressions.Operator.TheVariants as operator
+use Rattle.sync_parse_exprs.specs.declared.naming.Named.{Named}
+use Rattle.sync_lex.specs.declared.signs.Sign.{Sign}
+use Rattle.sync_lex.specs.declared.signs.Sign.TheVariants as sign
 use Rattle.sync_print.specs.Exprs.{Plain, number, name, param, nil, special, negation, times, two, minus, call, joined, plain, plain_kind, plain_at, plains_of}
 use Rattle.sync_print.specs.Lexemes.{Lexeme, one, one_name, one_number, listed}
 use Rattle.sync_print.specs.ShowExprs.{shown, all_shown, show_expr, function_sign, before, behind}

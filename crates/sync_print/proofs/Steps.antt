@@ -5,7 +5,7 @@ use Rattle.std.proofs.Math.ListN.{drop_of_length-le}
 use Rattle.std.specs.List.{flat_map}
 use Rattle.std.proofs.lemmas.Grind.{flat_map-append}
 use Rattle.sync_base.specs.declared.names.NameList.{NameList}
-use Rattle.sync_tokens.specs.declared.signs.Sign.TheVariants as sign
+use Rattle.sync_lex.specs.declared.signs.Sign.TheVariants as sign
 use Rattle.sync_print.specs.Lexemes.{Lexeme, written, printed, needed, with_commas}
 
 pub printed-append : (names : NameList) (x y : List Lexeme) → printed names (x ++ y) ≡ printed names x ++ printed names y

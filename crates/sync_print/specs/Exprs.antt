@@ -1,12 +1,12 @@
 -- Plain expressions: what an expression says, apart from how it is written. They have no lines and no brackets; `t != u`
 -- is `!(t = u)`, `-t` is `0 - t`, and a number is its value.
 use Rattle.std.specs.Prelude.{ℕ, List, [], ◌∷◌, unsigned_abs}
-use Rattle.sync_exprs.specs.declared.expressions.Expr.{Expr, fold-Expr}
-use Rattle.sync_exprs.specs.declared.expressions.ExprKind.TheOpen.{ExprKind-F, Expr-F}
-use Rattle.sync_exprs.specs.declared.expressions.Function.{Function}
-use Rattle.sync_exprs.specs.declared.expressions.Special.{Special}
-use Rattle.sync_exprs.specs.declared.expressions.Operator.{Operator}
-use Rattle.sync_exprs.specs.declared.expressions.Operator.TheVariants as operator
+use Rattle.sync_parse_exprs.specs.declared.expressions.Expr.{Expr, fold-Expr}
+use Rattle.sync_parse_exprs.specs.declared.expressions.ExprKind.TheOpen.{ExprKind-F, Expr-F}
+use Rattle.sync_parse_exprs.specs.declared.expressions.Function.{Function}
+use Rattle.sync_parse_exprs.specs.declared.expressions.Special.{Special}
+use Rattle.sync_parse_exprs.specs.declared.expressions.Operator.{Operator}
+use Rattle.sync_parse_exprs.specs.declared.expressions.Operator.TheVariants as operator
 
 -- what joins two plain expressions
 pub data Joint : Type 0 where
@@ -57,7 +57,7 @@ plain_kind (ExprKind-F.Name named) = name named.name
 plain_kind (ExprKind-F.Param line named) = param named.name
 plain_kind ExprKind-F.Nil = nil
 plain_kind (ExprKind-F.Bracketed e) = e
-plain_kind (ExprKind-F.Special word line) = special word
+plain_kind (ExprKind-F.Special terminal line) = special terminal
 plain_kind (ExprKind-F.Call f line args) = call f (plains_of args)
 plain_kind (ExprKind-F.Not e) = negation e
 plain_kind (ExprKind-F.Minus e) = two minus (number 0) e

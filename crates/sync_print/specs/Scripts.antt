@@ -1,8 +1,8 @@
 -- Plain scripts: what a proof script says, without lines.
 use Rattle.std.specs.Prelude.{ℕ, ℤ, List, [], ◌∷◌, map}
-use Rattle.sync_exprs.specs.declared.naming.Named.{Named}
-use Rattle.sync_exprs.specs.declared.expressions.Expr.{Expr}
-use Rattle.sync_exprs.specs.declared.expressions.Special.{Special}
+use Rattle.sync_parse_exprs.specs.declared.naming.Named.{Named}
+use Rattle.sync_parse_exprs.specs.declared.expressions.Expr.{Expr}
+use Rattle.sync_parse_exprs.specs.declared.expressions.Special.{Special}
 use Rattle.sync_parse.specs.declared.scripts.Subject.{Subject}
 use Rattle.sync_parse.specs.declared.scripts.Subject.TheVariants as raw_subject
 use Rattle.sync_parse.specs.declared.scripts.RawHyp.{RawHyp}
@@ -54,7 +54,7 @@ block_of (s ∷ ss) = first s (block_of ss)
 
 abbrev pub plain_subject : Subject → PlainSubject
 plain_subject (raw_subject.Name x) = name x.name
-plain_subject (raw_subject.Special word line) = special word
+plain_subject (raw_subject.Special terminal line) = special terminal
 
 abbrev pub plain_hyp : RawHyp → PlainHyp
 plain_hyp raw.Denied = denied

@@ -4,21 +4,21 @@
 -- `!`. A place wants a level; what is of a lower level stands there in brackets, since the productions would give another tree
 -- or none without them.
 use Rattle.std.specs.Prelude.{ℕ, List, [], ◌∷◌, ◌++◌, nat_lt}
-use Rattle.sync_tokens.specs.declared.signs.Sign.{Sign}
-use Rattle.sync_tokens.specs.declared.signs.Sign.TheVariants as sign
-use Rattle.sync_exprs.specs.declared.expressions.Function.{Function}
-use Rattle.sync_exprs.specs.declared.expressions.Function.TheVariants as function
-use Rattle.sync_exprs.specs.declared.expressions.Special.{Special}
-use Rattle.sync_exprs.specs.declared.expressions.Special.TheVariants as word
+use Rattle.sync_lex.specs.declared.signs.Sign.{Sign}
+use Rattle.sync_lex.specs.declared.signs.Sign.TheVariants as sign
+use Rattle.sync_parse_exprs.specs.declared.expressions.Function.{Function}
+use Rattle.sync_parse_exprs.specs.declared.expressions.Function.TheVariants as function
+use Rattle.sync_parse_exprs.specs.declared.expressions.Special.{Special}
+use Rattle.sync_parse_exprs.specs.declared.expressions.Special.TheVariants as terminal
 use Rattle.sync_print.specs.Exprs.{Joint, implies, either, both, equal, at_most, below, plus, minus, Plain, number, name, param, nil, special, call, negation, times, two, Plains, none, more}
 use Rattle.sync_print.specs.Lexemes.{Lexeme, one, one_name, one_number, needed, listed}
 
 abbrev pub special_sign : Special → Sign
-special_sign word.Value = sign.Value
-special_sign word.Index = sign.Index
-special_sign word.Old = sign.Old
-special_sign word.New = sign.New
-special_sign word.Wrap = sign.Wrap
+special_sign terminal.Value = sign.Value
+special_sign terminal.Index = sign.Index
+special_sign terminal.Old = sign.Old
+special_sign terminal.New = sign.New
+special_sign terminal.Wrap = sign.Wrap
 
 abbrev pub function_sign : Function → Sign
 function_sign function.Get = sign.Get

@@ -1,8 +1,8 @@
 -- The canonical lexemes of a proof script.
 use Rattle.std.specs.Prelude.{ℕ, ℤ, unsigned_abs, List, [], ◌++◌, map, if◌then◌else◌}
 use Rattle.std.specs.Int.{is_negative}
-use Rattle.sync_tokens.specs.declared.signs.Sign.{Sign}
-use Rattle.sync_tokens.specs.declared.signs.Sign.TheVariants as sign
+use Rattle.sync_lex.specs.declared.signs.Sign.{Sign}
+use Rattle.sync_lex.specs.declared.signs.Sign.TheVariants as sign
 use Rattle.sync_print.specs.Exprs.{Plain}
 use Rattle.sync_print.specs.Scripts.{PlainSubject, name, special, PlainHyp, denied, label, at, low, high, PlainPart, PlainStep, same, sum, inst, parts, split, cut, read, size, total, cong, PlainBlock, done, first}
 use Rattle.sync_print.specs.Lexemes.{Lexeme, one, one_name, one_number, in_braces, listed}

@@ -1,10 +1,10 @@
 -- The canonical lexemes of a text.
 use Rattle.std.specs.Prelude.{ℕ, List, [], ◌∷◌, ◌++◌, map}
 use Rattle.std.specs.List.{flat_map}
-use Rattle.sync_machine.specs.declared.fields.OpMode.{OpMode}
-use Rattle.sync_machine.specs.declared.fields.OpMode.TheVariants as mode
-use Rattle.sync_tokens.specs.declared.signs.Sign.{Sign}
-use Rattle.sync_tokens.specs.declared.signs.Sign.TheVariants as sign
+use Rattle.sync_base.specs.declared.strategies.OpMode.{OpMode}
+use Rattle.sync_base.specs.declared.strategies.OpMode.TheVariants as mode
+use Rattle.sync_lex.specs.declared.signs.Sign.{Sign}
+use Rattle.sync_lex.specs.declared.signs.Sign.TheVariants as sign
 use Rattle.sync_print.specs.Exprs.{Plain}
 use Rattle.sync_print.specs.Texts.{PlainPattern, bind, term, PlainPlace, value, key, entry, PlainAct, init, require, assert, update, have_variable, have, guard, add, deposit, remove, withdraw, PlainField, PlainOperation, PlainInvariant, PlainMachine, PlainClaim, keeps, at, PlainProof, PlainText}
 use Rattle.sync_print.specs.Lexemes.{Lexeme, one, one_name, one_number, one_strategy, in_round, listed}
@@ -22,15 +22,15 @@ show_place (value p) = one sign.OpenRound ++ show_pattern p ++ one sign.CloseRou
 show_place (key e) = one sign.OpenSquare ++ show_expr e ++ one sign.CloseSquare
 show_place (entry e p) = one sign.OpenSquare ++ show_expr e ++ one sign.MapsTo ++ show_pattern p ++ one sign.CloseSquare
 
--- a word and a formula
+-- a terminal and a formula
 abbrev pub show_formula_act : Sign → Plain → List Lexeme
 show_formula_act s e = one s ++ show_expr e ++ one sign.Semicolon
 
--- a word, a field and its value
+-- a terminal, a field and its value
 abbrev pub show_value_act : Sign → ℕ → Plain → List Lexeme
 show_value_act s x e = one s ++ one_name x ++ one sign.Equal ++ show_expr e ++ one sign.Semicolon
 
--- a word, a field, a sign and what is said of the field
+-- a terminal, a field, a sign and what is said of the field
 abbrev pub show_place_act : Sign → ℕ → Sign → PlainPlace → List Lexeme
 show_place_act s x symbol p = one s ++ one_name x ++ one symbol ++ show_place p ++ one sign.Semicolon
 

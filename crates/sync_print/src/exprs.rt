@@ -8,8 +8,8 @@ ghost use Rattle.sync_print.specs.ShowExprs.{before, behind, shown, show_expr, f
 use crate::lexemes::{name, needed, number, sign};
 use std::alloc::{AllocError, Global};
 use sync_base::NameList;
-use sync_exprs::{Expr, ExprKind, Function, Operator, Special};
-use sync_tokens::Sign;
+use sync_parse_exprs::{Expr, ExprKind, Function, Operator, Special};
+use sync_lex::Sign;
 
 pub(crate) fn special_sign(special: Special) -> Sign
     ensures { result ≡ special_sign special }

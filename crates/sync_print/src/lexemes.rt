@@ -3,9 +3,8 @@ ghost use Rattle.std.specs.Prelude.{◌≡◌, [], ◌∷◌, ◌++◌, OnOk};
 ghost use Rattle.sync_print.specs.Lexemes.{behind_sign, spelling, printed, one, one_name, one_number, one_strategy, needed as needed_sign};
 
 use std::alloc::{AllocError, Global};
-use sync_base::NameList;
-use sync_machine::Strategy;
-use sync_tokens::{Sign, strategy_name};
+use sync_base::{NameList, Strategy};
+use sync_lex::{Sign, strategy_name};
 
 /// The byte behind a sign.
 fn behind_sign(sign: Sign) -> u8

@@ -11,14 +11,13 @@ use crate::lexemes::{name, needed, number, sign, sign_and_name, sign_and_number,
 use crate::scripts::block;
 use sqlite_items::Items;
 use std::alloc::{AllocError, Global};
-use sync_base::NameList;
-use sync_exprs::{Expr, Named};
-use sync_machine::OpMode;
+use sync_base::{NameList, OpMode};
+use sync_parse_exprs::{Expr, Named};
 use sync_parse::{
     RawAct, RawActKind, RawClaim, RawField, RawInvariant, RawMachine, RawOperation, RawPattern,
     RawPlace, RawProof, RawText,
 };
-use sync_tokens::Sign;
+use sync_lex::Sign;
 
 // ---- statements
 
@@ -99,7 +98,7 @@ fn place(
     }
 }
 
-/// A word and a formula.
+/// A terminal and a formula.
 #[tactic(auto, using(crate::proofs::Steps::joined))]
 fn formula_act(
     alloc: Global,
@@ -116,7 +115,7 @@ fn formula_act(
     Ok(())
 }
 
-/// A word, a field and its value.
+/// A terminal, a field and its value.
 #[tactic(auto, using(crate::proofs::Steps::joined))]
 fn value_act(
     alloc: Global,
@@ -136,7 +135,7 @@ fn value_act(
     Ok(())
 }
 
-/// A word, a field, a sign and what is said of the field.
+/// A terminal, a field, a sign and what is said of the field.
 #[tactic(auto, using(crate::proofs::Steps::joined))]
 fn place_act(
     alloc: Global,

@@ -9,9 +9,9 @@ use crate::exprs::{expr, exprs, magnitude, special_sign};
 use crate::lexemes::{name, needed, number, sign, sign_and_name, sign_and_number};
 use std::alloc::{AllocError, Global};
 use sync_base::NameList;
-use sync_exprs::Expr;
+use sync_parse_exprs::Expr;
 use sync_parse::{RawBlock, RawHyp, RawPart, RawStep, RawStepKind, Subject};
-use sync_tokens::Sign;
+use sync_lex::Sign;
 
 #[tactic(auto, using(crate::proofs::Steps::joined))]
 fn subject(names: &NameList, out: &mut Vec<u8>, subject: Subject) -> Result<(), AllocError>

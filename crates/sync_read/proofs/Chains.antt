@@ -3,7 +3,7 @@ use Rattle.std.proofs.Common.{◌≡◌, Bool, true, false, if◌then◌else◌,
 use Rattle.std.specs.Result.{IfOk}
 use Rattle.sync_base.specs.declared.stops.Refusal.{Refusal}
 use Rattle.sync_base.specs.Outcome.{◌>>=◌, first}
-use Rattle.sync_names.specs.Exprs.{unless}
+use Rattle.sync_read_names.specs.Exprs.{unless}
 
 pub after : {A B E : Type 0} (P : B → Type 0) (r : Result A E) (f : A → Result B E) → ((a : A) → IfOk (f a) P) → IfOk (r >>= f) P
 after P (Ok a) f h = h a

@@ -7,14 +7,14 @@ use Rattle.sync_machine.specs.declared.fields.Field.{Field}
 use Rattle.sync_machine.specs.States.{strategy_at}
 use Rattle.sync_machine.specs.Naming.{broken, at_line, first_fault, is_in, is_field_name, field_fault}
 use Rattle.sync_machine.proofs.Checks.{first_both}
-use Rattle.sync_exprs.specs.declared.naming.Named.{Named}
+use Rattle.sync_parse_exprs.specs.declared.naming.Named.{Named}
 use Rattle.sync_parse.specs.declared.trees.RawField.{RawField}
-use Rattle.sync_names.specs.declared.scopes.Sort.{Sort}
-use Rattle.sync_names.specs.declared.scopes.Meaning.{Meaning}
-use Rattle.sync_names.specs.declared.scopes.Meaning.TheVariants as meaning
-use Rattle.sync_names.specs.declared.scopes.Owner.{Owner}
-use Rattle.sync_names.specs.declared.scopes.Scope.{Scope}
-use Rattle.sync_names.specs.Scopes.{refuse, or_nothing, meaning_of, is_field, if_new, declare}
+use Rattle.sync_read_names.specs.declared.scopes.Sort.{Sort}
+use Rattle.sync_read_names.specs.declared.scopes.Meaning.{Meaning}
+use Rattle.sync_read_names.specs.declared.scopes.Meaning.TheVariants as meaning
+use Rattle.sync_read_names.specs.declared.scopes.Owner.{Owner}
+use Rattle.sync_read_names.specs.declared.scopes.Scope.{Scope}
+use Rattle.sync_read_names.specs.Scopes.{refuse, or_nothing, meaning_of, is_field, if_new, declare}
 use Rattle.sync_read.specs.Acts.{within, strategy_sort, new_field, add_field, fields_from}
 use Rattle.sync_read.proofs.Chains.{after_ok, both}
 use Rattle.sync_read.proofs.Owning.{get_set_here, get_set_other, which, in_cases, name_at, HasRoom, HasFields, Between}

@@ -11,25 +11,25 @@ use Rattle.std.proofs.lemmas.Result.{IfOk-at_ok}
 use Rattle.sync_base.specs.declared.stops.Rule.TheVariants.{N2, N4, N5}
 use Rattle.sync_base.specs.Outcome.{◌>>=◌, first}
 use Rattle.sync_machine.specs.declared.fields.Field.{Field}
-use Rattle.sync_machine.specs.declared.fields.OpMode.{OpMode}
-use Rattle.sync_machine.specs.declared.fields.OpMode.TheVariants as mode
+use Rattle.sync_base.specs.declared.strategies.OpMode.{OpMode}
+use Rattle.sync_base.specs.declared.strategies.OpMode.TheVariants as mode
 use Rattle.sync_machine.specs.Machines.{StepTree, OperationTree, InvariantTree, MachineTree}
 use Rattle.sync_machine.specs.Scope.{knows}
 use Rattle.sync_machine.specs.Naming.{broken, at_line, first_fault, formula_fault, is_in, bound_names, repeated, parameter_fault, step_fault, field_fault, is_field_name, is_operation_name, is_invariant_name, is_taken, start_fault, head_fault, operation_fault, invariant_rule, invariant_fault, machine_fault}
 use Rattle.sync_machine.specs.Naming as naming
 use Rattle.sync_machine.proofs.Checks.{list_any_view}
-use Rattle.sync_exprs.specs.declared.naming.Named.{Named}
+use Rattle.sync_parse_exprs.specs.declared.naming.Named.{Named}
 use Rattle.sync_parse.specs.declared.trees.RawAct.{RawAct}
 use Rattle.sync_parse.specs.declared.trees.RawOperation.{RawOperation}
 use Rattle.sync_parse.specs.declared.trees.RawInvariant.{RawInvariant}
 use Rattle.sync_parse.specs.declared.trees.RawMachine.{RawMachine}
-use Rattle.sync_names.specs.declared.scopes.Meaning.{Meaning}
-use Rattle.sync_names.specs.declared.scopes.Meaning.TheVariants as meaning
-use Rattle.sync_names.specs.declared.scopes.Owner.{Owner}
-use Rattle.sync_names.specs.declared.scopes.Owner.TheVariants as owner
-use Rattle.sync_names.specs.declared.scopes.Scope.{Scope}
-use Rattle.sync_names.specs.Scopes.{or_nothing, declare, flag, has_owner, or_unowned, is_field}
-use Rattle.sync_names.specs.Exprs.{form_of}
+use Rattle.sync_read_names.specs.declared.scopes.Meaning.{Meaning}
+use Rattle.sync_read_names.specs.declared.scopes.Meaning.TheVariants as meaning
+use Rattle.sync_read_names.specs.declared.scopes.Owner.{Owner}
+use Rattle.sync_read_names.specs.declared.scopes.Owner.TheVariants as owner
+use Rattle.sync_read_names.specs.declared.scopes.Scope.{Scope}
+use Rattle.sync_read_names.specs.Scopes.{or_nothing, declare, flag, has_owner, or_unowned, is_field}
+use Rattle.sync_read_names.specs.Exprs.{form_of}
 use Rattle.sync_read.specs.Acts.{within, fields_from, params_from, steps_from}
 use Rattle.sync_read.specs.Resolving.{start_count, starts_once, is_started, begin_operation, operation_in, operations_from, begin_invariant, invariant_in, invariants_from, machine_in}
 use Rattle.sync_parse.specs.declared.trees.RawText.{RawText}

@@ -13,19 +13,19 @@ use Rattle.sync_machine.specs.declared.machine.Operation.{Operation}
 use Rattle.sync_machine.specs.declared.machine.Invariant.{Invariant}
 use Rattle.sync_machine.specs.Machines.{ActTree, StepTree, OperationTree, InvariantTree}
 use Rattle.sync_machine.specs.Views.{act_tree, step_tree, steps_tree, operation_tree, invariant_tree, HasActIds}
-use Rattle.sync_exprs.specs.declared.expressions.Expr.{Expr}
+use Rattle.sync_parse_exprs.specs.declared.expressions.Expr.{Expr}
 use Rattle.sync_parse.specs.declared.trees.RawAct.{RawAct}
 use Rattle.sync_parse.specs.declared.trees.RawOperation.{RawOperation}
 use Rattle.sync_parse.specs.declared.trees.RawInvariant.{RawInvariant}
 use Rattle.sync_parse.specs.declared.trees.RawProof.{RawProof}
-use Rattle.sync_induct.specs.declared.proofs.Proof.{Proof}
-use Rattle.sync_names.specs.declared.scopes.Scope.{Scope}
-use Rattle.sync_names.specs.declared.scopes.Sort.TheVariants as sort
-use Rattle.sync_names.specs.Exprs.{term_of}
+use Rattle.sync_terms.specs.declared.proofs.Proof.{Proof}
+use Rattle.sync_read_names.specs.declared.scopes.Scope.{Scope}
+use Rattle.sync_read_names.specs.declared.scopes.Sort.TheVariants as sort
+use Rattle.sync_read_names.specs.Exprs.{term_of}
 use Rattle.sync_read.specs.Acts.{within, act_in, steps_from}
 use Rattle.sync_read.specs.Owned.{HasOperationIds}
 use Rattle.sync_read.specs.Resolving.{operation_in, operations_from, invariant_in, invariants_from}
-use Rattle.sync_induct.specs.Checks.{ProofTree, proof_in as stored_proof}
+use Rattle.sync_terms.specs.Proofs.{ProofTree, proof_in as stored_proof}
 use Rattle.sync_read.specs.Scripts.{numbers_from, thens_from, proof_in, proofs_from}
 use Rattle.sync_read.proofs.Steps.{steps_kept}
 use Rattle.sync_read.proofs.Growing.{operations_kept, invariants_kept}

@@ -8,21 +8,21 @@ use Rattle.std.proofs.lemmas.Option.{slice_get_within}
 use Rattle.std.proofs.lemmas.List.Folds.{list_any-append}
 use Rattle.sync_base.specs.declared.stops.Rule.TheVariants.{N2}
 use Rattle.sync_machine.specs.declared.fields.Field.{Field}
-use Rattle.sync_machine.specs.declared.fields.Strategy.{Strategy}
-use Rattle.sync_machine.specs.declared.fields.Strategy.TheVariants.{Variable, Constant, NotTokenized, Option as OptionField, Map, Set, Multiset, Count, PersistentOption, PersistentMap, PersistentSet, PersistentCount, StorageMap}
+use Rattle.sync_base.specs.declared.strategies.Strategy.{Strategy}
+use Rattle.sync_base.specs.declared.strategies.Strategy.TheVariants.{Variable, Constant, NotTokenized, Option as OptionField, Map, Set, Multiset, Count, PersistentOption, PersistentMap, PersistentSet, PersistentCount, StorageMap}
 use Rattle.sync_machine.specs.States.{Sort as Values, Numbers, Maps, sort_of, strategy_at}
 use Rattle.sync_machine.specs.Scope.{knows}
 use Rattle.sync_machine.specs.Naming.{is_in, is_fields, repeated, broken}
-use Rattle.sync_exprs.specs.declared.naming.Named.{Named}
-use Rattle.sync_names.specs.declared.scopes.Sort.{Sort}
-use Rattle.sync_names.specs.declared.scopes.Sort.TheVariants as sort
-use Rattle.sync_names.specs.declared.scopes.Meaning.{Meaning}
-use Rattle.sync_names.specs.declared.scopes.Meaning.TheVariants as meaning
-use Rattle.sync_names.specs.declared.scopes.Owners.{Owners}
-use Rattle.sync_names.specs.declared.scopes.Owner.{Owner}
-use Rattle.sync_names.specs.declared.scopes.Owner.TheVariants as owner
-use Rattle.sync_names.specs.declared.scopes.Scope.{Scope}
-use Rattle.sync_names.specs.Scopes.{refuse, symbol_of, or_nothing, meaning_of, flag, with_flag, has_owner, with_owner, or_unowned, is_owned, is_local, is_field, is_taken, own_more, own, knows_params}
+use Rattle.sync_parse_exprs.specs.declared.naming.Named.{Named}
+use Rattle.sync_read_names.specs.declared.scopes.Sort.{Sort}
+use Rattle.sync_read_names.specs.declared.scopes.Sort.TheVariants as sort
+use Rattle.sync_read_names.specs.declared.scopes.Meaning.{Meaning}
+use Rattle.sync_read_names.specs.declared.scopes.Meaning.TheVariants as meaning
+use Rattle.sync_read_names.specs.declared.scopes.Owners.{Owners}
+use Rattle.sync_read_names.specs.declared.scopes.Owner.{Owner}
+use Rattle.sync_read_names.specs.declared.scopes.Owner.TheVariants as owner
+use Rattle.sync_read_names.specs.declared.scopes.Scope.{Scope}
+use Rattle.sync_read_names.specs.Scopes.{refuse, symbol_of, or_nothing, meaning_of, flag, with_flag, has_owner, with_owner, or_unowned, is_owned, is_local, is_field, is_taken, own_more, own, knows_params}
 use Rattle.sync_read.specs.Acts.{strategy_sort}
 use Rattle.sync_read.proofs.Sorted.{Agrees}
 

@@ -17,8 +17,8 @@ use Rattle.sync_terms.specs.declared.scripts.StepKind.TheOpen.{StepKind-F}
 use Rattle.sync_terms.specs.declared.scripts.StepKind.TheVariants as made
 use Rattle.sync_terms.specs.declared.scripts.StepKind.TheVariants.{rolls-Sum as made-Sum, rolls-Inst as made-Inst, rolls-Parts as made-Parts, rolls-Split as made-Split, rolls-Cut as made-Cut}
 use Rattle.sync_terms.specs.Plans.{Plan, Sum, Inst, Parts, Split, Cut, End, Then, kind_plan, block_plan, step_plan, steps_before, plan_of}
-use Rattle.sync_exprs.specs.declared.expressions.Expr.{Expr}
-use Rattle.sync_exprs.specs.declared.naming.Named.{Named}
+use Rattle.sync_parse_exprs.specs.declared.expressions.Expr.{Expr}
+use Rattle.sync_parse_exprs.specs.declared.naming.Named.{Named}
 use Rattle.sync_parse.specs.declared.scripts.RawHyp.{RawHyp}
 use Rattle.sync_parse.specs.declared.scripts.RawPart.{RawPart}
 use Rattle.sync_parse.specs.declared.scripts.RawBlock.{RawBlock, out-RawBlock, fold_out-RawBlock}
@@ -27,8 +27,8 @@ use Rattle.sync_parse.specs.declared.scripts.RawStepKind.{RawStepKind, fold-RawS
 use Rattle.sync_parse.specs.declared.scripts.RawStepKind.TheOpen.{RawStepKind-F}
 use Rattle.sync_parse.specs.declared.scripts.RawStepKind.TheVariants as raw
 use Rattle.sync_parse.specs.declared.scripts.RawStepKind.TheVariants.{rolls-Sum, rolls-Inst, rolls-Parts, rolls-Split, rolls-Cut}
-use Rattle.sync_names.specs.declared.scopes.Scope.{Scope}
-use Rattle.sync_names.specs.Exprs.{form_of}
+use Rattle.sync_read_names.specs.declared.scopes.Scope.{Scope}
+use Rattle.sync_read_names.specs.Exprs.{form_of}
 use Rattle.sync_read.proofs.Going.{front}
 use Rattle.sync_read.specs.Scripts.{Kind, hyp_in, parts_from, numbers_from, kind_in, thens_from, block_in, step_in, block_of, step_of, then_of}
 

@@ -10,22 +10,22 @@ use Rattle.sync_terms.specs.Trees as trees
 use Rattle.sync_machine.specs.States.{Numbers, Maps}
 use Rattle.sync_machine.specs.Scope.{Known}
 use Rattle.sync_machine.specs.Naming.{sort_fault, number_fault, map_fault, formula_fault}
-use Rattle.sync_exprs.specs.declared.expressions.Special.{Special}
-use Rattle.sync_exprs.specs.declared.naming.Named.{Named}
-use Rattle.sync_exprs.specs.declared.expressions.Expr.{Expr, ind-Expr, map-Expr, roll-Expr, fold-roll-Expr}
-use Rattle.sync_exprs.specs.declared.expressions.ExprKind.{ExprKind, fold-ExprKind, fold-roll-ExprKind, roll-ExprKind, map-ExprKind}
-use Rattle.sync_exprs.specs.declared.expressions.ExprKind.TheOpen.{ExprKind-F, Expr-F}
-use Rattle.sync_exprs.specs.declared.expressions.Function.{Function}
-use Rattle.sync_exprs.specs.declared.expressions.Function.TheVariants as function
-use Rattle.sync_exprs.specs.declared.expressions.Operator.{Operator}
-use Rattle.sync_exprs.specs.declared.expressions.Operator.TheVariants as operator
-use Rattle.sync_names.specs.declared.scopes.Sort.{Sort}
-use Rattle.sync_names.specs.declared.scopes.Sort.TheVariants as sort
-use Rattle.sync_names.specs.declared.scopes.Meaning.{Meaning}
-use Rattle.sync_names.specs.declared.scopes.Meaning.TheVariants.{Nothing, Field, Operation, Invariant}
-use Rattle.sync_names.specs.declared.scopes.Scope.{Scope}
-use Rattle.sync_names.specs.Scopes.{refuse, symbol_of, param_symbol_of, meaning_of, is_local, is_owned, knows_params, field_sort, field_symbol}
-use Rattle.sync_names.specs.Exprs.{Reading, clashes, misfit, term_as, form_as, pair_as, forms_as, two_in, argument, map_and_key, map_and_two, applied, call_fault, call_term, two_terms, two_forms, compared, Kind, kind_reading, expr_reading, reading, start_fault, term_of, form_of}
+use Rattle.sync_parse_exprs.specs.declared.expressions.Special.{Special}
+use Rattle.sync_parse_exprs.specs.declared.naming.Named.{Named}
+use Rattle.sync_parse_exprs.specs.declared.expressions.Expr.{Expr, ind-Expr, map-Expr, roll-Expr, fold-roll-Expr}
+use Rattle.sync_parse_exprs.specs.declared.expressions.ExprKind.{ExprKind, fold-ExprKind, fold-roll-ExprKind, roll-ExprKind, map-ExprKind}
+use Rattle.sync_parse_exprs.specs.declared.expressions.ExprKind.TheOpen.{ExprKind-F, Expr-F}
+use Rattle.sync_parse_exprs.specs.declared.expressions.Function.{Function}
+use Rattle.sync_parse_exprs.specs.declared.expressions.Function.TheVariants as function
+use Rattle.sync_parse_exprs.specs.declared.expressions.Operator.{Operator}
+use Rattle.sync_parse_exprs.specs.declared.expressions.Operator.TheVariants as operator
+use Rattle.sync_read_names.specs.declared.scopes.Sort.{Sort}
+use Rattle.sync_read_names.specs.declared.scopes.Sort.TheVariants as sort
+use Rattle.sync_read_names.specs.declared.scopes.Meaning.{Meaning}
+use Rattle.sync_read_names.specs.declared.scopes.Meaning.TheVariants.{Nothing, Field, Operation, Invariant}
+use Rattle.sync_read_names.specs.declared.scopes.Scope.{Scope}
+use Rattle.sync_read_names.specs.Scopes.{refuse, symbol_of, param_symbol_of, meaning_of, is_local, is_owned, knows_params, field_sort, field_symbol}
+use Rattle.sync_read_names.specs.Exprs.{Reading, clashes, misfit, term_as, form_as, pair_as, forms_as, two_in, argument, map_and_key, map_and_two, applied, call_fault, call_term, two_terms, two_forms, compared, Kind, kind_reading, expr_reading, reading, start_fault, term_of, form_of}
 use Rattle.sync_read.proofs.Chains.{after_ok, unless_ok, both}
 
 -- the refusal does not matter

@@ -10,15 +10,15 @@ use Rattle.sync_base.specs.declared.stops.Rule.TheVariants.{N1, N5}
 use Rattle.sync_base.specs.Outcome.{first}
 use Rattle.sync_terms.specs.Trees.{Tree}
 use Rattle.sync_machine.specs.declared.fields.Field.{Field}
-use Rattle.sync_machine.specs.declared.fields.Strategy.{Strategy}
-use Rattle.sync_machine.specs.declared.fields.Strategy.TheVariants.{Variable, Constant, NotTokenized, Option as OptionField, Map, Set, Multiset, Count, PersistentOption, PersistentMap, PersistentSet, PersistentCount, StorageMap}
+use Rattle.sync_base.specs.declared.strategies.Strategy.{Strategy}
+use Rattle.sync_base.specs.declared.strategies.Strategy.TheVariants.{Variable, Constant, NotTokenized, Option as OptionField, Map, Set, Multiset, Count, PersistentOption, PersistentMap, PersistentSet, PersistentCount, StorageMap}
 use Rattle.sync_machine.specs.Machines.{PatternTree, PlaceTree, ActTree, StepTree}
 use Rattle.sync_machine.specs.Statements.{binds, bound_in}
 use Rattle.sync_machine.specs.States.{sort_of, strategy_at}
 use Rattle.sync_machine.specs.Scope.{Known, knows}
 use Rattle.sync_machine.specs.Naming.{broken, at_line, first_fault, number_fault, formula_fault, value_fault, bound_by, bound_names, repeated, unknown_field, key_fault, pattern_fault, on_place, on_value, act_fault, step_fault, initialises, parameter_fault}
-use Rattle.sync_exprs.specs.declared.expressions.Expr.{Expr}
-use Rattle.sync_exprs.specs.declared.naming.Named.{Named}
+use Rattle.sync_parse_exprs.specs.declared.expressions.Expr.{Expr}
+use Rattle.sync_parse_exprs.specs.declared.naming.Named.{Named}
 use Rattle.sync_parse.specs.declared.trees.RawPattern.{RawPattern}
 use Rattle.sync_parse.specs.declared.trees.RawPattern.TheVariants as pattern
 use Rattle.sync_parse.specs.declared.trees.RawPlace.{RawPlace}
@@ -26,14 +26,14 @@ use Rattle.sync_parse.specs.declared.trees.RawPlace.TheVariants as place
 use Rattle.sync_parse.specs.declared.trees.RawActKind.{RawActKind}
 use Rattle.sync_parse.specs.declared.trees.RawActKind.TheVariants as raw
 use Rattle.sync_parse.specs.declared.trees.RawAct.{RawAct}
-use Rattle.sync_names.specs.declared.scopes.Sort.{Sort}
-use Rattle.sync_names.specs.declared.scopes.Sort.TheVariants as sort
-use Rattle.sync_names.specs.declared.scopes.Meaning.{Meaning}
-use Rattle.sync_names.specs.declared.scopes.Meaning.TheVariants as meaning
-use Rattle.sync_names.specs.declared.scopes.Owner.{Owner}
-use Rattle.sync_names.specs.declared.scopes.Scope.{Scope}
-use Rattle.sync_names.specs.Scopes.{symbol_of, meaning_of, own}
-use Rattle.sync_names.specs.Exprs.{term_of, form_of}
+use Rattle.sync_read_names.specs.declared.scopes.Sort.{Sort}
+use Rattle.sync_read_names.specs.declared.scopes.Sort.TheVariants as sort
+use Rattle.sync_read_names.specs.declared.scopes.Meaning.{Meaning}
+use Rattle.sync_read_names.specs.declared.scopes.Meaning.TheVariants as meaning
+use Rattle.sync_read_names.specs.declared.scopes.Owner.{Owner}
+use Rattle.sync_read_names.specs.declared.scopes.Scope.{Scope}
+use Rattle.sync_read_names.specs.Scopes.{symbol_of, meaning_of, own}
+use Rattle.sync_read_names.specs.Exprs.{term_of, form_of}
 use Rattle.sync_read.specs.Acts.{within, strategy_sort, add_param, params_from, field_meaning, field_in, pattern_in, place_in, field_term, field_place, act_in, steps_from}
 use Rattle.sync_read.specs.Resolving.{starts, start_count}
 use Rattle.sync_read.proofs.Chains.{after_ok, both, weaker}

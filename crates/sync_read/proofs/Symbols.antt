@@ -9,7 +9,7 @@ use Rattle.sync_machine.specs.Machines.{PatternTree, PlaceTree, ActTree, StepTre
 use Rattle.sync_machine.specs.Machines as machines
 use Rattle.sync_machine.specs.Statements.{binds}
 use Rattle.sync_machine.specs.Naming.{IsTextName, BindsTextName, bound_by, HasTextNames, AreTextNames}
-use Rattle.sync_exprs.specs.declared.naming.Named.{Named}
+use Rattle.sync_parse_exprs.specs.declared.naming.Named.{Named}
 use Rattle.sync_parse.specs.declared.trees.RawPattern.{RawPattern}
 use Rattle.sync_parse.specs.declared.trees.RawPattern.TheVariants as pattern
 use Rattle.sync_parse.specs.declared.trees.RawPlace.{RawPlace}
@@ -20,10 +20,10 @@ use Rattle.sync_parse.specs.declared.trees.RawAct.{RawAct}
 use Rattle.sync_parse.specs.declared.trees.RawOperation.{RawOperation}
 use Rattle.sync_parse.specs.declared.trees.RawInvariant.{RawInvariant}
 use Rattle.sync_parse.specs.declared.trees.RawMachine.{RawMachine}
-use Rattle.sync_names.specs.declared.scopes.Scope.{Scope}
-use Rattle.sync_names.specs.Scopes.{symbol_of, own}
-use Rattle.sync_names.specs.Exprs.{term_of, form_of}
-use Rattle.sync_names.specs.declared.scopes.Sort.TheVariants as sort
+use Rattle.sync_read_names.specs.declared.scopes.Scope.{Scope}
+use Rattle.sync_read_names.specs.Scopes.{symbol_of, own}
+use Rattle.sync_read_names.specs.Exprs.{term_of, form_of}
+use Rattle.sync_read_names.specs.declared.scopes.Sort.TheVariants as sort
 use Rattle.sync_read.specs.Acts.{within, add_param, params_from, field_in, pattern_in, place_in, field_term, field_place, act_in, steps_from, fields_from}
 use Rattle.sync_read.proofs.Chains.{after, after_ok}
 use Rattle.sync_read.specs.Resolving.{begin_operation, operation_in, operations_from, begin_invariant, invariant_in, invariants_from, machine_in}

@@ -10,16 +10,16 @@ use Rattle.sync_machine.specs.declared.machine.Machine.{Machine}
 use Rattle.sync_machine.specs.Machines.{MachineTree, OperationTree, InvariantTree}
 use Rattle.sync_machine.specs.Views.{operation_tree, invariant_tree, machine_tree, HasOwnIds}
 use Rattle.sync_machine.specs.Naming.{machine_fault, AreTextNames}
-use Rattle.sync_rules.specs.declared.claims.Claim.{Claim}
+use Rattle.sync_terms.specs.declared.proofs.Claim.{Claim}
 use Rattle.sync_parse.specs.declared.trees.RawProof.{RawProof}
 use Rattle.sync_parse.specs.declared.trees.RawText.{RawText}
-use Rattle.sync_names.specs.declared.scopes.Scope.{Scope}
-use Rattle.sync_names.specs.Scopes.{meaning_of}
+use Rattle.sync_read_names.specs.declared.scopes.Scope.{Scope}
+use Rattle.sync_read_names.specs.Scopes.{meaning_of}
 use Rattle.sync_read.specs.Acts.{within}
 use Rattle.sync_read.specs.Resolving.{machine_in}
-use Rattle.sync_induct.specs.declared.proofs.Proof.{Proof}
-use Rattle.sync_induct.specs.Checks.{ProofTree, AreScriptsOf}
-use Rattle.sync_induct.specs.Checks.{proof_in as stored_proof}
+use Rattle.sync_terms.specs.declared.proofs.Proof.{Proof}
+use Rattle.sync_terms.specs.Proofs.{ProofTree, AreScriptsOf}
+use Rattle.sync_terms.specs.Proofs.{proof_in as stored_proof}
 use Rattle.sync_terms.proofs.Extending.{Extends-refl}
 use Rattle.sync_read.specs.Scripts.{operation_meaning, claim_in, script_scope, block_of, proof_in, proofs_from}
 use Rattle.sync_read.specs.Texts.{first_scope, resolved}

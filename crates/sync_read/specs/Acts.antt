@@ -5,12 +5,12 @@ use Rattle.sync_base.specs.declared.stops.Rule.TheVariants.{N1, N5}
 use Rattle.sync_base.specs.Outcome.{◌>>=◌}
 use Rattle.sync_terms.specs.Trees.{Tree}
 use Rattle.sync_machine.specs.declared.fields.Field.{Field}
-use Rattle.sync_machine.specs.declared.fields.Strategy.{Strategy}
-use Rattle.sync_machine.specs.declared.fields.Strategy.TheVariants.{Variable, Constant, NotTokenized, Option as OptionField, Map, Set, Multiset, Count, PersistentOption, PersistentMap, PersistentSet, PersistentCount, StorageMap}
+use Rattle.sync_base.specs.declared.strategies.Strategy.{Strategy}
+use Rattle.sync_base.specs.declared.strategies.Strategy.TheVariants.{Variable, Constant, NotTokenized, Option as OptionField, Map, Set, Multiset, Count, PersistentOption, PersistentMap, PersistentSet, PersistentCount, StorageMap}
 use Rattle.sync_machine.specs.Machines.{PatternTree, PlaceTree, ActTree, StepTree}
 use Rattle.sync_machine.specs.Machines as machines
-use Rattle.sync_exprs.specs.declared.expressions.Expr.{Expr}
-use Rattle.sync_exprs.specs.declared.naming.Named.{Named}
+use Rattle.sync_parse_exprs.specs.declared.expressions.Expr.{Expr}
+use Rattle.sync_parse_exprs.specs.declared.naming.Named.{Named}
 use Rattle.sync_parse.specs.declared.trees.RawField.{RawField}
 use Rattle.sync_parse.specs.declared.trees.RawPattern.{RawPattern}
 use Rattle.sync_parse.specs.declared.trees.RawPattern.TheVariants as pattern
@@ -19,13 +19,13 @@ use Rattle.sync_parse.specs.declared.trees.RawPlace.TheVariants as place
 use Rattle.sync_parse.specs.declared.trees.RawActKind.{RawActKind}
 use Rattle.sync_parse.specs.declared.trees.RawActKind.TheVariants as raw
 use Rattle.sync_parse.specs.declared.trees.RawAct.{RawAct}
-use Rattle.sync_names.specs.declared.scopes.Sort.{Sort}
-use Rattle.sync_names.specs.declared.scopes.Sort.TheVariants as sort
-use Rattle.sync_names.specs.declared.scopes.Meaning.{Meaning}
-use Rattle.sync_names.specs.declared.scopes.Meaning.TheVariants as meaning
-use Rattle.sync_names.specs.declared.scopes.Scope.{Scope}
-use Rattle.sync_names.specs.Scopes.{refuse, declare, own, symbol_of, meaning_of}
-use Rattle.sync_names.specs.Exprs.{term_of, form_of}
+use Rattle.sync_read_names.specs.declared.scopes.Sort.{Sort}
+use Rattle.sync_read_names.specs.declared.scopes.Sort.TheVariants as sort
+use Rattle.sync_read_names.specs.declared.scopes.Meaning.{Meaning}
+use Rattle.sync_read_names.specs.declared.scopes.Meaning.TheVariants as meaning
+use Rattle.sync_read_names.specs.declared.scopes.Scope.{Scope}
+use Rattle.sync_read_names.specs.Scopes.{refuse, declare, own, symbol_of, meaning_of}
+use Rattle.sync_read_names.specs.Exprs.{term_of, form_of}
 
 -- at most so many come before
 abbrev pub within : ℕ → ℕ → ℕ → Result ℕ Refusal

@@ -4,8 +4,8 @@ use Rattle.sync_base.specs.declared.stops.Refusal.{Refusal}
 use Rattle.sync_base.specs.declared.stops.Rule.TheVariants.{N4}
 use Rattle.sync_base.specs.Outcome.{◌>>=◌}
 use Rattle.sync_machine.specs.declared.fields.Field.{Field}
-use Rattle.sync_machine.specs.declared.fields.OpMode.{OpMode}
-use Rattle.sync_machine.specs.declared.fields.OpMode.TheVariants as mode
+use Rattle.sync_base.specs.declared.strategies.OpMode.{OpMode}
+use Rattle.sync_base.specs.declared.strategies.OpMode.TheVariants as mode
 use Rattle.sync_machine.specs.Machines.{OperationTree, InvariantTree, MachineTree}
 use Rattle.sync_parse.specs.declared.trees.RawActKind.{RawActKind}
 use Rattle.sync_parse.specs.declared.trees.RawActKind.TheVariants as raw
@@ -13,11 +13,11 @@ use Rattle.sync_parse.specs.declared.trees.RawAct.{RawAct}
 use Rattle.sync_parse.specs.declared.trees.RawOperation.{RawOperation}
 use Rattle.sync_parse.specs.declared.trees.RawInvariant.{RawInvariant}
 use Rattle.sync_parse.specs.declared.trees.RawMachine.{RawMachine}
-use Rattle.sync_names.specs.declared.scopes.Meaning.TheVariants as meaning
-use Rattle.sync_names.specs.declared.scopes.Owner.TheVariants as owner
-use Rattle.sync_names.specs.declared.scopes.Scope.{Scope}
-use Rattle.sync_names.specs.Scopes.{refuse, declare}
-use Rattle.sync_names.specs.Exprs.{form_of}
+use Rattle.sync_read_names.specs.declared.scopes.Meaning.TheVariants as meaning
+use Rattle.sync_read_names.specs.declared.scopes.Owner.TheVariants as owner
+use Rattle.sync_read_names.specs.declared.scopes.Scope.{Scope}
+use Rattle.sync_read_names.specs.Scopes.{refuse, declare}
+use Rattle.sync_read_names.specs.Exprs.{form_of}
 use Rattle.sync_read.specs.Acts.{within, fields_from, params_from, steps_from}
 
 -- a statement gives the field of this name its first value

@@ -10,10 +10,10 @@ use Rattle.sync_terms.specs.declared.scripts.HypName.TheVariants as name
 use Rattle.sync_terms.specs.declared.scripts.Part.{Part}
 use Rattle.sync_terms.specs.declared.scripts.ScriptStep.{ScriptStep, fold-ScriptStep}
 use Rattle.sync_terms.specs.Plans.{Plan, Same, Sum, Inst, Parts, Split, Cut, Read, Size, Total, Cong, End, Then, kind_plan, block_plan, step_plan, steps_before}
-use Rattle.sync_rules.specs.declared.claims.Claim.{Claim}
-use Rattle.sync_rules.specs.declared.claims.Claim.TheVariants as claim
-use Rattle.sync_induct.specs.Checks.{ProofTree}
-use Rattle.sync_exprs.specs.declared.expressions.Expr.{Expr}
+use Rattle.sync_terms.specs.declared.proofs.Claim.{Claim}
+use Rattle.sync_terms.specs.declared.proofs.Claim.TheVariants as claim
+use Rattle.sync_terms.specs.Proofs.{ProofTree}
+use Rattle.sync_parse_exprs.specs.declared.expressions.Expr.{Expr}
 use Rattle.sync_parse.specs.declared.scripts.RawHyp.{RawHyp}
 use Rattle.sync_parse.specs.declared.scripts.RawHyp.TheVariants as hyp
 use Rattle.sync_parse.specs.declared.scripts.Subject.{Subject}
@@ -25,14 +25,14 @@ use Rattle.sync_parse.specs.declared.scripts.RawStepKind.TheOpen.{RawStepKind-F,
 use Rattle.sync_parse.specs.declared.trees.RawClaim.{RawClaim}
 use Rattle.sync_parse.specs.declared.trees.RawClaim.TheVariants as raw
 use Rattle.sync_parse.specs.declared.trees.RawProof.{RawProof}
-use Rattle.sync_names.specs.declared.scopes.Sort.TheVariants as sort
-use Rattle.sync_names.specs.declared.scopes.Owner.{Owner}
-use Rattle.sync_names.specs.declared.scopes.Owner.TheVariants as owner
-use Rattle.sync_names.specs.declared.scopes.Meaning.{Meaning}
-use Rattle.sync_names.specs.declared.scopes.Meaning.TheVariants as meaning
-use Rattle.sync_names.specs.declared.scopes.Scope.{Scope}
-use Rattle.sync_names.specs.Scopes.{refuse, meaning_of}
-use Rattle.sync_names.specs.Exprs.{term_of, form_of}
+use Rattle.sync_read_names.specs.declared.scopes.Sort.TheVariants as sort
+use Rattle.sync_read_names.specs.declared.scopes.Owner.{Owner}
+use Rattle.sync_read_names.specs.declared.scopes.Owner.TheVariants as owner
+use Rattle.sync_read_names.specs.declared.scopes.Meaning.{Meaning}
+use Rattle.sync_read_names.specs.declared.scopes.Meaning.TheVariants as meaning
+use Rattle.sync_read_names.specs.declared.scopes.Scope.{Scope}
+use Rattle.sync_read_names.specs.Scopes.{refuse, meaning_of}
+use Rattle.sync_read_names.specs.Exprs.{term_of, form_of}
 use Rattle.sync_read.specs.Acts.{within}
 
 abbrev pub subject_line : Subject → ℕ

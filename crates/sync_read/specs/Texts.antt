@@ -6,13 +6,13 @@ use Rattle.sync_base.specs.Outcome.{◌>>=◌}
 use Rattle.sync_machine.specs.Machines.{MachineTree}
 use Rattle.sync_machine.specs.Views.{machine_tree}
 use Rattle.sync_parse.specs.declared.trees.RawText.{RawText}
-use Rattle.sync_names.specs.declared.scopes.Meaning.TheVariants.{Nothing}
-use Rattle.sync_names.specs.declared.scopes.Owners.{Owners}
-use Rattle.sync_names.specs.declared.scopes.Owner.TheVariants.{Nobody}
-use Rattle.sync_names.specs.declared.scopes.Scope.{Scope}
+use Rattle.sync_read_names.specs.declared.scopes.Meaning.TheVariants.{Nothing}
+use Rattle.sync_read_names.specs.declared.scopes.Owners.{Owners}
+use Rattle.sync_read_names.specs.declared.scopes.Owner.TheVariants.{Nobody}
+use Rattle.sync_read_names.specs.declared.scopes.Scope.{Scope}
 use Rattle.sync_read.specs.declared.texts.Text.{Text}
 use Rattle.sync_read.specs.Resolving.{machine_in}
-use Rattle.sync_induct.specs.Checks.{ProofTree, proofs_in}
+use Rattle.sync_terms.specs.Proofs.{ProofTree, proofs_in}
 use Rattle.sync_read.specs.Scripts.{proofs_from}
 
 pub record TextTree : Type 0 where

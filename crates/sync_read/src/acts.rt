@@ -11,9 +11,9 @@ ghost use Rattle.sync_read.specs.Acts.{strategy_sort, within, add_field, fields_
 use sqlite_items::Items;
 use std::alloc::Global;
 use sync_base::{Rule, Stop};
-use sync_exprs::{Expr, Named};
+use sync_parse_exprs::{Expr, Named};
 use sync_machine::{Act, Field, Pattern, Place, Step, Strategy};
-use sync_names::{Meaning, Scope, Sort, form_of, refused, symbol_of, term_of};
+use sync_read_names::{Meaning, Scope, Sort, form_of, refused, symbol_of, term_of};
 use sync_parse::{RawAct, RawActKind, RawField, RawPattern, RawPlace};
 use sync_terms::{Sym, TermId, Terms};
 
@@ -136,7 +136,7 @@ fn pattern(terms: &mut Terms, scope: &mut Scope, raw: &RawPattern) -> Result<Pat
 }
 
 /// A place.
-#[tactic(auto, using(sync_names::proofs::Kept::kept_tree, sync_names::proofs::Kept::kept_term, sync_names::proofs::Kept::along, sync_names::proofs::Kept::stays))]
+#[tactic(auto, using(sync_read_names::proofs::Kept::kept_tree, sync_read_names::proofs::Kept::kept_term, sync_read_names::proofs::Kept::along, sync_read_names::proofs::Kept::stays))]
 fn place(terms: &mut Terms, scope: &mut Scope, raw: &RawPlace) -> Result<Place, Stop>
     ensures exact { Gives (λ p. (place_tree terms.new p, scope.new)) result (place_in raw.now scope.old) }
     ensures ids { IfOk result (HasPlaceIds terms.new) }
@@ -249,7 +249,7 @@ fn act(terms: &mut Terms, scope: &mut Scope, raw: &RawActKind) -> Result<Act, St
 }
 
 /// The statements of an operation.
-#[tactic(auto, using(sync_names::proofs::Kept::along, sync_names::proofs::Kept::stays, crate::proofs::Steps::steps_kept, crate::proofs::Steps::steps_stay), unfolding(crate::specs::Acts::steps_from))]
+#[tactic(auto, using(sync_read_names::proofs::Kept::along, sync_read_names::proofs::Kept::stays, crate::proofs::Steps::steps_kept, crate::proofs::Steps::steps_stay), unfolding(crate::specs::Acts::steps_from))]
 pub(crate) fn steps(
     alloc: Global,
     terms: &mut Terms,

@@ -15,7 +15,7 @@ use sqlite_items::Items;
 use std::alloc::Global;
 use sync_base::{Rule, Stop};
 use sync_machine::{Field, Invariant, Machine, OpMode, Operation};
-use sync_names::{Meaning, Owner, Scope, form_of, refused};
+use sync_read_names::{Meaning, Owner, Scope, form_of, refused};
 use sync_parse::{RawAct, RawActKind, RawInvariant, RawMachine, RawOperation};
 use sync_terms::Terms;
 
@@ -90,7 +90,7 @@ fn begin_operation(
 }
 
 /// The operation with this number.
-#[tactic(auto, using(sync_names::proofs::Kept::along, sync_names::proofs::Kept::stays), unfolding(crate::specs::Resolving::operation_in))]
+#[tactic(auto, using(sync_read_names::proofs::Kept::along, sync_read_names::proofs::Kept::stays), unfolding(crate::specs::Resolving::operation_in))]
 fn operation(
     alloc: Global,
     number: usize,
@@ -116,7 +116,7 @@ fn operation(
 }
 
 /// The operations of a machine.
-#[tactic(auto, using(sync_names::proofs::Kept::along, sync_names::proofs::Kept::stays, crate::proofs::Growing::operations_kept, crate::proofs::Growing::operations_stay), unfolding(crate::specs::Resolving::operations_from))]
+#[tactic(auto, using(sync_read_names::proofs::Kept::along, sync_read_names::proofs::Kept::stays, crate::proofs::Growing::operations_kept, crate::proofs::Growing::operations_stay), unfolding(crate::specs::Resolving::operations_from))]
 fn operations(
     alloc: Global,
     fields: &[Field],
@@ -148,7 +148,7 @@ fn begin_invariant(number: usize, scope: &mut Scope, raw: &RawInvariant) -> Resu
 }
 
 /// The invariant with this number.
-#[tactic(auto, using(sync_names::proofs::Kept::along, sync_names::proofs::Kept::stays), unfolding(crate::specs::Resolving::invariant_in))]
+#[tactic(auto, using(sync_read_names::proofs::Kept::along, sync_read_names::proofs::Kept::stays), unfolding(crate::specs::Resolving::invariant_in))]
 fn invariant(
     alloc: Global,
     number: usize,
@@ -172,7 +172,7 @@ fn invariant(
 }
 
 /// The invariants of a machine.
-#[tactic(auto, using(sync_names::proofs::Kept::along, sync_names::proofs::Kept::stays, crate::proofs::Growing::invariants_kept, crate::proofs::Growing::invariants_stay), unfolding(crate::specs::Resolving::invariants_from))]
+#[tactic(auto, using(sync_read_names::proofs::Kept::along, sync_read_names::proofs::Kept::stays, crate::proofs::Growing::invariants_kept, crate::proofs::Growing::invariants_stay), unfolding(crate::specs::Resolving::invariants_from))]
 fn invariants(
     alloc: Global,
     terms: &mut Terms,

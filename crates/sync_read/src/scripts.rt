@@ -3,20 +3,18 @@ ghost use Rattle.std.specs.Prelude.{◌≡◌, [], map};
 ghost use Rattle.sync_base.specs.Outcome.{Gives};
 ghost use Rattle.sync_terms.specs.Stored.{Stored, tree, Extends};
 ghost use Rattle.sync_terms.specs.Plans.{plan_of};
-ghost use Rattle.sync_induct.specs.Checks.{proof_in as stored_proof};
+ghost use Rattle.sync_terms.specs.Proofs.{proof_in as stored_proof};
 ghost use Rattle.sync_read.specs.Scripts.{hyp_in, parts_from, numbers_from, map_and_number, map_and_numbers, block_of, step_of, then_of, operation_meaning, claim_in, claim_owner, proof_in, proofs_from};
-ghost use Rattle.sync_names.specs.Scopes.{meaning_of};
+ghost use Rattle.sync_read_names.specs.Scopes.{meaning_of};
 
 use crate::acts::within;
 use sqlite_items::Items;
 use std::alloc::Global;
 use sync_base::{Rule, Stop};
-use sync_exprs::{Expr, Named};
-use sync_induct::Proof;
-use sync_names::{Meaning, Owner, Scope, Sort, form_of, refused, term_of};
+use sync_parse_exprs::{Expr, Named};
+use sync_read_names::{Meaning, Owner, Scope, Sort, form_of, refused, term_of};
 use sync_parse::{RawBlock, RawClaim, RawHyp, RawPart, RawProof, RawStep, RawStepKind, Subject};
-use sync_rules::Claim;
-use sync_terms::{Block, HypName, Part, Script, ScriptStep, StepKind, TermId, Terms};
+use sync_terms::{Block, Claim, HypName, Part, Proof, Script, ScriptStep, StepKind, TermId, Terms};
 
 /// A hypothesis of a machine's script.
 #[tactic(auto, unfolding(crate::specs::Scripts::hyp_in))]
@@ -51,7 +49,7 @@ fn parts(alloc: Global, raw: &[RawPart]) -> Result<Items<Part>, Stop>
 }
 
 /// Terms that are numbers.
-#[tactic(auto, using(sync_names::proofs::Kept::kept_tree, sync_names::proofs::Kept::kept_term, sync_names::proofs::Kept::along, sync_names::proofs::Kept::stays), unfolding(crate::specs::Scripts::numbers_from))]
+#[tactic(auto, using(sync_read_names::proofs::Kept::kept_tree, sync_read_names::proofs::Kept::kept_term, sync_read_names::proofs::Kept::along, sync_read_names::proofs::Kept::stays), unfolding(crate::specs::Scripts::numbers_from))]
 fn numbers(
     alloc: Global,
     terms: &mut Terms,
@@ -70,7 +68,7 @@ fn numbers(
 }
 
 /// A map and a key.
-#[tactic(auto, using(sync_names::proofs::Kept::kept_tree, sync_names::proofs::Kept::kept_term, sync_names::proofs::Kept::along, sync_names::proofs::Kept::stays), unfolding(crate::specs::Scripts::map_and_number))]
+#[tactic(auto, using(sync_read_names::proofs::Kept::kept_tree, sync_read_names::proofs::Kept::kept_term, sync_read_names::proofs::Kept::along, sync_read_names::proofs::Kept::stays), unfolding(crate::specs::Scripts::map_and_number))]
 fn map_and_number(
     terms: &mut Terms,
     scope: &Scope,
@@ -86,7 +84,7 @@ fn map_and_number(
 }
 
 /// A map and two keys.
-#[tactic(auto, using(sync_names::proofs::Kept::kept_tree, sync_names::proofs::Kept::kept_term, sync_names::proofs::Kept::along, sync_names::proofs::Kept::stays), unfolding(crate::specs::Scripts::map_and_numbers))]
+#[tactic(auto, using(sync_read_names::proofs::Kept::kept_tree, sync_read_names::proofs::Kept::kept_term, sync_read_names::proofs::Kept::along, sync_read_names::proofs::Kept::stays), unfolding(crate::specs::Scripts::map_and_numbers))]
 fn map_and_numbers(
     terms: &mut Terms,
     scope: &Scope,
@@ -104,7 +102,7 @@ fn map_and_numbers(
 
 /// A block of steps.
 #[cycle(blocks)]
-#[tactic(auto, using(sync_names::proofs::Kept::along, sync_names::proofs::Kept::stays), unfolding(crate::specs::Scripts::thens_from))]
+#[tactic(auto, using(sync_read_names::proofs::Kept::along, sync_read_names::proofs::Kept::stays), unfolding(crate::specs::Scripts::thens_from))]
 fn block(alloc: Global, terms: &mut Terms, scope: &Scope, raw: &RawBlock) -> Result<Block, Stop>
     ensures exact { (t : Stored) → Extends terms.new t → Gives (plan_of t) result (block_of scope.now raw.now) }
     ensures keeps { Extends terms.old terms.new }
@@ -129,7 +127,7 @@ fn made(what: StepKind, line: u32) -> ScriptStep
 
 /// A step.
 #[cycle(blocks)]
-#[tactic(auto, using(sync_names::proofs::Kept::kept_formula, sync_names::proofs::Kept::kept_tree, sync_names::proofs::Kept::along, sync_names::proofs::Kept::stays))]
+#[tactic(auto, using(sync_read_names::proofs::Kept::kept_formula, sync_read_names::proofs::Kept::kept_tree, sync_read_names::proofs::Kept::along, sync_read_names::proofs::Kept::stays))]
 fn step_of(
     alloc: Global,
     terms: &mut Terms,
@@ -216,7 +214,7 @@ fn claim_owner(claim: Claim) -> Owner
 }
 
 /// A proof behind so many others.
-#[tactic(auto, using(sync_names::proofs::Kept::along, sync_names::proofs::Kept::stays), unfolding(crate::specs::Scripts::proof_in))]
+#[tactic(auto, using(sync_read_names::proofs::Kept::along, sync_read_names::proofs::Kept::stays), unfolding(crate::specs::Scripts::proof_in))]
 fn proof(
     alloc: Global,
     terms: &mut Terms,
@@ -246,7 +244,7 @@ fn proof(
 }
 
 /// The proofs of a text.
-#[tactic(auto, using(sync_names::proofs::Kept::along, sync_names::proofs::Kept::stays), unfolding(crate::specs::Scripts::proofs_from))]
+#[tactic(auto, using(sync_read_names::proofs::Kept::along, sync_read_names::proofs::Kept::stays), unfolding(crate::specs::Scripts::proofs_from))]
 pub(crate) fn proofs(
     alloc: Global,
     terms: &mut Terms,

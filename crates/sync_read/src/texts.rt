@@ -3,7 +3,7 @@ ghost use Rattle.std.specs.Prelude.{◌≡◌, None, IfOk};
 ghost use Rattle.sync_base.specs.Outcome.{Gives};
 ghost use Rattle.sync_machine.specs.Views.{machine_tree, HasOwnIds};
 ghost use Rattle.sync_machine.specs.Naming.{machine_fault, AreTextNames};
-ghost use Rattle.sync_induct.specs.Checks.{AreScriptsOf};
+ghost use Rattle.sync_terms.specs.Proofs.{AreScriptsOf};
 ghost use Rattle.sync_read.specs.declared.texts.Text.{Text};
 ghost use Rattle.sync_read.specs.Texts.{first_scope, resolved, text_tree};
 
@@ -12,10 +12,10 @@ use crate::scripts::proofs;
 use sqlite_items::Items;
 use std::alloc::Global;
 use sync_base::{NameList, NoMemory, Stop};
-use sync_induct::Proofs;
 use sync_machine::Machine;
-use sync_names::{Meaning, Owner, Owners, Scope};
+use sync_read_names::{Meaning, Owner, Owners, Scope};
 use sync_parse::RawText;
+use sync_terms::Proofs;
 
 /// A text: its machine, with the store of all its terms, its proofs and its names.
 #[derive(Drop)]
@@ -47,7 +47,7 @@ fn first_scope(alloc: Global, count: usize) -> Result<Scope, NoMemory>
 /// The text of a raw tree. Refuses with the first broken rule N.
 ///
 /// Its machine breaks no rule of names, so nothing has to ask once more.
-#[tactic(auto, using(crate::proofs::Growing::operations_kept, crate::proofs::Growing::operations_stay, crate::proofs::Growing::invariants_kept, crate::proofs::Growing::invariants_stay, sync_names::proofs::Kept::stays))]
+#[tactic(auto, using(crate::proofs::Growing::operations_kept, crate::proofs::Growing::operations_stay, crate::proofs::Growing::invariants_kept, crate::proofs::Growing::invariants_stay, sync_read_names::proofs::Kept::stays))]
 pub fn resolve(alloc: Global, raw: RawText) -> Result<Text, Stop>
     ensures exact { Gives text_tree result (resolved raw) }
     ensures ids { IfOk result (λ (t : Text). HasOwnIds t.machine) }

@@ -6,9 +6,9 @@ use Rattle.sync_base.specs.declared.stops.Rule.TheVariants.{S1, S2, S3, S4, S5}
 use Rattle.sync_base.specs.declared.stops.Refusal.{Refusal}
 use Rattle.sync_base.specs.Outcome.{first}
 use Rattle.sync_machine.specs.declared.fields.Field.{Field}
-use Rattle.sync_machine.specs.declared.fields.Strategy.{Strategy}
-use Rattle.sync_machine.specs.declared.fields.OpMode.{OpMode}
-use Rattle.sync_machine.specs.declared.fields.OpMode.TheVariants as mode
+use Rattle.sync_base.specs.declared.strategies.Strategy.{Strategy}
+use Rattle.sync_base.specs.declared.strategies.OpMode.{OpMode}
+use Rattle.sync_base.specs.declared.strategies.OpMode.TheVariants as mode
 use Rattle.sync_machine.specs.Machines.{ActTree, StepTree, OperationTree, MachineTree}
 use Rattle.sync_machine.specs.Statements.{changed_by}
 use Rattle.sync_machine.specs.States.{strategy_of}

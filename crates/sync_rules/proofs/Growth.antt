@@ -7,8 +7,8 @@ use Rattle.sync_machine.specs.declared.machine.Step.{Step}
 use Rattle.sync_machine.specs.declared.machine.Operation.{Operation}
 use Rattle.sync_machine.specs.Machines.{OperationTree}
 use Rattle.sync_machine.specs.Views.{step_tree, steps_tree, operation_tree}
-use Rattle.sync_rules.specs.declared.claims.Claim.TheVariants.{At, Keeps}
-use Rattle.sync_rules.specs.declared.claims.Obligation.{Obligation}
+use Rattle.sync_terms.specs.declared.proofs.Claim.TheVariants.{At, Keeps}
+use Rattle.sync_terms.specs.declared.proofs.Obligation.{Obligation}
 use Rattle.sync_rules.specs.declared.field_sets.FieldSet.{FieldSet}
 use Rattle.sync_rules.specs.Obligations.{has_safety, safety_claims}
 use Rattle.sync_rules.specs.FieldSets.{is_marked_by, marked_claims, all_claims}

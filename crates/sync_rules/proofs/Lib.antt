@@ -6,3 +6,5 @@ pub mod Entries
 pub mod Walks
 pub mod Faultless
 pub mod Named
+pub mod Earliest
+pub mod Growing

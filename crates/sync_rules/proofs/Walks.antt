@@ -6,7 +6,7 @@ use Rattle.sync_base.specs.declared.stops.Refusal.{Refusal}
 use Rattle.sync_base.specs.Outcome.{first}
 use Rattle.sync_terms.specs.Stored.{Stored}
 use Rattle.sync_machine.specs.declared.fields.Field.{Field}
-use Rattle.sync_machine.specs.declared.fields.OpMode.{OpMode}
+use Rattle.sync_base.specs.declared.strategies.OpMode.{OpMode}
 use Rattle.sync_machine.specs.declared.machine.Step.{Step}
 use Rattle.sync_machine.specs.declared.machine.Operation.{Operation}
 use Rattle.sync_machine.specs.Views.{act_tree, step_tree, steps_tree, operation_tree}

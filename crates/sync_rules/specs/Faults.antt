@@ -7,8 +7,8 @@ use Rattle.sync_base.specs.declared.stops.Rule.TheVariants.{S1, S2, S3, S4, S5, 
 use Rattle.sync_base.specs.declared.stops.Refusal.{Refusal}
 use Rattle.sync_base.specs.Outcome.{first}
 use Rattle.sync_machine.specs.declared.fields.Field.{Field}
-use Rattle.sync_machine.specs.declared.fields.Strategy.{Strategy}
-use Rattle.sync_machine.specs.declared.fields.OpMode.{OpMode}
+use Rattle.sync_base.specs.declared.strategies.Strategy.{Strategy}
+use Rattle.sync_base.specs.declared.strategies.OpMode.{OpMode}
 use Rattle.sync_machine.specs.Machines.{ActTree, StepTree, OperationTree, MachineTree}
 use Rattle.sync_machine.specs.States.{strategy_of}
 use Rattle.sync_rules.specs.declared.kinds.OpKind.{OpKind}

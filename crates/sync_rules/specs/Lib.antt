@@ -6,3 +6,5 @@ pub mod Locality
 pub mod Shapes
 pub mod Faults
 pub mod Matrix
+pub mod Slots
+pub mod Views

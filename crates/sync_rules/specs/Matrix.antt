@@ -1,7 +1,7 @@
 -- The places of a table with a row for each kind of statement and a column for each strategy.
 use Rattle.std.specs.Prelude.{ℕ}
-use Rattle.sync_machine.specs.declared.fields.Strategy.{Strategy}
-use Rattle.sync_machine.specs.declared.fields.Strategy.TheVariants.{Variable, Constant, NotTokenized, Option as OptionField, Map, Set, Multiset, Count, PersistentOption, PersistentMap, PersistentSet, PersistentCount, StorageMap}
+use Rattle.sync_base.specs.declared.strategies.Strategy.{Strategy}
+use Rattle.sync_base.specs.declared.strategies.Strategy.TheVariants.{Variable, Constant, NotTokenized, Option as OptionField, Map, Set, Multiset, Count, PersistentOption, PersistentMap, PersistentSet, PersistentCount, StorageMap}
 use Rattle.sync_rules.specs.declared.kinds.OpKind.{OpKind}
 use Rattle.sync_rules.specs.declared.kinds.OpKind.TheVariants as kinds
 

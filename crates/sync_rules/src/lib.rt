@@ -1,23 +1,26 @@
-//! What the strategies allow, and what has to be proved of a machine.
+//! What the strategies allow, what has to be proved of a machine, and the slots of its operations: which tokens they take and give.
 #![tactic(auto)]
 
 mod acts;
 mod checking;
-mod claims;
 mod field_sets;
 mod kinds;
 mod listing;
 mod locality;
 mod matrix;
+mod mentions;
 mod order;
 mod shapes;
+mod signing;
+mod slots;
+mod statements;
+mod variables;
 
 pub use acts::{field_of, strategy_of};
 pub use checking::check_ops;
-pub use claims::{Claim, Obligation};
 pub use kinds::OpKind;
 pub use listing::obligations;
 pub use matrix::{MATRIX, allowed};
-
-#[cfg(test)]
-mod tests;
+pub use signing::{signature, variable_slots};
+pub use slots::{Role, Slot};
+pub use sync_terms::{Claim, Obligation};

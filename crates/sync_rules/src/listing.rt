@@ -8,11 +8,11 @@ ghost use Rattle.sync_rules.specs.Obligations.{obligations_of, safety_claims};
 ghost use Rattle.sync_rules.specs.FieldSets.{HasFewFields, marked_claims, is_marked_by, is_marked, marks_of_all};
 
 use crate::acts::{changed_by, has_safety, strategy_of};
-use crate::claims::{Claim, Obligation};
 use crate::field_sets::{FieldSet, fields_of};
 use std::alloc::Global;
 use sync_base::{NoMemory, place_number};
 use sync_machine::{Act, Machine, OpMode, Operation};
+use sync_terms::{Claim, Obligation};
 
 /// What has to be proved of a machine: of each operation in order its safety conditions, then the invariants that
 /// it has to keep.

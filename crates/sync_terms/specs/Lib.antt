@@ -7,3 +7,4 @@ pub mod Kept
 pub mod Substitution
 pub mod Replacing
 pub mod Plans
+pub mod Proofs

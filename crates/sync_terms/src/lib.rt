@@ -2,11 +2,13 @@
 #![tactic(auto)]
 
 mod nodes;
+mod proofs;
 mod scripts;
 mod store;
 mod subst;
 
 pub use nodes::{FormId, FormNode, Node, Sym, TermId};
+pub use proofs::{Claim, Obligation, Proof, Proofs};
 pub use scripts::{Block, HypName, Part, Script, ScriptStep, StepKind};
 pub use store::{TermStop, Terms};
 

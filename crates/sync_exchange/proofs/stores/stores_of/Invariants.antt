@@ -1,7 +1,7 @@
 use Rattle.std.proofs.Common.{◌≡◌, ◌<◌, ℕ, length, slice_index_or}
 use Rattle.sync_terms.specs.Maps as maps
 use Rattle.sync_machine.specs.States.{strategy_at}
-use Rattle.sync_machine.specs.declared.fields.Strategy.TheVariants.{StorageMap}
+use Rattle.sync_base.specs.declared.strategies.Strategy.TheVariants.{StorageMap}
 use Rattle.sync_join.specs.Join.{map_of, tokens_of}
 use Rattle.sync_exchange.proofs.stores.stores_of.Given as goal
 

@@ -3,12 +3,13 @@ use Rattle.std.specs.HashSet.{contains}
 use Rattle.sync_base.specs.Outcome.{Passes}
 use Rattle.sync_machine.specs.Views.{machine_tree}
 use Rattle.sync_machine.specs.States.{HoldsAlways}
-use Rattle.sync_rules.specs.declared.claims.Obligation.{Obligation}
+use Rattle.sync_terms.specs.declared.proofs.Obligation.{Obligation}
 use Rattle.sync_rules.specs.Obligations.{obligations_of}
 use Rattle.sync_rules.proofs.Named.{HasFewFields-from_IsNamed}
 use Rattle.sync_induct.specs.declared.index.Title.{Title}
-use Rattle.sync_induct.specs.declared.proofs.Proof.{Proof}
-use Rattle.sync_induct.specs.Checks.{AreScriptsOf, titles_of, has_title, proofs_in, stray_fault, checks_fault}
+use Rattle.sync_terms.specs.declared.proofs.Proof.{Proof}
+use Rattle.sync_induct.specs.Checks.{has_title, stray_fault, checks_fault}
+use Rattle.sync_terms.specs.Proofs.{AreScriptsOf, titles_of, proofs_in}
 use Rattle.sync_induct.specs.Checklist.{Check, checks_of, AreShown}
 use Rattle.sync_induct.specs.Titles.{same_title}
 use Rattle.sync_induct.proofs.Deciding.{machine-stays, stray-answer, check-answer, no-answer, checks-are, met-keepable, met-ids, met-wanted}

@@ -4,7 +4,8 @@ use Rattle.std.specs.HashSet.{contains}
 use Rattle.std.specs.HashMap.{get}
 use Rattle.sync_base.specs.Outcome.{first}
 use Rattle.sync_induct.specs.declared.index.Title.{Title}
-use Rattle.sync_induct.specs.Checks.{title_of, titles_of, has_title, stray_fault}
+use Rattle.sync_induct.specs.Checks.{has_title, stray_fault}
+use Rattle.sync_terms.specs.Proofs.{title_of, titles_of}
 use Rattle.sync_induct.specs.Titles.{titled, same_title, first_at}
 use Rattle.sync_induct.proofs.Titles.{lacks, placed-next, held-next, stray-next, stray-found, stray_end, placed_end, titles-end, unwanted, second}
 use Rattle.sync_induct.proofs.index.places.Goals as goal

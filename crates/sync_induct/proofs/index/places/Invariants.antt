@@ -3,9 +3,10 @@ use Rattle.std.specs.Option.{is_some}
 use Rattle.std.specs.HashSet.{contains}
 use Rattle.std.specs.HashMap.{get}
 use Rattle.sync_base.specs.Outcome.{first}
-use Rattle.sync_rules.specs.declared.claims.Obligation.{Obligation}
+use Rattle.sync_terms.specs.declared.proofs.Obligation.{Obligation}
 use Rattle.sync_induct.specs.declared.index.Title.{Title}
-use Rattle.sync_induct.specs.Checks.{titles_of, has_title, stray_fault}
+use Rattle.sync_induct.specs.Checks.{has_title, stray_fault}
+use Rattle.sync_terms.specs.Proofs.{titles_of}
 use Rattle.sync_induct.specs.Titles.{same_title, first_at}
 use Rattle.sync_induct.proofs.index.places.Given as goal
 

@@ -3,7 +3,8 @@ use Rattle.std.specs.Prelude.{not, nat_lt, slice_get}
 use Rattle.sync_terms.specs.Kept.{limit}
 use Rattle.sync_terms.specs.Plans.{plan_of}
 use Rattle.sync_kernel.specs.Facts.{facts_size}
-use Rattle.sync_induct.specs.Checks.{titles_of, proofs_in, duty_of, sequent_size}
+use Rattle.sync_induct.specs.Checks.{duty_of, sequent_size}
+use Rattle.sync_terms.specs.Proofs.{titles_of, proofs_in}
 use Rattle.sync_induct.specs.Titles.{titled, first_at}
 use Rattle.sync_induct.proofs.Judging.{missing, script-at, place-there, judged-none, judged-large, judged-script, passes-same}
 use Rattle.sync_induct.proofs.judges.judge.Goals as goal

@@ -1,6 +1,6 @@
 use Rattle.std.proofs.Common.{◌≡◌, ◌∙◌, true, false, sym, ap}
 use Rattle.std.specs.Option.{is_some}
-use Rattle.sync_induct.specs.Checks.{titles_of}
+use Rattle.sync_terms.specs.Proofs.{titles_of}
 use Rattle.sync_induct.specs.Titles.{titled, first_at}
 use Rattle.sync_induct.proofs.Judging.{large-with_proof, large-without_proof}
 use Rattle.sync_induct.proofs.judges.too_large.Goals as goal

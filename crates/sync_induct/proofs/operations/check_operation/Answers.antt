@@ -1,7 +1,7 @@
 use Rattle.std.proofs.Common.{Err, rules}
 use Rattle.std.specs.HashSet.{contains}
 use Rattle.sync_terms.proofs.Extending.{Extends-trans}
-use Rattle.sync_induct.specs.Checks.{proofs_in}
+use Rattle.sync_terms.specs.Proofs.{proofs_in}
 use Rattle.sync_induct.specs.Titles.{same_title}
 use Rattle.sync_induct.proofs.Operating.{operation-ids, operation-steps_refused, operation-keepable, operation-wanted, operation-passes, operation-shown}
 use Rattle.sync_induct.proofs.Scripts.{scripts-stay, checks-over, none-over}

@@ -2,7 +2,7 @@ use Rattle.std.proofs.Common.{Err, rules, map}
 use Rattle.std.specs.HashSet.{contains}
 use Rattle.sync_terms.proofs.Extending.{Extends-refl, Extends-trans}
 use Rattle.sync_machine.specs.Views.{invariant_tree}
-use Rattle.sync_induct.specs.Checks.{proofs_in}
+use Rattle.sync_terms.specs.Proofs.{proofs_in}
 use Rattle.sync_induct.specs.Titles.{same_title}
 use Rattle.sync_induct.proofs.Operating.{left_from, ids-then, keepable-then, wanted-then, operations-past, operations-refused, operations-end}
 use Rattle.sync_induct.proofs.Remaining.{remains-whole, remains-none, remains-shown}

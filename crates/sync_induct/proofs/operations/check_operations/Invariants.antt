@@ -1,7 +1,7 @@
 use Rattle.std.proofs.Common.{map}
 use Rattle.sync_terms.specs.Stored.{Extends}
 use Rattle.sync_machine.specs.Views.{invariant_tree}
-use Rattle.sync_induct.specs.Checks.{proofs_in}
+use Rattle.sync_terms.specs.Proofs.{proofs_in}
 use Rattle.sync_induct.proofs.Operating.{left_from}
 use Rattle.sync_induct.proofs.Remaining.{Remains}
 use Rattle.sync_induct.proofs.operations.check_operations.Given as goal

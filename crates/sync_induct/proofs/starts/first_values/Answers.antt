@@ -3,7 +3,7 @@ use Rattle.sync_terms.specs.Trees.{Tree}
 use Rattle.sync_terms.specs.declared.nodes.TermId.{TermId}
 use Rattle.sync_terms.proofs.Extending.{Extends-refl, Extends-trans}
 use Rattle.sync_machine.specs.declared.fields.Field.{Field}
-use Rattle.sync_machine.specs.declared.fields.Strategy.TheVariants.{Variable}
+use Rattle.sync_base.specs.declared.strategies.Strategy.TheVariants.{Variable}
 use Rattle.sync_induct.specs.Starts.{first_value, values_from}
 use Rattle.sync_induct.specs.Walks.{HaveTrees}
 use Rattle.sync_induct.proofs.Starting.{trees-push, values-more, values-end, no-trees}

@@ -1,5 +1,5 @@
 use Rattle.std.proofs.Common.{◌≡◌, ℕ, ◌<◌, pos}
-use Rattle.sync_machine.specs.declared.fields.Strategy.TheVariants.{Count}
+use Rattle.sync_base.specs.declared.strategies.Strategy.TheVariants.{Count}
 use Rattle.sync_machine.specs.States.{strategy_at}
 use Rattle.sync_join.specs.Join.{tokens_of}
 use Rattle.sync_join.specs.Widths.{SumsFit}

@@ -11,7 +11,7 @@ use Rattle.sync_terms.specs.declared.scripts.Block as block
 use Rattle.sync_terms.specs.Stored.{IsTerm, tree}
 use Rattle.sync_terms.specs.Plans.{plan_of}
 use Rattle.sync_terms.proofs.Extending.{Extends-trans}
-use Rattle.sync_facts.specs.Lemmas.{read_fact, size_fact, total_fact, cong_fact}
+use Rattle.sync_kernel_facts.specs.Lemmas.{read_fact, size_fact, total_fact, cong_fact}
 use Rattle.sync_kernel.specs.declared.steps.Left.{Left}
 use Rattle.sync_kernel.specs.declared.branches.Said.{Said}
 use Rattle.sync_kernel.specs.Facts.{Fact}

@@ -2,7 +2,7 @@ use Rattle.std.proofs.Common.{rules, ◌≡◌, List, None, Ok, Err, ap, subst, 
 use Rattle.sync_base.specs.Outcome.{Passes}
 use Rattle.sync_terms.specs.Stored.{formula}
 use Rattle.sync_terms.specs.Plans.{plan_of}
-use Rattle.sync_facts.proofs.Truths.{cong_true, read_true, size_true, total_true}
+use Rattle.sync_kernel_facts.proofs.Truths.{cong_true, read_true, size_true, total_true}
 use Rattle.sync_kernel.specs.Facts.{Fact}
 use Rattle.sync_kernel.specs.Branches.{facts_in}
 use Rattle.sync_kernel.specs.Hypotheses.{known_in}

@@ -1,5 +1,5 @@
 use Rattle.sync_terms.specs.Stored.{tree}
-use Rattle.sync_facts.specs.Lemmas.{cong_fact}
+use Rattle.sync_kernel_facts.specs.Lemmas.{cong_fact}
 use Rattle.sync_kernel.proofs.Fitting.{AreSaid-more}
 use Rattle.sync_kernel.proofs.Adding.{built_form, leaves_from}
 use Rattle.sync_kernel.proofs.steps.cong.Goals as goal

@@ -1,7 +1,7 @@
 use Rattle.std.proofs.Common.{sym, ◌∙◌, arith}
 use Rattle.std.proofs.lemmas.Result.{err_from_is_err_and}
 use Rattle.sync_parse.specs.Machines.{begins_operation, operation_at}
-use Rattle.sync_exprs.proofs.Rows.{row_goes, row_ends, row_stops}
+use Rattle.sync_parse_exprs.proofs.Rows.{row_goes, row_ends, row_stops}
 use Rattle.sync_parse.proofs.machine_reader.operations.Goals as goal
 
 pub loop-preserved : goal.loop-preserved

@@ -1,5 +1,5 @@
 use Rattle.std.proofs.Common.{◌≡◌, ◌+◌, ◌-◌, ◌*◌}
-use Rattle.sync_exprs.specs.Lexemes.{row, goes_on}
+use Rattle.sync_parse_exprs.specs.Lexemes.{row, goes_on}
 use Rattle.sync_parse.specs.Scripts.{step_at, nested, steps}
 use Rattle.sync_parse.proofs.script_reader.+script.Given as goal
 
@@ -22,4 +22,4 @@ abbrev pub decreases-cut_step : goal.decreases-cut_step
 decreases-cut_step l = l.left * 10 + 3
 
 abbrev pub invariant-steps-loop : goal.invariant-steps-loop
-invariant-steps-loop l = row goes_on (step_at (nested l.left) (l.left - 1)) (l.end - l.counter) l.held l.rest ≡ steps (nested l.left) (l.left - 1) l.fn.words
+invariant-steps-loop l = row goes_on (step_at (nested l.left) (l.left - 1)) (l.end - l.counter) l.held l.rest ≡ steps (nested l.left) (l.left - 1) l.fn.terminals

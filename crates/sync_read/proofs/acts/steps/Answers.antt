@@ -1,7 +1,7 @@
 use Rattle.std.proofs.Common.{refl, rules}
 use Rattle.sync_machine.specs.declared.machine.Step.{Step}
 use Rattle.sync_machine.specs.Views.{HasActIds}
-use Rattle.sync_names.proofs.Kept.{along}
+use Rattle.sync_read_names.proofs.Kept.{along}
 use Rattle.sync_read.proofs.Steps.{steps_stay}
 use Rattle.sync_read.proofs.Going.{steps_go, one_more}
 use Rattle.sync_read.proofs.acts.steps.Goals as goal

@@ -2,7 +2,7 @@ use Rattle.std.proofs.Common.{ap, sym, ◌∙◌}
 use Rattle.sync_read.specs.Resolving.{invariant_in}
 use Rattle.sync_machine.specs.declared.machine.Invariant.{Invariant}
 use Rattle.sync_terms.specs.Stored.{IsForm}
-use Rattle.sync_names.proofs.Kept.{along}
+use Rattle.sync_read_names.proofs.Kept.{along}
 use Rattle.sync_read.proofs.Growing.{invariants_stay}
 use Rattle.sync_read.proofs.Going.{invariants_go, one_more}
 use Rattle.sync_read.proofs.machines.invariants.Goals as goal

@@ -1,7 +1,7 @@
 use Rattle.std.proofs.Common.{ap, sym, ◌∙◌}
 use Rattle.sync_read.specs.Resolving.{operation_in}
 use Rattle.sync_read.specs.Owned.{HasOperationIds}
-use Rattle.sync_names.proofs.Kept.{along}
+use Rattle.sync_read_names.proofs.Kept.{along}
 use Rattle.sync_read.proofs.Growing.{operations_stay}
 use Rattle.sync_read.proofs.Going.{operations_go, one_more}
 use Rattle.sync_read.proofs.machines.operations.Goals as goal

@@ -1,6 +1,6 @@
 use Rattle.std.proofs.Common.{Ok, [], sym, ap, ◌∙◌}
 use Rattle.std.proofs.lemmas.Result.{err_from_is_err_and}
-use Rattle.sync_names.proofs.Kept.{along, kept_formula}
+use Rattle.sync_read_names.proofs.Kept.{along, kept_formula}
 use Rattle.sync_read.specs.Scripts.{parts_from, numbers_from, step_of, then_of}
 use Rattle.sync_read.proofs.Going.{thens_go}
 use Rattle.sync_read.proofs.Planned.{sum_made, inst_made, parts_made, split_made, cut_made, block_made, block_stops, first_stops, second_stops}

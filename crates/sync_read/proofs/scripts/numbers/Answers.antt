@@ -1,6 +1,6 @@
 use Rattle.std.proofs.Common.{Ok, sym, ap, ◌∙◌}
 use Rattle.sync_terms.specs.Stored.{tree}
-use Rattle.sync_names.proofs.Kept.{along, kept_tree}
+use Rattle.sync_read_names.proofs.Kept.{along, kept_tree}
 use Rattle.sync_read.proofs.Going.{numbers_go}
 use Rattle.sync_read.proofs.scripts.numbers.Goals as goal
 

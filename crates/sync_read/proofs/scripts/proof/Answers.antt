@@ -1,9 +1,9 @@
 use Rattle.std.proofs.Common.{ap}
 use Rattle.std.proofs.lemmas.Result.{err_from_is_err_and}
 use Rattle.sync_terms.specs.Plans.{plan_of}
-use Rattle.sync_names.specs.declared.scopes.Owner.{Owner}
-use Rattle.sync_names.specs.declared.scopes.Owner.TheVariants.{Operation}
-use Rattle.sync_names.specs.declared.scopes.Scope.{Scope}
+use Rattle.sync_read_names.specs.declared.scopes.Owner.{Owner}
+use Rattle.sync_read_names.specs.declared.scopes.Owner.TheVariants.{Operation}
+use Rattle.sync_read_names.specs.declared.scopes.Scope.{Scope}
 use Rattle.sync_read.proofs.Whole.{gives_stop, proof_made, proof_stops}
 use Rattle.sync_read.proofs.scripts.proof.Goals as goal
 

@@ -1,5 +1,5 @@
 use Rattle.std.proofs.Common.{sym, ap, ◌∙◌}
-use Rattle.sync_names.proofs.Kept.{along}
+use Rattle.sync_read_names.proofs.Kept.{along}
 use Rattle.sync_read.specs.Scripts.{proof_in}
 use Rattle.sync_read.proofs.Going.{proofs_go}
 use Rattle.sync_read.proofs.scripts.proofs.Goals as goal

@@ -1,6 +1,6 @@
 use Rattle.std.proofs.Common.{◌≡◌, drop, [], map}
 use Rattle.sync_terms.specs.Stored.{Stored, Extends}
-use Rattle.sync_induct.specs.Checks.{proof_in as stored_proof}
+use Rattle.sync_terms.specs.Proofs.{proof_in as stored_proof}
 use Rattle.sync_read.specs.Scripts.{proofs_from}
 use Rattle.sync_read.proofs.scripts.proofs.Given as goal
 

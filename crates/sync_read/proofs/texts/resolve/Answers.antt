@@ -1,6 +1,6 @@
 use Rattle.std.proofs.Common.{[], ap, subst, ◌∙◌}
 use Rattle.std.proofs.lemmas.Result.{err_from_is_err_and}
-use Rattle.sync_names.proofs.Kept.{stays}
+use Rattle.sync_read_names.proofs.Kept.{stays}
 use Rattle.sync_machine.specs.Views.{machine_tree}
 use Rattle.sync_base.specs.Outcome.{Stops}
 use Rattle.sync_read.specs.Scripts.{proofs_from}

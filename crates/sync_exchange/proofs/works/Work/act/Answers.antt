@@ -1,7 +1,7 @@
 use Rattle.std.proofs.Common.{sym, subst}
 use Rattle.sync_machine.specs.declared.machine.Act.{Act}
 use Rattle.sync_machine.specs.Views.{act_tree}
-use Rattle.sync_eval.specs.Narrow.{is_narrow}
+use Rattle.sync_exchange_values.specs.Narrow.{is_narrow}
 use Rattle.sync_exchange.specs.Exchange.{does}
 use Rattle.sync_exchange.specs.Outcomes.{Leaves}
 use Rattle.sync_exchange.specs.Works.{now_of}

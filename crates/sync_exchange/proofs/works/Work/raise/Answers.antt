@@ -1,6 +1,6 @@
 use Rattle.std.proofs.Common.{sym, ap, ◌∙◌}
 use Rattle.sync_machine.specs.States.{Value}
-use Rattle.sync_machine.specs.declared.fields.Strategy.{Strategy}
+use Rattle.sync_base.specs.declared.strategies.Strategy.{Strategy}
 use Rattle.sync_exchange.specs.Exchange.{raised, recording}
 use Rattle.sync_exchange.specs.Works.{base_of, now_of, value_in_list}
 use Rattle.sync_exchange.proofs.Raising.{on-same, raised-entry}

@@ -2,7 +2,7 @@ use Rattle.std.proofs.Common.{ℤ, sym, ap, ◌∙◌, rules, SFits}
 use Rattle.std.specs.Int.{w128}
 use Rattle.std.proofs.lemmas.Int.{to_z-of_z}
 use Rattle.sync_machine.specs.States.{Value}
-use Rattle.sync_machine.specs.declared.fields.Strategy.{Strategy}
+use Rattle.sync_base.specs.declared.strategies.Strategy.{Strategy}
 use Rattle.sync_join.specs.declared.tokens.Token.{Token}
 use Rattle.sync_join.specs.Views.{value_tree}
 use Rattle.sync_exchange.specs.Exchange.{after_giving, recording, revaluing, started}

@@ -1,5 +1,5 @@
 use Rattle.std.proofs.Common.{◌≡◌, drop}
-use Rattle.sync_slots.specs.Views.{slots_tree}
+use Rattle.sync_rules.specs.Views.{slots_tree}
 use Rattle.sync_exchange.specs.Exchange.{use_variables}
 use Rattle.sync_exchange.specs.Works.{now_of}
 use Rattle.sync_exchange.proofs.works.Work.use_variables.Given as goal

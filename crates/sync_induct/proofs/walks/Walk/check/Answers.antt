@@ -1,6 +1,7 @@
 use Rattle.std.proofs.Common.{refl}
 use Rattle.sync_terms.proofs.Extending.{Extends-trans}
-use Rattle.sync_induct.specs.Checks.{proofs_in, duty_of}
+use Rattle.sync_induct.specs.Checks.{duty_of}
+use Rattle.sync_terms.specs.Proofs.{proofs_in}
 use Rattle.sync_induct.proofs.Judging.{large-claim}
 use Rattle.sync_induct.proofs.Lasting.{walk-stays, stands, stands-behind}
 use Rattle.sync_induct.proofs.Scripts.{scripts-stay, duty-over}

@@ -2,9 +2,9 @@ use Rattle.std.proofs.Common.{◌+◌, Bool, true, false, Err, rules}
 use Rattle.std.specs.HashSet.{contains}
 use Rattle.sync_terms.proofs.Extending.{Extends-refl, Extends-trans}
 use Rattle.sync_machine.specs.Views.{operation_tree, invariant_tree}
-use Rattle.sync_rules.specs.declared.claims.Claim.TheVariants as claims
+use Rattle.sync_terms.specs.declared.proofs.Claim.TheVariants as claims
 use Rattle.sync_induct.specs.Duties.{kept_duty}
-use Rattle.sync_induct.specs.Checks.{proofs_in}
+use Rattle.sync_terms.specs.Proofs.{proofs_in}
 use Rattle.sync_induct.specs.Titles.{same_title}
 use Rattle.sync_induct.specs.Walks.{values_of, known_of}
 use Rattle.sync_induct.proofs.Keeping.{kept_from, wanted-is, kept-end, same-keeping, keeping-skips, keeping-passes, keeping-refused}

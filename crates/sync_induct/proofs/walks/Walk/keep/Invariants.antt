@@ -1,5 +1,5 @@
 use Rattle.sync_machine.specs.Views.{operation_tree}
-use Rattle.sync_induct.specs.Checks.{proofs_in}
+use Rattle.sync_terms.specs.Proofs.{proofs_in}
 use Rattle.sync_induct.proofs.Keeping.{IsKeeping}
 use Rattle.sync_induct.proofs.walks.Walk.keep.Given as goal
 

@@ -1,7 +1,8 @@
 use Rattle.std.proofs.Common.{refl}
 use Rattle.sync_terms.proofs.Extending.{Extends-trans}
 use Rattle.sync_machine.specs.Views.{invariant_tree}
-use Rattle.sync_induct.specs.Checks.{proofs_in, duty_of}
+use Rattle.sync_induct.specs.Checks.{duty_of}
+use Rattle.sync_terms.specs.Proofs.{proofs_in}
 use Rattle.sync_induct.specs.Duties.{kept_duty}
 use Rattle.sync_induct.specs.Walks.{values_of, known_of}
 use Rattle.sync_induct.proofs.Judging.{large-claim}

@@ -1,6 +1,6 @@
 use Rattle.std.proofs.Common.{Err, rules}
 use Rattle.sync_terms.proofs.Extending.{Extends-trans}
-use Rattle.sync_induct.specs.Checks.{proofs_in}
+use Rattle.sync_terms.specs.Proofs.{proofs_in}
 use Rattle.sync_induct.proofs.Lasting.{walk-stays}
 use Rattle.sync_induct.proofs.Scripts.{scripts-stay, checks-over, none-over}
 use Rattle.sync_induct.proofs.Stating.{safety-refused, known-refused, statement-passes, statement-shown, statement-comes}

@@ -1,5 +1,5 @@
 use Rattle.sync_terms.specs.Stored.{Extends}
-use Rattle.sync_induct.specs.Checks.{proofs_in}
+use Rattle.sync_terms.specs.Proofs.{proofs_in}
 use Rattle.sync_induct.specs.Walks.{IsWalk}
 use Rattle.sync_induct.proofs.Stepping.{Continues}
 use Rattle.sync_induct.proofs.Walking.{place_at}

@@ -1,5 +1,0 @@
-use Rattle.sync_acts.proofs.Making.{BuildsCondition-some}
-use Rattle.sync_acts.proofs.nodes.as_condition.Goals as goal
-
-pub returns : goal.returns
-returns c = λ s f h. BuildsCondition-some c.args.answer c.map.result h c.map.ensures.cases

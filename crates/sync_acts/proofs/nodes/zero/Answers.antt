@@ -1,8 +1,0 @@
-use Rattle.std.proofs.Common.{refl}
-use Rattle.sync_acts.proofs.Making.{FindsTerm-one}
-use Rattle.sync_terms.specs.Trees.{tree_size}
-use Rattle.sync_acts.proofs.nodes.zero.Goals as goal
-
-pub returns-clause-found : goal.returns-clause-found
-unfolding tree_size
-returns-clause-found c = FindsTerm-one _ c.term.result refl c.term.ensures.built

@@ -1,5 +1,0 @@
-use Rattle.sync_faults.proofs.Layers.{first-fault}
-use Rattle.sync_faults.proofs.verdict_is_first_fault.Goals as goal
-
-pub returns : goal.returns
-returns c = first-fault

@@ -1,0 +1,15 @@
+use Rattle.std.proofs.Common.{arith}
+use Rattle.sync_terms.proofs.Extending.{Extends-trans}
+use Rattle.sync_terms.specs.Trees.{tree_size, formula_size}
+use Rattle.sync_induct_acts.proofs.Making.{BuildsForm-term}
+use Rattle.sync_induct_acts.proofs.conditions.is_counted.Goals as goal
+
+pub returns-in_err-count-clause-built : goal.returns-in_err-count-clause-built
+unfolding tree_size formula_size
+returns-in_err-count-clause-built c = BuildsForm-term c.from_residual.result c.in_err-count.ensures.built c.from_residual.ensures.1 (omega arith)
+
+pub returns-in_err-one-clause-keeps : goal.returns-in_err-one-clause-keeps
+returns-in_err-one-clause-keeps c = Extends-trans c.term.ensures.keeps c.one.ensures.keeps
+
+pub returns-clause-keeps : goal.returns-clause-keeps
+returns-clause-keeps c = Extends-trans c.term.ensures.keeps (Extends-trans c.one.ensures.keeps c.form.ensures.keeps)

@@ -1,0 +1,15 @@
+use Rattle.std.proofs.Common.{arith}
+use Rattle.sync_terms.proofs.Extending.{Extends-trans}
+use Rattle.sync_terms.specs.Trees.{tree_size, formula_size}
+use Rattle.sync_induct_acts.proofs.Making.{BuildsForm-term}
+use Rattle.sync_induct_acts.proofs.conditions.is_free.Goals as goal
+
+pub returns-in_err-has-clause-built : goal.returns-in_err-has-clause-built
+unfolding tree_size formula_size
+returns-in_err-has-clause-built c = BuildsForm-term c.from_residual.result c.in_err-has.ensures.built c.from_residual.ensures.1 (omega arith)
+
+pub returns-in_err-zero-clause-keeps : goal.returns-in_err-zero-clause-keeps
+returns-in_err-zero-clause-keeps c = Extends-trans c.term.ensures.keeps c.zero.ensures.keeps
+
+pub returns-clause-keeps : goal.returns-clause-keeps
+returns-clause-keeps c = Extends-trans c.term.ensures.keeps (Extends-trans c.zero.ensures.keeps c.form.ensures.keeps)

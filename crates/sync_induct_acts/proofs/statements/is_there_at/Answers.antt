@@ -1,0 +1,5 @@
+use Rattle.sync_terms.proofs.Extending.{Extends-trans}
+use Rattle.sync_induct_acts.proofs.statements.is_there_at.Goals as goal
+
+pub returns-clause-keeps : goal.returns-clause-keeps
+returns-clause-keeps c = Extends-trans c.terms_of.ensures.keeps c.is_there_with.ensures.keeps

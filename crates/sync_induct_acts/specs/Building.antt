@@ -1,0 +1,96 @@
+-- What comes of building a term or a formula in a store that has a limit for their sizes.
+use Rattle.std.specs.Prelude.{◌≡◌, ℕ, ◌<◌, ◌≤◌, Option, Some, None, Result, IfOk, OnOk, IfErr}
+use Rattle.sync_terms.specs.declared.nodes.TermId.{TermId}
+use Rattle.sync_terms.specs.declared.nodes.FormId.{FormId}
+use Rattle.sync_terms.specs.declared.nodes.Node.{Node}
+use Rattle.sync_terms.specs.declared.nodes.Node.TheVariants as node
+use Rattle.sync_terms.specs.declared.nodes.FormNode.{FormNode}
+use Rattle.sync_terms.specs.declared.nodes.FormNode.TheVariants as form
+use Rattle.sync_terms.specs.declared.store.TermStop.{TermStop}
+use Rattle.sync_terms.specs.declared.store.TermStop.TheVariants.{TooLarge, Memory}
+use Rattle.sync_machine.specs.Machines.{PlaceTree}
+use Rattle.sync_machine.specs.Statements.{key_of, value_of}
+use Rattle.sync_induct_acts.specs.declared.places.PlaceTerms.{PlaceTerms}
+use Rattle.sync_terms.specs.Kept.{limit}
+use Rattle.sync_terms.specs.Stored.{Stored, tree, formula, IsTerm, IsForm}
+use Rattle.sync_terms.specs.Trees.{Tree, Lit, Name, Add, Sub, Scale, Get, Has, Size, Sum, Nil, Put, Del, Bump, Formula, Le, Lt, Eq, Not, And, Or, Imp, tree_size, formula_size}
+
+-- the store has this term under the id
+pub record HasTerm (s : Stored) (t : Tree) (id : TermId) : Type 0 where
+  pub stored : IsTerm s id
+  pub value : tree s id ≡ t
+
+-- the store has this formula under the id
+pub record HasForm (s : Stored) (f : Formula) (id : FormId) : Type 0 where
+  pub stored : IsForm s id
+  pub value : formula s id ≡ f
+
+-- the store has this formula, or there is none
+abbrev pub HasCondition : Stored → Option Formula → Option FormId → Type 0
+HasCondition s (Some f) (Some id) = HasForm s f id
+HasCondition s None None = Unit {0}
+HasCondition s (Some f) None = ⊥
+HasCondition s None (Some id) = ⊥
+
+-- the number of nodes of a condition; 0 where there is none
+abbrev pub condition_size : Option Formula → ℕ
+condition_size (Some f) = formula_size f
+condition_size None = 0
+
+-- what has this many nodes is over the limit, or memory was wanting
+abbrev pub Stops : ℕ → TermStop → Type 0
+Stops size TooLarge = limit < size
+Stops size Memory = Unit {0}
+
+-- Unless memory was wanting: the term where it is within the limit, else that it is too large.
+pub record BuildsTerm (s : Stored) (t : Tree) (answer : Result TermId TermStop) : Type 0 where
+  pub value : IfOk answer (HasTerm s t)
+  pub fits : OnOk answer (tree_size t ≤ limit)
+  pub stop : IfErr answer (Stops (tree_size t))
+
+-- Unless memory was wanting: the formula where it is within the limit, else that it is too large.
+pub record BuildsForm (s : Stored) (f : Formula) (answer : Result FormId TermStop) : Type 0 where
+  pub value : IfOk answer (HasForm s f)
+  pub fits : OnOk answer (formula_size f ≤ limit)
+  pub stop : IfErr answer (Stops (formula_size f))
+
+-- Unless memory was wanting: the condition where it is within the limit, else that it is too large.
+pub record BuildsCondition (s : Stored) (o : Option Formula) (answer : Result (Option FormId) TermStop) : Type 0 where
+  pub value : IfOk answer (HasCondition s o)
+  pub fits : OnOk answer (condition_size o ≤ limit)
+  pub stop : IfErr answer (Stops (condition_size o))
+
+-- Unless memory was wanting: the term.
+pub record FindsTerm (s : Stored) (t : Tree) (answer : Result TermId TermStop) : Type 0 where
+  pub value : IfOk answer (HasTerm s t)
+  pub stop : IfErr answer (λ e. e ≡ Memory)
+
+-- the key and the value of a place
+pub record HasPlaceTerms (s : Stored) (p : PlaceTree) (at : PlaceTerms) : Type 0 where
+  pub key : HasTerm s (key_of p) at.key
+  pub value : HasTerm s (value_of p) at.value
+
+-- the tree of a node, and its formula
+abbrev pub node_tree : Stored → Node → Tree
+node_tree s (node.Lit n) = Lit n
+node_tree s (node.Name x) = Name x.0
+node_tree s (node.Add a b) = Add (tree s a) (tree s b)
+node_tree s (node.Sub a b) = Sub (tree s a) (tree s b)
+node_tree s (node.Scale n a) = Scale n (tree s a)
+node_tree s (node.Get m k) = Get (tree s m) (tree s k)
+node_tree s (node.Has m k) = Has (tree s m) (tree s k)
+node_tree s (node.Size m) = Size (tree s m)
+node_tree s (node.Sum m) = Sum (tree s m)
+node_tree s node.Nil = Nil
+node_tree s (node.Put m k v) = Put (tree s m) (tree s k) (tree s v)
+node_tree s (node.Del m k) = Del (tree s m) (tree s k)
+node_tree s (node.Bump m k n) = Bump (tree s m) (tree s k) (tree s n)
+
+abbrev pub node_formula : Stored → FormNode → Formula
+node_formula s (form.Le a b) = Le (tree s a) (tree s b)
+node_formula s (form.Lt a b) = Lt (tree s a) (tree s b)
+node_formula s (form.Eq a b) = Eq (tree s a) (tree s b)
+node_formula s (form.Not f) = Not (formula s f)
+node_formula s (form.And f g) = And (formula s f) (formula s g)
+node_formula s (form.Or f g) = Or (formula s f) (formula s g)
+node_formula s (form.Imp f g) = Imp (formula s f) (formula s g)

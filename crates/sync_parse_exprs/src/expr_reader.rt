@@ -1,0 +1,433 @@
+//! Reading expressions. `left` is 65 less the number of brackets that are open.
+ghost use Rattle.std.specs.Prelude.{◌≡◌, ◌<◌, IfOk};
+ghost use Rattle.sync_parse_exprs.specs.Faults.{Reads};
+ghost use Rattle.sync_parse_exprs.specs.Lexemes.{series};
+ghost use Rattle.sync_parse_exprs.specs.Expressions.{signed, placed, special_of, function_of, begins_operand, relation_of, sum_of, factor_of, whole, sign_operand, operand, unary, product, sums, relation, ands, ors, implies, inside, expr_at, exprs_at};
+
+use crate::expressions::{Expr, ExprKind, Function, Operator, Special};
+use crate::faults::{Fault, Halt};
+use crate::lexemes::{Read, begins_with, deep, first_line, name, next, number, sign, wanted};
+use crate::naming::Named;
+use sqlite_items::{Boxed, Items};
+use std::alloc::{AllocError, Global};
+use sync_lex::{LARGEST, Sign, TerminalKind, Terminal};
+
+/// So many operators of a chain, or prefix signs of a run, may stand at one level.
+const CHAIN: u32 = 64;
+
+/// A number of the text.
+pub fn signed(number: u128) -> i128
+    ensures { result ≡ signed number }
+{
+    number.min(LARGEST) as i128
+}
+
+fn placed(alloc: Global, what: ExprKind, line: u32) -> Result<Boxed<Expr>, AllocError>
+    ensures { IfOk result (λ e. e ≡ placed what line) }
+{
+    Boxed::new(alloc, Expr { what, line })
+}
+
+/// Two expressions with an operator between, each with its line.
+fn two(
+    alloc: Global,
+    operator: Operator,
+    first: ExprKind,
+    line: u32,
+    second: ExprKind,
+    second_line: u32,
+) -> Result<ExprKind, AllocError>
+    ensures { IfOk result (λ e. e ≡ ExprKind.Two operator (placed first line) (placed second second_line)) }
+{
+    let first = placed(alloc, first, line)?;
+    let second = placed(alloc, second, second_line)?;
+    Ok(ExprKind::Two(operator, first, second))
+}
+
+/// The terminal that has a value at some places.
+#[tactic(auto, unfolding(crate::specs::Expressions::special_of))]
+pub fn special_of(sign: Sign) -> Option<Special>
+    ensures { result ≡ special_of sign }
+{
+    if sign == Sign::Value {
+        Some(Special::Value)
+    } else if sign == Sign::Index {
+        Some(Special::Index)
+    } else if sign == Sign::Old {
+        Some(Special::Old)
+    } else if sign == Sign::New {
+        Some(Special::New)
+    } else if sign == Sign::Wrap {
+        Some(Special::Wrap)
+    } else {
+        None
+    }
+}
+
+#[tactic(auto, unfolding(crate::specs::Expressions::function_of))]
+fn function_of(sign: Sign) -> Option<Function>
+    ensures { result ≡ function_of sign }
+{
+    if sign == Sign::Get {
+        Some(Function::Get)
+    } else if sign == Sign::Has {
+        Some(Function::Has)
+    } else if sign == Sign::Size {
+        Some(Function::Size)
+    } else if sign == Sign::Sum {
+        Some(Function::Sum)
+    } else if sign == Sign::Put {
+        Some(Function::Put)
+    } else if sign == Sign::Del {
+        Some(Function::Del)
+    } else if sign == Sign::Bump {
+        Some(Function::Bump)
+    } else if sign == Sign::Held {
+        Some(Function::Held)
+    } else {
+        None
+    }
+}
+
+#[tactic(auto, unfolding(crate::specs::Expressions::relation_of))]
+fn relation_of(terminal: Terminal) -> Option<Operator>
+    ensures { result ≡ relation_of terminal }
+{
+    if terminal.is(Sign::Equal) {
+        Some(Operator::Equal)
+    } else if terminal.is(Sign::NotEqual) {
+        Some(Operator::NotEqual)
+    } else if terminal.is(Sign::AtMost) {
+        Some(Operator::AtMost)
+    } else if terminal.is(Sign::Below) {
+        Some(Operator::Below)
+    } else {
+        None
+    }
+}
+
+#[tactic(auto, unfolding(crate::specs::Expressions::sum_of))]
+fn sum_of(terminal: Terminal) -> Option<Operator>
+    ensures { result ≡ sum_of terminal }
+{
+    if terminal.is(Sign::Plus) {
+        Some(Operator::Plus)
+    } else if terminal.is(Sign::Minus) {
+        Some(Operator::Minus)
+    } else {
+        None
+    }
+}
+
+#[tactic(auto, unfolding(crate::specs::Expressions::begins_operand))]
+fn begins_operand(sign: Sign) -> bool
+    ensures { result ≡ begins_operand sign }
+{
+    sign == Sign::Nil
+        || sign == Sign::Dollar
+        || sign == Sign::OpenRound
+        || special_of(sign).is_some()
+        || function_of(sign).is_some()
+}
+
+/// The number of a product that begins here.
+#[tactic(auto, unfolding(crate::specs::Expressions::factor_of))]
+fn factor_of(terminals: &[Terminal]) -> Option<u128>
+    ensures { result ≡ factor_of terminals.now }
+{
+    let (terminal, rest) = next(terminals)?;
+    let (star, _) = next(rest)?;
+    match terminal.what {
+        TerminalKind::Number(number) if star.is(Sign::Star) => Some(number),
+        _ => None,
+    }
+}
+
+/// An expression inside of brackets that open at a level.
+#[cycle(expr)]
+#[tactic(auto, using(crate::proofs::Inside::inside_is))]
+fn expr_inside<'a>(alloc: Global, terminals: &'a [Terminal], left: u32) -> Read<'a, Expr>
+    requires { 0 < left }
+    ensures { Reads (λ x. (x.0, x.1.now)) result (whole (inside left) terminals.now) }
+{
+    let line = first_line(terminals);
+    let (what, rest) = implies(alloc, terminals, left - 1, CHAIN)?;
+    Ok((Expr { what, line }, rest))
+}
+
+/// Expressions with commas between, at least one, inside of brackets that open at a level.
+#[cycle(expr)]
+#[tactic(auto, unfolding(crate::specs::Lexemes::series, crate::specs::Lexemes::behind_commas))]
+fn expr_series<'a>(alloc: Global, terminals: &'a [Terminal], left: u32) -> Read<'a, Items<Expr>>
+    requires { 0 < left }
+    ensures { Reads (λ x. (x.0, x.1.now)) result (series (whole (inside left)) terminals.now) }
+{
+    let (first, mut rest) = expr_inside(alloc, terminals, left)?;
+    let mut held = Items::new(alloc);
+    held.push(first)?;
+    for _ in 0..rest.len() {
+        match next(rest) {
+            Some((terminal, after)) if terminal.is(Sign::Comma) => {
+                let (item, after) = expr_inside(alloc, after, left)?;
+                held.push(item)?;
+                rest = after;
+            }
+            _ => return Ok((held, rest)),
+        }
+    }
+    Ok((held, rest))
+}
+
+/// An operand that begins with this sign or reserved word; the terminals are those behind it.
+#[cycle(expr)]
+#[tactic(auto, using(crate::proofs::Inside::inside_is), unfolding(crate::specs::Expressions::sign_operand, crate::specs::Lexemes::in_round, crate::specs::Lexemes::listed))]
+fn sign_operand<'a>(
+    alloc: Global,
+    first: Sign,
+    line: u32,
+    terminals: &'a [Terminal],
+    left: u32,
+) -> Read<'a, ExprKind>
+    ensures { Reads (λ x. (x.0, x.1.now)) result (sign_operand (inside left) left first line terminals.now) }
+{
+    if !begins_operand(first) {
+        return Err(wanted(line));
+    }
+    if left == 0 {
+        return Err(deep(line));
+    }
+    if first == Sign::Nil {
+        return Ok((ExprKind::Nil, terminals));
+    }
+    if first == Sign::Dollar {
+        let (param, rest) = name(terminals, left)?;
+        return Ok((ExprKind::Param(line, param), rest));
+    }
+    if first == Sign::OpenRound {
+        let (inner, rest) = expr_inside(alloc, terminals, left)?;
+        let (_, rest) = sign(rest, left - 1, Sign::CloseRound)?;
+        return Ok((ExprKind::Bracketed(Boxed::new(alloc, inner)?), rest));
+    }
+    if let Some(terminal) = special_of(first) {
+        return Ok((ExprKind::Special(terminal, line), terminals));
+    }
+    match function_of(first) {
+        Some(function) => {
+            let (_, rest) = sign(terminals, left, Sign::OpenRound)?;
+            let (list, rest) = if begins_with(rest, Sign::CloseRound) {
+                (Items::new(alloc), rest)
+            } else {
+                expr_series(alloc, rest, left)?
+            };
+            let (_, rest) = sign(rest, left - 1, Sign::CloseRound)?;
+            Ok((ExprKind::Call(function, line, list), rest))
+        }
+        None => Err(wanted(line)),
+    }
+}
+
+#[cycle(expr)]
+#[tactic(auto, unfolding(crate::specs::Expressions::operand))]
+fn operand<'a>(alloc: Global, terminals: &'a [Terminal], left: u32) -> Read<'a, ExprKind>
+    ensures { Reads (λ x. (x.0, x.1.now)) result (operand (inside left) left terminals.now) }
+{
+    let (terminal, rest) = next(terminals).ok_or(Halt::Fault(Fault::Ended))?;
+    let line = terminal.line;
+    match terminal.what {
+        TerminalKind::Sign(first) => sign_operand(alloc, first, line, rest, left),
+        TerminalKind::Number(_) | TerminalKind::Name(_, _) if left == 0 => Err(deep(line)),
+        TerminalKind::Number(number) => Ok((ExprKind::Number(signed(number)), rest)),
+        TerminalKind::Name(name, _) => Ok((ExprKind::Name(Named { name, line }), rest)),
+    }
+}
+
+/// An operand behind at most `run` prefix signs.
+#[cycle(expr)]
+#[tactic(auto, unfolding(crate::specs::Expressions::unary))]
+fn unary<'a>(alloc: Global, terminals: &'a [Terminal], left: u32, run: u32) -> Read<'a, ExprKind>
+    ensures { Reads (λ x. (x.0, x.1.now)) result (unary (inside left) left run terminals.now) }
+{
+    let (terminal, rest) = next(terminals).ok_or(Halt::Fault(Fault::Ended))?;
+    if terminal.is(Sign::Bang) {
+        if left == 0 || run == 0 {
+            return Err(deep(terminal.line));
+        }
+        let line = first_line(rest);
+        let (what, rest) = unary(alloc, rest, left, run - 1)?;
+        return Ok((ExprKind::Not(placed(alloc, what, line)?), rest));
+    }
+    if terminal.is(Sign::Minus) {
+        if left == 0 || run == 0 {
+            return Err(deep(terminal.line));
+        }
+        let line = first_line(rest);
+        let (what, rest) = unary(alloc, rest, left, run - 1)?;
+        return Ok((ExprKind::Minus(placed(alloc, what, line)?), rest));
+    }
+    operand(alloc, terminals, left)
+}
+
+#[cycle(expr)]
+#[tactic(auto, unfolding(crate::specs::Expressions::product))]
+fn product<'a>(alloc: Global, terminals: &'a [Terminal], left: u32) -> Read<'a, ExprKind>
+    ensures { Reads (λ x. (x.0, x.1.now)) result (product (inside left) left terminals.now) }
+{
+    if factor_of(terminals).is_none() {
+        return unary(alloc, terminals, left, CHAIN);
+    }
+    let (factor, rest) = number(terminals, left)?;
+    let (_, rest) = sign(rest, left, Sign::Star)?;
+    let line = first_line(rest);
+    let (what, rest) = unary(alloc, rest, left, CHAIN)?;
+    let operand = placed(alloc, what, line)?;
+    Ok((ExprKind::Times(signed(factor), operand), rest))
+}
+
+#[cycle(expr)]
+#[tactic(auto, unfolding(crate::specs::Expressions::sums, crate::specs::Expressions::chain))]
+fn sums<'a>(alloc: Global, terminals: &'a [Terminal], left: u32) -> Read<'a, ExprKind>
+    ensures { Reads (λ x. (x.0, x.1.now)) result (sums (inside left) left terminals.now) }
+{
+    let line = first_line(terminals);
+    let (mut held, mut rest) = product(alloc, terminals, left)?;
+    let mut more = CHAIN;
+    loop {
+        let Some((terminal, after)) = next(rest) else {
+            return Ok((held, rest));
+        };
+        let Some(operator) = sum_of(terminal) else {
+            return Ok((held, rest));
+        };
+        if more == 0 {
+            return Err(deep(terminal.line));
+        }
+        more -= 1;
+        let second_line = first_line(after);
+        let (second, after) = product(alloc, after, left)?;
+        held = two(alloc, operator, held, line, second, second_line)?;
+        rest = after;
+    }
+}
+
+#[cycle(expr)]
+#[tactic(auto, unfolding(crate::specs::Expressions::relation))]
+fn relation<'a>(alloc: Global, terminals: &'a [Terminal], left: u32) -> Read<'a, ExprKind>
+    ensures { Reads (λ x. (x.0, x.1.now)) result (relation (inside left) left terminals.now) }
+{
+    let line = first_line(terminals);
+    let (first, rest) = sums(alloc, terminals, left)?;
+    let Some((terminal, after)) = next(rest) else {
+        return Ok((first, rest));
+    };
+    let Some(operator) = relation_of(terminal) else {
+        return Ok((first, rest));
+    };
+    let second_line = first_line(after);
+    let (second, rest) = sums(alloc, after, left)?;
+    Ok((
+        two(alloc, operator, first, line, second, second_line)?,
+        rest,
+    ))
+}
+
+#[cycle(expr)]
+#[tactic(auto, unfolding(crate::specs::Expressions::ands, crate::specs::Expressions::chain))]
+fn ands<'a>(alloc: Global, terminals: &'a [Terminal], left: u32) -> Read<'a, ExprKind>
+    ensures { Reads (λ x. (x.0, x.1.now)) result (ands (inside left) left terminals.now) }
+{
+    let line = first_line(terminals);
+    let (mut held, mut rest) = relation(alloc, terminals, left)?;
+    let mut more = CHAIN;
+    loop {
+        let Some((terminal, after)) = next(rest) else {
+            return Ok((held, rest));
+        };
+        if !terminal.is(Sign::And) {
+            return Ok((held, rest));
+        }
+        if more == 0 {
+            return Err(deep(terminal.line));
+        }
+        more -= 1;
+        let second_line = first_line(after);
+        let (second, after) = relation(alloc, after, left)?;
+        held = two(alloc, Operator::And, held, line, second, second_line)?;
+        rest = after;
+    }
+}
+
+#[cycle(expr)]
+#[tactic(auto, unfolding(crate::specs::Expressions::ors, crate::specs::Expressions::chain))]
+fn ors<'a>(alloc: Global, terminals: &'a [Terminal], left: u32) -> Read<'a, ExprKind>
+    ensures { Reads (λ x. (x.0, x.1.now)) result (ors (inside left) left terminals.now) }
+{
+    let line = first_line(terminals);
+    let (mut held, mut rest) = ands(alloc, terminals, left)?;
+    let mut more = CHAIN;
+    loop {
+        let Some((terminal, after)) = next(rest) else {
+            return Ok((held, rest));
+        };
+        if !terminal.is(Sign::Or) {
+            return Ok((held, rest));
+        }
+        if more == 0 {
+            return Err(deep(terminal.line));
+        }
+        more -= 1;
+        let second_line = first_line(after);
+        let (second, after) = ands(alloc, after, left)?;
+        held = two(alloc, Operator::Or, held, line, second, second_line)?;
+        rest = after;
+    }
+}
+
+/// Disjunctions with at most `run` times `==>` between, from the right.
+#[cycle(expr)]
+#[tactic(auto, unfolding(crate::specs::Expressions::implies))]
+fn implies<'a>(alloc: Global, terminals: &'a [Terminal], left: u32, run: u32) -> Read<'a, ExprKind>
+    ensures { Reads (λ x. (x.0, x.1.now)) result (implies (inside left) left run terminals.now) }
+{
+    let line = first_line(terminals);
+    let (first, rest) = ors(alloc, terminals, left)?;
+    let Some((terminal, after)) = next(rest) else {
+        return Ok((first, rest));
+    };
+    if !terminal.is(Sign::Implies) {
+        return Ok((first, rest));
+    }
+    if run == 0 {
+        return Err(deep(terminal.line));
+    }
+    let second_line = first_line(after);
+    let (second, rest) = implies(alloc, after, left, run - 1)?;
+    Ok((
+        two(alloc, Operator::Implies, first, line, second, second_line)?,
+        rest,
+    ))
+}
+
+/// An expression with the line of its first lexeme.
+#[tactic(auto, unfolding(crate::specs::Expressions::expr_at))]
+pub fn expr<'a>(alloc: Global, terminals: &'a [Terminal], left: u32) -> Read<'a, Expr>
+    ensures { Reads (λ x. (x.0, x.1.now)) result (expr_at left terminals.now) }
+{
+    let line = first_line(terminals);
+    let (what, rest) = implies(alloc, terminals, left, CHAIN)?;
+    Ok((Expr { what, line }, rest))
+}
+
+/// Expressions with commas between, or nothing, in round brackets.
+#[tactic(auto, unfolding(crate::specs::Lexemes::in_round, crate::specs::Lexemes::listed))]
+pub fn exprs<'a>(alloc: Global, terminals: &'a [Terminal], left: u32) -> Read<'a, Items<Expr>>
+    ensures { Reads (λ x. (x.0, x.1.now)) result (exprs_at left terminals.now) }
+{
+    let (_, rest) = sign(terminals, left, Sign::OpenRound)?;
+    let (list, rest) = if begins_with(rest, Sign::CloseRound) {
+        (Items::new(alloc), rest)
+    } else {
+        expr_series(alloc, rest, left)?
+    };
+    let (_, rest) = sign(rest, left - 1, Sign::CloseRound)?;
+    Ok((list, rest))
+}

@@ -1,0 +1,463 @@
+-- What is spelled as a machine, as proofs and as a whole text is read, where it is not too deep.
+use Rattle.std.proofs.Common.{◌≡◌, ℕ, ◌-◌, ◌<◌, ◌==◌, Bool, true, false, ◌||◌, if◌then◌else◌, List, [], ◌∷◌, length, Result, Ok, Err, Some, None, is_some, ◌⊎◌, inl, inr, IfErr, refl, sym, ap, ◌∙◌, subst, arith}
+use Rattle.std.proofs.lemmas.Bool.{eqb-true}
+use Rattle.sync_base.specs.Outcome as outcome
+use Rattle.sync_base.specs.Outcome.{Gives}
+use Rattle.sync_base.specs.declared.stops.Refusal.{Refusal}
+use Rattle.sync_base.specs.declared.stops.Stop.{Stop}
+use Rattle.sync_base.specs.declared.stops.Stop.TheVariants as stop
+use Rattle.sync_base.specs.declared.stops.Rule.TheVariants as rule
+use Rattle.sync_base.specs.declared.strategies.OpMode.{OpMode}
+use Rattle.sync_base.specs.declared.strategies.OpMode.TheVariants as mode
+use Rattle.sync_lex.specs.declared.signs.Sign.{Sign}
+use Rattle.sync_lex.specs.declared.signs.Sign.TheVariants as sign
+use Rattle.sync_lex.specs.declared.terminals.TerminalKind.TheVariants as what
+use Rattle.sync_lex.specs.declared.terminals.Terminal.{Terminal}
+use Rattle.sync_lex.specs.declared.terminals.Terminals.{Terminals}
+use Rattle.sync_lex.specs.Terminals.{is_sign, terminals_in}
+use Rattle.sync_parse_exprs.specs.declared.faults.Fault.{Fault}
+use Rattle.sync_parse_exprs.specs.declared.faults.Fault.TheVariants as fault
+use Rattle.sync_parse_exprs.specs.declared.naming.Named.{Named}
+use Rattle.sync_parse_exprs.specs.declared.expressions.Expr.{Expr}
+use Rattle.sync_parse.specs.declared.trees.RawText.{RawText}
+use Rattle.sync_parse.specs.declared.trees.RawMachine.{RawMachine}
+use Rattle.sync_parse.specs.declared.trees.RawProof.{RawProof}
+use Rattle.sync_parse.specs.declared.trees.RawActKind.{RawActKind}
+use Rattle.sync_parse.specs.declared.trees.RawActKind.TheVariants as act
+use Rattle.sync_parse.specs.declared.trees.RawPlace.{RawPlace}
+use Rattle.sync_parse.specs.declared.trees.RawPlace.TheVariants as place
+use Rattle.sync_parse_exprs.specs.Lexemes.{Read, Reader, begins_with, sign_at, number_at}
+use Rattle.sync_parse.specs.Faults.{refusal_of, refused}
+use Rattle.sync_parse.specs.Machines.{pattern_at, keyed, place_at, closed_expr, closed_place, formula_act, value_act, field_place, place_act, have_act, act_kind, act_at, acts, field_at, fields, mode_of, mode_said, mode_at, operation_at, begins_operation, operations, invariant_at, invariants, machine_at, claim_at, proof_at, proof_row, proofs_at, version_at, at_end, text_of, parsed}
+use Rattle.sync_parse_grammar.specs.Relations.{Spelled, The, ANumber, Yields, Then, ◌>>=◌, ◌>>◌, Either, the_one, the_other, Closed}
+use Rattle.sync_parse_grammar.specs.Expressions.{AnExpr}
+use Rattle.sync_parse_grammar.specs.Scripts.{Script}
+use Rattle.sync_parse_grammar.specs.Machines.{Pattern, Place, FormulaAct, ValueAct, FieldPlace, PlaceAct, HaveAct, ActKind, Act, Field, Mode, Operation, Invariant, Machine, Claim, Proof, Proofs}
+use Rattle.sync_parse_grammar.specs.Texts.{Version, Text, IsVersionOne, Spells, MayRefuse}
+use Rattle.sync_parse_grammar.proofs.Clears.{code, front, Set, any, only, among, others, In, only_in, among_in, same_in, Starts, Follows, starts_then, starts_or, starts_the, follows_starts, follows_then, follows_yields, follows_or}
+use Rattle.sync_parse_grammar.proofs.ExpressionsClear.{operators, operands, starts_expr}
+use Rattle.sync_parse_grammar.proofs.MachinesClear.{formula_fork, value_fork, place_fork, have_fork, starts_act, field_fork, modes, operation_fork, invariant_fork, proof_fork, behind_operations, behind_fields, invariants_follow, operations_follow, terminals_are}
+use Rattle.sync_parse_grammar.proofs.Counting.{silent_act, silent_field, silent_operation, silent_invariant, silent_claim, silent_block, one_shorter}
+use Rattle.sync_parse_grammar.proofs.Completes.{Excused, Met, gives, Complete, Shrinks, Row, braced, complete_yields, complete_then, complete_next, complete_here, complete_if, complete_last, complete_optional, complete_row, met_if, met_within, tail_is, says, begins_is, begins_not, front_case, is_not, complete_the, complete_name, complete_number, complete_strategy, complete_names}
+use Rattle.sync_parse_grammar.proofs.ExpressionsComplete.{complete_expr, if_yes, if_no, sign_yes, sign_not}
+use Rattle.sync_parse_grammar.proofs.ScriptsComplete.{union_in, expr_next, complete_script}
+
+-- ---- statements
+
+complete_pattern : (left : ℕ) (ts : List Terminal) → Complete (others operators) Pattern ts (pattern_at left ts)
+unfolding pattern_at Pattern
+complete_pattern left ts = complete_if sign.Question (starts_then starts_the) (starts_then starts_expr) (among_in (code sign.Bang ∷ code sign.Minus ∷ operands) refl)
+    (complete_next (complete_the left sign.Question ts) λ q. complete_next (complete_name left q.1) λ n. complete_yields)
+    (complete_then (others operators) (complete_expr left ts) (λ e. complete_yields) (λ e. follows_yields same_in))
+
+keyed_complete : (left : ℕ) (key : Expr) (ts : List Terminal) → Complete (only (code sign.CloseSquare)) (Either (Yields (place.Key key)) (The sign.MapsTo >>= λ m. Pattern >>= λ p. Yields (place.Entry key p))) ts (keyed left key ts)
+unfolding keyed
+keyed_complete left key ts = complete_optional sign.MapsTo (starts_then starts_the) (only_in _ refl)
+    (complete_next (complete_the left sign.MapsTo ts) λ m. complete_then (others operators) (complete_pattern left m.1) (λ p. complete_yields) (λ p. follows_yields (only_in _ refl)))
+
+complete_place : {q : Set} (left : ℕ) (ts : List Terminal) → Complete q Place ts (place_at left ts)
+unfolding place_at Place
+complete_place left ts = complete_if sign.OpenRound (starts_then starts_the) (starts_then (starts_the {s = sign.OpenSquare})) (only_in _ refl)
+    (complete_next (complete_the left sign.OpenRound ts) λ o. complete_then (others operators) (complete_pattern (left - 1) o.1)
+    (λ p. complete_next (complete_the (left - 1) sign.CloseRound p.1) λ e. complete_yields) (λ p. follows_starts (starts_then starts_the) (only_in _ refl)))
+    (complete_next (complete_the left sign.OpenSquare ts) λ o. complete_then (others operators) (complete_expr (left - 1) o.1)
+    (λ k. complete_then (only (code sign.CloseSquare)) (keyed_complete (left - 1) k.0 k.1) (λ p. complete_next (complete_the (left - 1) sign.CloseSquare p.1) λ e. complete_yields)
+    (λ p. follows_starts (starts_then starts_the) same_in))
+    (λ k. follows_then (only (code sign.CloseSquare)) (follows_or (follows_yields (only_in _ refl)) (follows_starts (starts_then (starts_the {s = sign.MapsTo})) (only_in _ refl)))
+    (λ x. follows_starts (starts_then starts_the) same_in)))
+
+complete_closed_expr : (left : ℕ) (ts : List Terminal) → Complete any (Closed AnExpr) ts (closed_expr left ts)
+unfolding closed_expr Closed
+complete_closed_expr left ts = expr_next left (λ e. complete_next (complete_the left sign.Semicolon e.1) λ s. complete_yields) (λ e. starts_then starts_the) (only_in _ refl)
+
+complete_closed_place : (left : ℕ) (ts : List Terminal) → Complete any (Closed Place) ts (closed_place left ts)
+unfolding closed_place Closed
+complete_closed_place left ts = complete_next (complete_place left ts) λ p. complete_next (complete_the left sign.Semicolon p.1) λ s. complete_yields
+
+complete_formula : {q : Set} (opening : Sign) (made : Expr → RawActKind) (left : ℕ) (ts : List Terminal) → Complete q (FormulaAct opening made) ts (formula_act opening made left ts)
+unfolding formula_act FormulaAct
+complete_formula opening made left ts = complete_next (complete_the left opening ts) λ w. complete_next (complete_closed_expr left w.1) λ e. complete_yields
+
+complete_value : {q : Set} (opening : Sign) (made : Named → Expr → RawActKind) (left : ℕ) (ts : List Terminal) → Complete q (ValueAct opening made) ts (value_act opening made left ts)
+unfolding value_act ValueAct
+complete_value opening made left ts = complete_next (complete_the left opening ts) λ w. complete_next (complete_name left w.1) λ n. complete_next (complete_the left sign.Equal n.1) λ q.
+    complete_next (complete_closed_expr left q.1) λ e. complete_yields
+
+complete_field_place : (opening symbol : Sign) (left : ℕ) (ts : List Terminal) → Complete any (FieldPlace opening symbol) ts (field_place opening symbol left ts)
+unfolding field_place FieldPlace
+complete_field_place opening symbol left ts = complete_next (complete_the left opening ts) λ w. complete_next (complete_name left w.1) λ n. complete_next (complete_the left symbol n.1) λ q.
+    complete_next (complete_closed_place left q.1) λ p. complete_yields
+
+complete_place_act : {q : Set} (opening symbol : Sign) (made : Named → RawPlace → RawActKind) (left : ℕ) (ts : List Terminal) → Complete q (PlaceAct opening symbol made) ts (place_act opening symbol made left ts)
+unfolding place_act PlaceAct
+complete_place_act opening symbol made left ts = complete_next (complete_field_place opening symbol left ts) λ x. complete_yields
+
+complete_have : {q : Set} (left : ℕ) (ts : List Terminal) → Complete q HaveAct ts (have_act left ts)
+unfolding have_act HaveAct
+complete_have left ts = complete_next (complete_the left sign.Have ts) λ w. complete_next (complete_name left w.1) λ n.
+    complete_if sign.Semicolon (starts_then starts_the) (starts_then (starts_the {s = sign.AtLeast})) (only_in _ refl)
+    (complete_next (complete_the left sign.Semicolon n.1) λ s. complete_yields)
+    (complete_next (complete_the left sign.AtLeast n.1) λ q. complete_next (complete_closed_place left q.1) λ p. complete_yields)
+
+abbrev deposit_codes : List ℕ
+deposit_codes = code sign.Remove ∷ code sign.Withdraw ∷ []
+
+abbrev guard_codes : List ℕ
+guard_codes = code sign.Add ∷ code sign.Deposit ∷ deposit_codes
+
+abbrev update_codes : List ℕ
+update_codes = code sign.Have ∷ code sign.Guard ∷ guard_codes
+
+complete_act_kind : {q : Set} (left : ℕ) (ts : List Terminal) → Complete q ActKind ts (act_kind left ts)
+unfolding act_kind ActKind
+complete_act_kind left ts =
+    let s10 = (place_fork {q = any} sign.Withdraw sign.MinusEqual act.Withdraw).left in
+    let s9 = starts_or (place_fork {q = any} sign.Remove sign.MinusEqual act.Remove).left s10 in
+    let s8 = starts_or (place_fork {q = any} sign.Deposit sign.PlusEqual act.Deposit).left s9 in
+    let s7 = starts_or (place_fork {q = any} sign.Add sign.PlusEqual act.Add).left s8 in
+    let s6 = starts_or (place_fork {q = any} sign.Guard sign.AtLeast act.Guard).left s7 in
+    let s5 = starts_or (have_fork {q = any}).left s6 in
+    let s4 = starts_or (value_fork {q = any} sign.Update act.Update).left s5 in
+    let s3 = starts_or (formula_fork {q = any} sign.Assert act.Assert).left s4 in
+    let s2 = starts_or (formula_fork {q = any} sign.Require act.Require).left s3 in
+    complete_if sign.Init (value_fork {q = any} sign.Init act.Init).left s2 (union_in (code sign.Require ∷ code sign.Assert ∷ code sign.Update ∷ update_codes) refl) (complete_value sign.Init act.Init left ts)
+    (complete_if sign.Require (formula_fork {q = any} sign.Require act.Require).left s3 (union_in (code sign.Assert ∷ code sign.Update ∷ update_codes) refl) (complete_formula sign.Require act.Require left ts)
+    (complete_if sign.Assert (formula_fork {q = any} sign.Assert act.Assert).left s4 (union_in (code sign.Update ∷ update_codes) refl) (complete_formula sign.Assert act.Assert left ts)
+    (complete_if sign.Update (value_fork {q = any} sign.Update act.Update).left s5 (union_in update_codes refl) (complete_value sign.Update act.Update left ts)
+    (complete_if sign.Have (have_fork {q = any}).left s6 (union_in (code sign.Guard ∷ guard_codes) refl) (complete_have left ts)
+    (complete_if sign.Guard (place_fork {q = any} sign.Guard sign.AtLeast act.Guard).left s7 (union_in guard_codes refl) (complete_place_act sign.Guard sign.AtLeast act.Guard left ts)
+    (complete_if sign.Add (place_fork {q = any} sign.Add sign.PlusEqual act.Add).left s8 (union_in (code sign.Deposit ∷ deposit_codes) refl) (complete_place_act sign.Add sign.PlusEqual act.Add left ts)
+    (complete_if sign.Deposit (place_fork {q = any} sign.Deposit sign.PlusEqual act.Deposit).left s9 (union_in deposit_codes refl) (complete_place_act sign.Deposit sign.PlusEqual act.Deposit left ts)
+    (complete_if sign.Remove (place_fork {q = any} sign.Remove sign.MinusEqual act.Remove).left s10 (only_in _ refl) (complete_place_act sign.Remove sign.MinusEqual act.Remove left ts)
+    (complete_last _ sign.Withdraw s10 (complete_place_act sign.Withdraw sign.MinusEqual act.Withdraw left ts))))))))))
+
+complete_act : {q : Set} (left : ℕ) (ts : List Terminal) → Complete q Act ts (act_at left ts)
+unfolding act_at Act
+complete_act left ts = complete_here (complete_next (complete_act_kind left ts) λ x. complete_yields)
+
+-- ---- machines
+
+complete_field : {q : Set} (left : ℕ) (ts : List Terminal) → Complete q Field ts (field_at left ts)
+unfolding field_at Field
+complete_field left ts = complete_next (complete_the left sign.Field ts) λ f. complete_next (complete_name left f.1) λ n. complete_next (complete_the left sign.Colon n.1) λ c.
+    complete_next (complete_strategy left c.1) λ s. complete_next (complete_the left sign.Semicolon s.1) λ e. complete_yields
+
+-- a row of items that begin with this sign
+headed : {A : Type 0} {q : Set} {m : Spelled A} {item : Reader A} (s : Sign) → ((ts : List Terminal) → Complete any m ts (item ts)) → Shrinks m → Starts m (only (code s)) → In q (others (only (code s)))
+    → Row q any m (begins_with s) item
+headed s c k t i = record {
+  complete = c;
+  shrinks = k;
+  begin = λ ts rest x d. begins_is s ts ∙ t.at ts rest x d;
+  stop = λ ts e. begins_not s ts (i.at (front ts) e);
+  follows = record { at = λ ts rest xs d e. refl };
+}
+
+some_mode : (a b c : Bool) → is_some (if a then Some mode.Init else if b then Some mode.Transition else if c then Some mode.Property else None) ≡ (a || (b || c))
+some_mode true b c = refl
+some_mode false true c = refl
+some_mode false false true = refl
+some_mode false false false = refl
+
+modes_are : (ts : List Terminal) → begins_operation ts ≡ modes (front ts)
+unfolding mode_of
+modes_are [] = refl
+modes_are (w ∷ ws) = some_mode (is_sign w sign.Init) (is_sign w sign.Transition) (is_sign w sign.Property)
+    ∙ (λ i. front_case sign.Init w.what i || (front_case sign.Transition w.what i || front_case sign.Property w.what i))
+
+mode_terminal : (left : ℕ) (w v : Terminal) (ws vs : List Terminal) (m x : OpMode) (rest : List Terminal) → ◌≡◌ {A = List Terminal} (w ∷ ws) (v ∷ vs) → mode_of w ≡ Some m → x ≡ m → vs ≡ rest → Met (mode_said left w ws (mode_of w)) (x, rest)
+mode_terminal left w v ws vs m x rest e is value end = subst (λ z. Met (mode_said left w ws z) (x, rest)) (sym is) (met_within left w.line λ room. gives (sym value) (tail_is w v ws vs e ∙ end))
+
+mode_case : (left : ℕ) (ts : List Terminal) (x : OpMode) (rest : List Terminal) → Mode ts rest x → Met (mode_at left ts) (x, rest)
+unfolding mode_at mode_of Mode
+mode_case left [] x rest (the_one d) = let e : ◌≡◌ {A = List Terminal} [] (d.one.terminal ∷ d.middle) = d.one.stands in absurd cc
+mode_case left [] x rest (the_other (the_one d)) = let e : ◌≡◌ {A = List Terminal} [] (d.one.terminal ∷ d.middle) = d.one.stands in absurd cc
+mode_case left [] x rest (the_other (the_other d)) = let e : ◌≡◌ {A = List Terminal} [] (d.one.terminal ∷ d.middle) = d.one.stands in absurd cc
+mode_case left (w ∷ ws) x rest (the_one d) =
+    let is = says w d.one.terminal ws d.middle (what.Sign sign.Init) d.one.stands d.one.is in
+    mode_terminal left w d.one.terminal ws d.middle mode.Init x rest d.one.stands (if_yes _ (is_sign w sign.Init) (sign_yes w sign.Init sign.Init is refl)) d.next.is d.next.none
+mode_case left (w ∷ ws) x rest (the_other (the_one d)) =
+    let is = says w d.one.terminal ws d.middle (what.Sign sign.Transition) d.one.stands d.one.is in
+    mode_terminal left w d.one.terminal ws d.middle mode.Transition x rest d.one.stands
+    (if_no _ (is_sign w sign.Init) (sign_not w sign.Transition sign.Init is refl) ∙ if_yes _ (is_sign w sign.Transition) (sign_yes w sign.Transition sign.Transition is refl)) d.next.is d.next.none
+mode_case left (w ∷ ws) x rest (the_other (the_other d)) =
+    let is = says w d.one.terminal ws d.middle (what.Sign sign.Property) d.one.stands d.one.is in
+    mode_terminal left w d.one.terminal ws d.middle mode.Property x rest d.one.stands
+    (if_no _ (is_sign w sign.Init) (sign_not w sign.Property sign.Init is refl) ∙ if_no _ (is_sign w sign.Transition) (sign_not w sign.Property sign.Transition is refl)
+    ∙ if_yes _ (is_sign w sign.Property) (sign_yes w sign.Property sign.Property is refl)) d.next.is d.next.none
+
+complete_operation : {q : Set} (left : ℕ) (ts : List Terminal) → Complete q Operation ts (operation_at left ts)
+unfolding operation_at Operation acts
+complete_operation left ts = complete_here (
+    complete_next (record { at = λ x rest d e. mode_case left ts x rest d }) λ m. complete_next (complete_name left m.1) λ n. complete_next (complete_names left n.1) λ ps.
+    complete_next (complete_the left sign.OpenBrace ps.1) λ o.
+    complete_then (only (code sign.CloseBrace))
+    (complete_row (braced (complete_act (left - 1)) (record { at = λ ts rest x d. (silent_act.at ts rest x d).shorter }) starts_act
+    (union_in (code sign.Init ∷ code sign.Require ∷ code sign.Assert ∷ code sign.Update ∷ update_codes) refl)) o.1)
+    (λ xs. complete_next (complete_the (left - 1) sign.CloseBrace xs.1) λ e. complete_yields) (λ xs. follows_starts (starts_then starts_the) same_in))
+
+complete_invariant : {q : Set} (left : ℕ) (ts : List Terminal) → Complete q Invariant ts (invariant_at left ts)
+unfolding invariant_at Invariant
+complete_invariant left ts = complete_next (complete_the left sign.Invariant ts) λ i. complete_next (complete_name left i.1) λ n. complete_next (complete_names left n.1) λ ps.
+    complete_next (complete_the left sign.Colon ps.1) λ c. complete_next (complete_closed_expr left c.1) λ e. complete_yields
+
+weaker : {A : Type 0} {m : Spelled A} {q p : Set} → Follows any p m → Follows q p m
+weaker f = record { at = λ ts rest x d e. f.at ts rest x d refl }
+
+pub complete_machine : {q : Set} (left : ℕ) (ts : List Terminal) → Complete q Machine ts (machine_at left ts)
+unfolding machine_at Machine fields operations invariants
+complete_machine left ts =
+    complete_next (complete_the left sign.Machine ts) λ m. complete_next (complete_name left m.1) λ n. complete_next (complete_the left sign.OpenBrace n.1) λ o.
+    complete_then (among behind_fields)
+    (complete_row (headed sign.Field (complete_field (left - 1)) (record { at = λ ts rest x d. (silent_field.at ts rest x d).shorter }) (field_fork {q = any}).left (among_in behind_fields refl)) o.1)
+    (λ fs. complete_then (among behind_operations)
+    (complete_row {p = any} (record {
+      complete = complete_operation (left - 1);
+      shrinks = record { at = λ ts rest x d. (silent_operation.at ts rest x d).shorter };
+      begin = λ ts rest x d. modes_are ts ∙ (operation_fork {q = any}).left.at ts rest x d;
+      stop = λ ts e. modes_are ts ∙ is_not (modes (front ts)) ((among_in {q = others modes} behind_operations refl).at (front ts) e);
+      follows = record { at = λ ts rest xs d e. refl };
+    }) fs.1)
+    (λ ops. complete_then (only (code sign.CloseBrace))
+    (complete_row (headed sign.Invariant (complete_invariant (left - 1)) (record { at = λ ts rest x d. (silent_invariant.at ts rest x d).shorter }) (invariant_fork {q = any}).left (only_in _ refl)) ops.1)
+    (λ is. complete_next (complete_the (left - 1) sign.CloseBrace is.1) λ e. complete_yields) (λ is. follows_starts (starts_then starts_the) same_in))
+    (λ ops. weaker (invariants_follow _ (λ is. starts_then starts_the))))
+    (λ fs. weaker (operations_follow _ (λ ops. invariants_follow _ (λ is. starts_then starts_the))))
+
+-- ---- proofs
+
+complete_claim : {q : Set} (left : ℕ) (ts : List Terminal) → Complete q Claim ts (claim_at left ts)
+unfolding claim_at Claim
+complete_claim left ts = complete_if sign.At (starts_then starts_the) (starts_then (starts_the {s = sign.Keeps})) (only_in _ refl)
+    (complete_next (complete_the left sign.At ts) λ a. complete_next (complete_number left a.1) λ n. complete_yields)
+    (complete_next (complete_the left sign.Keeps ts) λ k. complete_next (complete_name left k.1) λ n. complete_yields)
+
+complete_proof : {q : Set} (left : ℕ) (ts : List Terminal) → Complete q Proof ts (proof_at left ts)
+unfolding proof_at Proof
+complete_proof left ts = complete_next (complete_name left ts) λ n. complete_next (complete_claim left n.1) λ c. complete_next (complete_script left c.1) λ s. complete_yields
+
+shrinks_proof : Shrinks Proof
+unfolding Proof Script
+shrinks_proof = record {
+  at = λ ts rest x d.
+      let name = one_shorter ts d.middle d.one.terminal d.one.stands in
+      let claim : length d.next.middle < length d.middle = (silent_claim.at d.middle d.next.middle d.next.value d.next.one).shorter in
+      let script = d.next.next.one in
+      let by = one_shorter d.next.middle script.middle script.one.terminal script.one.stands in
+      let block : length script.next.middle < length script.middle = (silent_block.at script.middle script.next.middle script.next.value script.next.one).shorter in
+      let end : length script.next.middle ≡ length d.next.next.middle = ap (λ (us : List Terminal). length us) script.next.next.none in
+      let last : length d.next.next.middle ≡ length rest = ap (λ (us : List Terminal). length us) d.next.next.next.none in
+      omega (arith, name, claim, by, block, end, last);
+}
+
+complete_proofs : (left : ℕ) (ts : List Terminal) → Complete (only 0) Proofs ts (proofs_at left ts)
+unfolding proofs_at Proofs proof_row
+complete_proofs left ts = complete_optional sign.Proofs (starts_then starts_the) (only_in _ refl)
+    (complete_next (complete_the left sign.Proofs ts) λ p. complete_next (complete_the left sign.OpenBrace p.1) λ o.
+    complete_then (only (code sign.CloseBrace)) (complete_row (braced (complete_proof (left - 1)) shrinks_proof (proof_fork {q = any}).left (only_in _ refl)) o.1)
+    (λ xs. complete_next (complete_the (left - 1) sign.CloseBrace xs.1) λ e. complete_yields) (λ xs. follows_starts (starts_then starts_the) same_in))
+
+-- ---- texts
+
+-- a line, where the number is 1
+record LineOfOne (n line : ℕ) (ts rest : List Terminal) (x : ℕ) : Type 0 where
+  is_one : n ≡ 1
+  yields : Yields line ts rest x
+
+-- "version" 1
+abbrev VersionOne : Spelled ℕ
+VersionOne = The sign.Version >>= λ line. ANumber >>= λ n. LineOfOne n line
+
+-- a text of version 1
+abbrev TextOfOne : Spelled (RawMachine × List RawProof)
+TextOfOne = VersionOne >> (The sign.Semicolon >> (Machine >>= λ m. Proofs >>= λ ps. Yields (m, ps)))
+
+one_is_read : {q : Set} {n line : ℕ} {ts : List Terminal} (at_line : ℕ) → Complete q (LineOfOne n line) ts (if n == 1 then Ok (line, ts) else Err (fault.Version at_line))
+one_is_read {q = q} {n = n} {line = line} {ts = ts} at_line = record {
+  at = λ x rest d e. met_if _ (n == 1) (ap (λ m. m == 1) d.is_one) ((complete_yields {q = q} {x = line} {ts = ts}).at x rest d.yields e);
+}
+
+complete_version : {q : Set} (left : ℕ) (ts : List Terminal) → Complete q VersionOne ts (version_at left ts)
+unfolding version_at
+complete_version left ts = complete_next (complete_the left sign.Version ts) λ v. complete_next (complete_number left v.1) λ n. one_is_read _
+
+-- what all of these terminals spell is read
+pub record Ends {A : Type 0} (m : Spelled A) (ts : List Terminal) (r : Result A Fault) : Type 0 where
+  pub at : (x : A) → m ts [] x → Met r x
+
+ends_case : {A B : Type 0} {p : Set} {m : Spelled A} {ts : List Terminal} {g : A → Spelled B} {f : A × List Terminal → Result B Fault} (r : Read A)
+    → Complete p m ts r → ((v : A × List Terminal) → Ends (g v.0) v.1 (f v)) → ((x : A) → Follows (only 0) p (g x)) → (y : B) → Then m g ts [] y → Met (outcome.◌>>=◌ r f) y
+ends_case {g = g} (Ok v) one next follows y d =
+    let h = (one.at d.value d.middle d.one ((follows d.value).at d.middle [] y d.next refl)).is in
+    (next v).at y (subst (λ z. g z.0 z.1 [] y) (sym h) d.next)
+ends_case (Err f) one next follows y d = record { is = (one.at d.value d.middle d.one ((follows d.value).at d.middle [] y d.next refl)).is }
+
+ends_then : {A B : Type 0} {m : Spelled A} {ts : List Terminal} {r : Read A} {g : A → Spelled B} {f : A × List Terminal → Result B Fault} (p : Set)
+    → Complete p m ts r → ((v : A × List Terminal) → Ends (g v.0) v.1 (f v)) → ((x : A) → Follows (only 0) p (g x)) → Ends (Then m g) ts (outcome.◌>>=◌ r f)
+ends_then {r = r} p one next follows = record { at = ends_case r one next follows }
+
+anything : {A : Type 0} {m : Spelled A} {q : Set} → Follows q any m
+anything = record { at = λ ts rest x d e. refl }
+
+ends_all : {A : Type 0} (x : A) (ts : List Terminal) → Ends (Yields x) ts (at_end x ts)
+ends_all x [] = record { at = λ y d. record { is = sym d.is } }
+ends_all x (w ∷ ws) = record { at = λ y d. let e : ◌≡◌ {A = List Terminal} (w ∷ ws) [] = d.none in absurd cc }
+
+text_ends : (ts : List Terminal) → Ends TextOfOne ts (text_of ts)
+unfolding text_of
+text_ends ts =
+    ends_then any (complete_version 65 ts) (λ v. ends_then any (complete_the 65 sign.Semicolon v.1) (λ s. ends_then any (complete_machine 65 s.1) (λ m.
+    ends_then (only 0) (complete_proofs 65 m.1) (λ ps. ends_all (m.0, ps.0) ps.1) (λ ps. follows_yields same_in)) (λ m. anything)) (λ s. anything)) (λ v. anything)
+
+-- the number that a version spells is 1, where the second terminal says 1
+version_one : (ts rest : List Terminal) (x : ℕ) → (d : The sign.Version ts rest x) → (us : List Terminal) (n : ℕ) → ANumber rest us n → IsVersionOne ts → n ≡ 1
+version_one [] rest x d us n number one = absurd one
+version_one (w ∷ []) rest x d us n number one = absurd one
+version_one (w ∷ v ∷ vs) rest x d us n number one =
+    let tail : ◌≡◌ {A = List Terminal} (v ∷ vs) rest = tail_is w d.terminal (v ∷ vs) rest d.stands in
+    let is : v.what ≡ what.Number n = says v number.terminal vs us (what.Number n) (tail ∙ number.stands) number.is in
+    number_is (sym is ∙ one)
+  where
+    number_is : {n m : ℕ} → what.Number n ≡ what.Number m → n ≡ m
+    number_is e = cc
+
+-- ---- texts of other versions
+
+-- too deep, or of another version
+abbrev Stops : Fault → Type 0
+Stops (fault.Deep line) = Unit {0}
+Stops (fault.Version line) = Unit {0}
+Stops fault.Ended = ⊥
+Stops (fault.Wanted line) = ⊥
+Stops (fault.Unbuilt line) = ⊥
+
+abbrev IsStopped : {A : Type 0} → Result A Fault → Type 0
+IsStopped (Ok x) = ⊥
+IsStopped (Err f) = Stops f
+
+-- the same as one fact
+record Stopped {A : Type 0} (r : Result A Fault) : Type 0 where
+  is : IsStopped r
+
+deep_stops : (f : Fault) → Excused f → Stops f
+deep_stops (fault.Deep line) e = tt
+deep_stops (fault.Version line) e = absurd e
+deep_stops fault.Ended e = absurd e
+deep_stops (fault.Wanted line) e = absurd e
+deep_stops (fault.Unbuilt line) e = absurd e
+
+-- what stops stops what goes on with it
+stopped_then : {A B : Type 0} (f : A → Result B Fault) (r : Result A Fault) → Stopped r → Stopped (outcome.◌>>=◌ r f)
+stopped_then f (Ok x) s = absurd (s.is)
+stopped_then f (Err e) s = record { is = s.is }
+
+-- what goes on with what is read stops
+then_stopped : {A B : Type 0} {x : A} {us : List Terminal} (f : A × List Terminal → Result B Fault) (r : Read A) → Met r (x, us) → Stopped (f (x, us)) → Stopped (outcome.◌>>=◌ r f)
+then_stopped f (Ok v) met s = subst (λ z. Stopped (f z)) (sym met.is) s
+then_stopped f (Err e) met s = record { is = deep_stops e met.is }
+
+other_stops : {A : Type 0} (x : A) (line : ℕ) (c : Bool) → c ≡ false → Stopped (if c then Ok x else Err (fault.Version line))
+other_stops x line true e = absurd cc
+other_stops x line false e = record { is = tt }
+
+version_stops : (ts us vs : List Terminal) (line n : ℕ) → The sign.Version ts us line → ANumber us vs n → (n == 1) ≡ false → Stopped (version_at 65 ts)
+unfolding version_at
+version_stops ts us vs line n w number other =
+    then_stopped _ (sign_at 65 sign.Version ts) ((complete_the 65 sign.Version ts).at line us w refl)
+    (then_stopped _ (number_at 65 us) ((complete_number 65 us).at n vs number refl) (other_stops _ _ (n == 1) other))
+
+-- a text is read, where it is not too deep; or it is of another version than 1
+text_read : (ts : List Terminal) (x : RawMachine × List RawProof) → Text ts [] x → Met (text_of ts) x ⊎ ((IsVersionOne ts → ⊥) × Stopped (text_of ts))
+unfolding text_of Text Version
+text_read ts x d = go (n.value == 1) refl
+  where
+    n : Then ANumber (λ m. Yields d.one.value) d.one.middle d.middle d.value
+    n = d.one.next
+
+    go : (c : Bool) → (n.value == 1) ≡ c → Met (text_of ts) x ⊎ ((IsVersionOne ts → ⊥) × Stopped (text_of ts))
+    go true e =
+        let line : LineOfOne n.value d.one.value n.middle d.middle d.value = record { is_one = eqb-true n.value 1 e; yields = n.next } in
+        let version : VersionOne ts d.middle d.value = record { value = d.one.value; middle = d.one.middle; one = d.one.one; next = record { value = n.value; middle = n.middle; one = n.one; next = line } } in
+        inl ((text_ends ts).at x (record { value = d.value; middle = d.middle; one = version; next = d.next }))
+    go false e =
+        inr (
+          (λ one. is_other n.value e (version_one ts d.one.middle d.one.value d.one.one n.middle n.value n.one one)),
+          stopped_then _ (version_at 65 ts) (version_stops ts d.one.middle n.middle d.one.value n.value d.one.one n.one e),
+        )
+      where
+        is_other : (m : ℕ) → (m == 1) ≡ false → m ≡ 1 → ⊥
+        is_other m f one = let same : (m == 1) ≡ true = ap (λ z. z == 1) one in absurd cc
+
+-- ---- what refuses
+
+deep_is : (line : ℕ) (f : Fault) → Excused f → (refusal_of line f).rule ≡ rule.G3
+unfolding refusal_of
+deep_is line (fault.Deep l) e = refl
+deep_is line (fault.Version l) e = absurd e
+deep_is line fault.Ended e = absurd e
+deep_is line (fault.Wanted l) e = absurd e
+deep_is line (fault.Unbuilt l) e = absurd e
+
+-- a fault of depth or version breaks its rule
+stops_is : (line : ℕ) (f : Fault) → Stops f → ((refusal_of line f).rule ≡ rule.G3) ⊎ ((refusal_of line f).rule ≡ rule.G4)
+unfolding refusal_of
+stops_is line (fault.Deep l) e = inl refl
+stops_is line (fault.Version l) e = inr refl
+stops_is line fault.Ended e = absurd e
+stops_is line (fault.Wanted l) e = absurd e
+stops_is line (fault.Unbuilt l) e = absurd e
+
+err_is : {x y : Refusal} → ◌≡◌ {A = Result RawText Refusal} (Err x) (Err y) → x ≡ y
+err_is e = cc
+
+-- the fault for which terminals are refused
+record Faulted (ws : Terminals) (r : Refusal) : Type 0 where
+  fault : Fault
+  stands : text_of ws.list ≡ Err fault
+  refuses : refusal_of ws.last_line fault ≡ r
+
+faulted : (text : List ℕ) (ws : Terminals) (r : Refusal) → terminals_in text ≡ Ok ws → parsed text ≡ Err r → Faulted ws r
+unfolding parsed
+faulted text ws r is e = read (text_of ws.list) refl (ap next (sym is) ∙ e)
+  where
+    next : Result Terminals Refusal → Result RawText Refusal
+    next w = outcome.◌>>=◌ w (λ us. outcome.◌>>=◌ {B = RawText} (refused us.last_line (text_of us.list)) (λ t. Ok (record { machine = t.0; proofs = t.1; names = us.names })))
+
+    read : (t : Result (RawMachine × List RawProof) Fault) → text_of ws.list ≡ t
+        → outcome.◌>>=◌ {B = RawText} (refused ws.last_line t) (λ t. Ok (record { machine = t.0; proofs = t.1; names = ws.names })) ≡ Err r → Faulted ws r
+    read (Ok t) same h = absurd cc
+    read (Err f) same h = record { fault = f; stands = same; refuses = err_is h }
+
+refused_read : (ws : Terminals) (x : RawMachine × List RawProof) (r : Refusal) → Faulted ws r → Met (text_of ws.list) x → r.rule ≡ rule.G3
+refused_read ws x r f met =
+    let deep : Met {A = RawMachine × List RawProof} (Err f.fault) x = subst (λ t. Met t x) f.stands met in
+    subst (λ (z : Refusal). z.rule ≡ rule.G3) f.refuses (deep_is ws.last_line f.fault deep.is)
+
+refused_stopped : (ws : Terminals) (r : Refusal) → Faulted ws r → Stopped (text_of ws.list) → (r.rule ≡ rule.G3) ⊎ (r.rule ≡ rule.G4)
+refused_stopped ws r f stopped =
+    let stops : Stopped {A = RawMachine × List RawProof} (Err f.fault) = subst (λ t. Stopped t) f.stands stopped in
+    subst (λ (z : Refusal). (z.rule ≡ rule.G3) ⊎ (z.rule ≡ rule.G4)) f.refuses (stops_is ws.last_line f.fault stops.is)
+
+-- a text that is spelled by a tree and is refused is too deep, or of another version than 1
+pub refused_is : (text : List ℕ) (raw : RawText) (r : Refusal) → Spells text raw → parsed text ≡ Err r → (r.rule ≡ rule.G3) ⊎ (r.rule ≡ rule.G4)
+refused_is text raw r d e = go (text_read d.0.list (raw.machine, raw.proofs) d.2)
+  where
+    go : Met (text_of d.0.list) (raw.machine, raw.proofs) ⊎ ((IsVersionOne d.0.list → ⊥) × Stopped (text_of d.0.list)) → (r.rule ≡ rule.G3) ⊎ (r.rule ≡ rule.G4)
+    go (inl met) = inl (refused_read d.0 (raw.machine, raw.proofs) r (faulted text d.0 r d.1 e) met)
+    go (inr other) = refused_stopped d.0 r (faulted text d.0 r d.1 e) other.1
+
+-- a text of version 1 that is spelled by a tree and is refused is too deep
+pub refused_deep : (text : List ℕ) (ws : Terminals) (raw : RawText) (r : Refusal) → terminals_in text ≡ Ok ws → IsVersionOne ws.list → Spells text raw → parsed text ≡ Err r → r.rule ≡ rule.G3
+refused_deep text ws raw r is one d e = go (text_read d.0.list (raw.machine, raw.proofs) d.2)
+  where
+    own : d.0 ≡ ws
+    own = terminals_are (sym d.1 ∙ is)
+
+    go : Met (text_of d.0.list) (raw.machine, raw.proofs) ⊎ ((IsVersionOne d.0.list → ⊥) × Stopped (text_of d.0.list)) → r.rule ≡ rule.G3
+    go (inl met) = refused_read d.0 (raw.machine, raw.proofs) r (faulted text d.0 r d.1 e) met
+    go (inr other) = absurd (other.0 (subst (λ (us : Terminals). IsVersionOne us.list) (sym own) one))
+
+pub answer_refuses : (text : List ℕ) (r : Result RawText Stop) → Gives (λ t. t) r (parsed text) → IfErr r (λ s. (tree : RawText) → Spells text tree → MayRefuse s)
+answer_refuses text (Ok t) e = tt
+answer_refuses text (Err stop.Memory) e = λ tree d. tt
+answer_refuses text (Err (stop.Refused r)) e = λ tree d. refused_is text tree r d e

@@ -1,0 +1,578 @@
+//! Expressions, made into terms and formulas of a store.
+ghost use Rattle.std.specs.Prelude.{◌≡◌, ◌+◌, ◌≤◌, ◌<◌, min, map, length, get_or, MatchOption, IfSome, IfOk, Ok, pos};
+ghost use Rattle.sync_base.specs.Outcome.{Gives};
+ghost use Rattle.sync_terms.specs.Stored.{tree, formula, shape, form_shape, IsTerm, IsForm, HasChildren, HasParts, Extends};
+ghost use Rattle.sync_terms.specs.Trees.{Sub, Lit, tree_size, formula_size};
+ghost use Rattle.sync_read_names.specs.Exprs.{Reading, reading, clashes, misfit, call_fault, function_sort, operator_sort, operator_nodes, term_as, form_as, argument, map_and_key, map_and_two, call_term, applied, two_terms, two_forms, compared, joins_forms, all_nodes, nodes_at, start_fault, term_of, form_of};
+
+use crate::scopes::{Scope, Sort, broken, refused};
+use sync_base::{Refusal, Rule, Stop};
+use sync_parse_exprs::{Expr, ExprKind, Function, Operator};
+use sync_terms::{FormId, FormNode, Node, TermId, TermStop, Terms};
+
+/// The most nodes that a term or formula of a text has.
+const MOST_NODES: u64 = 1_000_000;
+
+/// Adds a term, which is small enough.
+fn added(terms: &mut Terms, node: Node) -> Result<TermId, Stop>
+    requires children { HasChildren terms.old node }
+    requires small { tree_size (shape terms.old node) ≤ 1000000 }
+    ensures exact { Gives (tree terms.new) result (Ok (shape terms.old node)) }
+    ensures id { IfOk result (IsTerm terms.new) }
+    ensures keeps { Extends terms.old terms.new }
+{
+    match terms.add_term(node) {
+        Ok(id) => Ok(id),
+        Err(TermStop::Memory) => Err(Stop::Memory),
+        Err(TermStop::TooLarge) => unreachable!(),
+    }
+}
+
+/// Adds a formula, which is small enough.
+fn added_form(terms: &mut Terms, node: FormNode) -> Result<FormId, Stop>
+    requires parts { HasParts terms.old node }
+    requires small { formula_size (form_shape terms.old node) ≤ 1000000 }
+    ensures exact { Gives (formula terms.new) result (Ok (form_shape terms.old node)) }
+    ensures id { IfOk result (IsForm terms.new) }
+    ensures keeps { Extends terms.old terms.new }
+{
+    match terms.add_form(node) {
+        Ok(id) => Ok(id),
+        Err(TermStop::Memory) => Err(Stop::Memory),
+        Err(TermStop::TooLarge) => unreachable!(),
+    }
+}
+
+/// The rule that a function's name breaks beside so many arguments.
+fn call_fault(function: Function, line: u32, count: usize) -> Option<Refusal>
+    ensures { result ≡ call_fault function line count }
+{
+    let arity = match function {
+        Function::Size | Function::Sum => 1,
+        Function::Get | Function::Has | Function::Del => 2,
+        Function::Put | Function::Bump => 3,
+        Function::Held => return Some(broken(Rule::N1, line)),
+    };
+    if count == arity {
+        None
+    } else {
+        Some(broken(Rule::N3, line))
+    }
+}
+
+/// The sort of what a function gives.
+fn function_sort(function: Function) -> Option<Sort>
+    ensures { result ≡ function_sort function }
+{
+    match function {
+        Function::Get | Function::Has | Function::Size | Function::Sum => Some(Sort::Number),
+        Function::Put | Function::Del | Function::Bump => Some(Sort::Map),
+        Function::Held => None,
+    }
+}
+
+fn operator_sort(operator: Operator) -> Sort
+    ensures { result ≡ operator_sort operator }
+{
+    match operator {
+        Operator::Plus | Operator::Minus => Sort::Number,
+        Operator::Implies
+        | Operator::Or
+        | Operator::And
+        | Operator::Equal
+        | Operator::NotEqual
+        | Operator::AtMost
+        | Operator::Below => Sort::Formula,
+    }
+}
+
+/// The sort of an expression, where its name is known.
+fn sort_of(scope: &Scope, e: &Expr) -> Option<Sort>
+    ensures { result ≡ (reading e.now).sort scope.now }
+{
+    match &e.what {
+        ExprKind::Number(_) | ExprKind::Minus(_) | ExprKind::Times(_, _) => Some(Sort::Number),
+        ExprKind::Name(named) => scope.name_sort(named.name),
+        ExprKind::Param(_, _) if scope.knows_params() => Some(Sort::Number),
+        ExprKind::Param(_, _) | ExprKind::Special(_, _) => None,
+        ExprKind::Nil => Some(Sort::Map),
+        ExprKind::Bracketed(a) => sort_of(scope, a.get()),
+        ExprKind::Call(function, _, _) => function_sort(*function),
+        ExprKind::Not(_) => Some(Sort::Formula),
+        ExprKind::Two(operator, _, _) => Some(operator_sort(*operator)),
+    }
+}
+
+/// Whether another sort is wanted.
+fn clashes(wanted: Sort, found: Option<Sort>) -> bool
+    ensures { result ≡ clashes wanted found }
+{
+    match found {
+        Some(found) => found != wanted,
+        None => false,
+    }
+}
+
+/// The rule that the first lexeme of an expression breaks as a name, or as the name of a function.
+fn opening(scope: &Scope, e: &Expr) -> Option<Refusal>
+    ensures { result ≡ (reading e.now).opening scope.now }
+{
+    match &e.what {
+        ExprKind::Name(named) => match scope.name_sort(named.name) {
+            Some(_) => None,
+            None => Some(broken(Rule::N1, named.line)),
+        },
+        ExprKind::Param(line, _) => {
+            if scope.knows_params() {
+                None
+            } else {
+                Some(broken(Rule::N1, *line))
+            }
+        }
+        ExprKind::Special(_, line) => Some(broken(Rule::N1, *line)),
+        ExprKind::Call(function, line, args) => call_fault(*function, *line, args.len()),
+        ExprKind::Bracketed(_) => None,
+        ExprKind::Two(_, a, _) => opening(scope, a.get()),
+        ExprKind::Number(_)
+        | ExprKind::Nil
+        | ExprKind::Not(_)
+        | ExprKind::Minus(_)
+        | ExprKind::Times(_, _) => None,
+    }
+}
+
+/// The refusal of an expression of another sort than is wanted.
+fn misfit(scope: &Scope, e: &Expr) -> Stop
+    ensures { result ≡ Stop.Refused (misfit (reading e.now) scope.now) }
+{
+    match opening(scope, e) {
+        Some(refusal) => Stop::Refused(refusal),
+        None => Stop::Refused(broken(Rule::N6, e.line)),
+    }
+}
+
+fn operator_nodes(operator: Operator) -> u64
+    ensures { result ≡ operator_nodes operator }
+{
+    match operator {
+        Operator::NotEqual => 2,
+        Operator::Plus
+        | Operator::Minus
+        | Operator::Implies
+        | Operator::Or
+        | Operator::And
+        | Operator::Equal
+        | Operator::AtMost
+        | Operator::Below => 1,
+    }
+}
+
+/// A number of nodes, or one more than a term may have.
+fn capped(count: u64) -> u64
+    ensures { result ≡ min count 1000001 }
+{
+    count.min(MOST_NODES + 1)
+}
+
+/// The nodes of an expression as a tree, or one more than a term may have.
+#[cycle(counting)]
+fn nodes(e: &Expr) -> u64
+    ensures { result ≡ min (reading e.now).nodes 1000001 }
+{
+    match &e.what {
+        ExprKind::Number(_)
+        | ExprKind::Name(_)
+        | ExprKind::Param(_, _)
+        | ExprKind::Nil
+        | ExprKind::Special(_, _) => 1,
+        ExprKind::Call(_, _, args) => capped(1 + nodes_of(args.as_slice())),
+        ExprKind::Bracketed(a) => nodes(a.get()),
+        ExprKind::Not(a) => capped(1 + nodes(a.get())),
+        ExprKind::Minus(a) => capped(2 + nodes(a.get())),
+        ExprKind::Times(_, a) => capped(1 + nodes(a.get())),
+        ExprKind::Two(operator, a, b) => {
+            capped(operator_nodes(*operator) + nodes(a.get()) + nodes(b.get()))
+        }
+    }
+}
+
+/// The nodes of expressions, or one more than a term may have.
+#[cycle(counting)]
+#[tactic(auto, unfolding(crate::specs::Exprs::all_nodes))]
+fn nodes_of(es: &[Expr]) -> u64
+    ensures { result ≡ min (all_nodes (map reading es.now)) 1000001 }
+{
+    let mut count = 0;
+    for e in es {
+        count = capped(count + nodes(e));
+    }
+    count
+}
+
+/// The rule that the first lexeme of an expression that stands by itself breaks, but for its sort.
+fn start_fault(scope: &Scope, e: &Expr) -> Option<Refusal>
+    ensures { result ≡ start_fault (reading e.now) scope.now }
+{
+    if let Some(refusal) = opening(scope, e) {
+        return Some(refusal);
+    }
+    if nodes(e) > MOST_NODES {
+        return Some(broken(Rule::N5, e.line));
+    }
+    None
+}
+
+/// The term `0 - x`.
+#[tactic(auto, using(crate::proofs::Kept::kept_tree, crate::proofs::Kept::kept_term, crate::proofs::Kept::along, crate::proofs::Kept::stays), unfolding(sync_terms::specs::Stored::shape, sync_terms::specs::Stored::tree, sync_terms::specs::Trees::tree_size))]
+fn negated(terms: &mut Terms, x: TermId) -> Result<TermId, Stop>
+    requires id { IsTerm terms.old x }
+    requires small { 2 + tree_size (tree terms.old x) ≤ 1000000 }
+    ensures exact { Gives (tree terms.new) result (Ok (Sub (Lit (pos 0)) (tree terms.old x))) }
+    ensures id { IfOk result (IsTerm terms.new) }
+    ensures keeps { Extends terms.old terms.new }
+{
+    let zero = added(terms, Node::Lit(0))?;
+    added(terms, Node::Sub(zero, x))
+}
+
+/// A sum or a difference.
+#[tactic(auto, unfolding(sync_terms::specs::Stored::shape, sync_terms::specs::Stored::tree, sync_terms::specs::Trees::tree_size))]
+fn counted(terms: &mut Terms, operator: Operator, x: TermId, y: TermId) -> Result<TermId, Stop>
+    requires x { IsTerm terms.old x }
+    requires y { IsTerm terms.old y }
+    requires small { 1 + tree_size (tree terms.old x) + tree_size (tree terms.old y) ≤ 1000000 }
+    ensures exact { Gives (tree terms.new) result (Ok (two_terms operator (tree terms.old x) (tree terms.old y))) }
+    ensures id { IfOk result (IsTerm terms.new) }
+    ensures keeps { Extends terms.old terms.new }
+{
+    match operator {
+        Operator::Plus => added(terms, Node::Add(x, y)),
+        Operator::Minus
+        | Operator::Implies
+        | Operator::Or
+        | Operator::And
+        | Operator::Equal
+        | Operator::NotEqual
+        | Operator::AtMost
+        | Operator::Below => added(terms, Node::Sub(x, y)),
+    }
+}
+
+/// The argument at a place.
+#[tactic(auto, using(crate::proofs::Nodes::one_small, crate::proofs::Nodes::one_at))]
+fn place(args: &[Expr], at: usize) -> Option<&Expr>
+    requires small { all_nodes (map reading args.now) ≤ 1000000 }
+    ensures item { MatchOption result (length args.now ≤ at) (λ e. (at < length args.now) × (e.now ≡ get_or args.now at e.now)) }
+    ensures nodes { IfSome result (λ e. (reading e.now).nodes ≡ nodes_at (map reading args.now) at) }
+    ensures small { IfSome result (λ e. (reading e.now).nodes ≤ 1000000) }
+{
+    args.get(at)
+}
+
+/// The argument at a place, as a term of a sort.
+#[cycle(terms)]
+#[tactic(auto, using(crate::proofs::Kept::along, crate::proofs::Kept::stays))]
+fn argument(
+    terms: &mut Terms,
+    scope: &Scope,
+    args: &[Expr],
+    at: usize,
+    line: u32,
+    wanted: Sort,
+) -> Result<TermId, Stop>
+    requires small { all_nodes (map reading args.now) ≤ 1000000 }
+    ensures exact { Gives (tree terms.new) result (argument wanted (map reading args.now) at line scope.now) }
+    ensures id { IfOk result (IsTerm terms.new) }
+    ensures size { IfOk result (λ t. tree_size (tree terms.new t) ≤ nodes_at (map reading args.now) at) }
+    ensures keeps { Extends terms.old terms.new }
+{
+    let Some(e) = place(args, at) else {
+        return Err(refused(Rule::N3, line));
+    };
+    term(terms, scope, e, wanted)
+}
+
+/// A map and a number, as arguments.
+#[cycle(terms)]
+#[tactic(auto, using(crate::proofs::Kept::kept_tree, crate::proofs::Kept::kept_term, crate::proofs::Kept::along, crate::proofs::Kept::stays))]
+fn map_and_key(
+    terms: &mut Terms,
+    scope: &Scope,
+    args: &[Expr],
+    line: u32,
+) -> Result<(TermId, TermId), Stop>
+    requires small { all_nodes (map reading args.now) ≤ 1000000 }
+    ensures exact { Gives (λ p. (tree terms.new p.0, tree terms.new p.1)) result (map_and_key (map reading args.now) line scope.now) }
+    ensures ids { IfOk result (λ p. IsTerm terms.new p.0 × IsTerm terms.new p.1) }
+    ensures size { IfOk result (λ p. tree_size (tree terms.new p.0) + tree_size (tree terms.new p.1) ≤ nodes_at (map reading args.now) 0 + nodes_at (map reading args.now) 1) }
+    ensures keeps { Extends terms.old terms.new }
+{
+    let m = argument(terms, scope, args, 0, line, Sort::Map)?;
+    let k = argument(terms, scope, args, 1, line, Sort::Number)?;
+    Ok((m, k))
+}
+
+/// A map and two numbers, as arguments.
+#[cycle(terms)]
+#[tactic(auto, using(crate::proofs::Nodes::three_small, crate::proofs::Kept::kept_tree, crate::proofs::Kept::kept_term, crate::proofs::Kept::along, crate::proofs::Kept::stays))]
+fn map_and_two(
+    terms: &mut Terms,
+    scope: &Scope,
+    args: &[Expr],
+    line: u32,
+) -> Result<(TermId, TermId, TermId), Stop>
+    requires small { all_nodes (map reading args.now) ≤ 1000000 }
+    ensures exact { Gives (λ p. (tree terms.new p.0, tree terms.new p.1, tree terms.new p.2)) result (map_and_two (map reading args.now) line scope.now) }
+    ensures ids { IfOk result (λ p. IsTerm terms.new p.0 × IsTerm terms.new p.1 × IsTerm terms.new p.2) }
+    ensures size { IfOk result (λ p. tree_size (tree terms.new p.0) + tree_size (tree terms.new p.1) + tree_size (tree terms.new p.2) ≤ all_nodes (map reading args.now)) }
+    ensures keeps { Extends terms.old terms.new }
+{
+    let (m, k) = map_and_key(terms, scope, args, line)?;
+    let v = argument(terms, scope, args, 2, line, Sort::Number)?;
+    Ok((m, k, v))
+}
+
+/// A function of arguments of which there are as many as it takes.
+#[cycle(terms)]
+#[tactic(auto, using(crate::proofs::Nodes::three_small, crate::proofs::Kept::along, crate::proofs::Kept::stays), unfolding(crate::specs::Exprs::applied, sync_terms::specs::Stored::shape, sync_terms::specs::Stored::tree, sync_terms::specs::Trees::tree_size))]
+fn applied(
+    terms: &mut Terms,
+    scope: &Scope,
+    function: Function,
+    args: &[Expr],
+    line: u32,
+) -> Result<TermId, Stop>
+    requires small { 1 + all_nodes (map reading args.now) ≤ 1000000 }
+    ensures exact { Gives (tree terms.new) result (applied function (map reading args.now) line scope.now) }
+    ensures id { IfOk result (IsTerm terms.new) }
+    ensures size { IfOk result (λ t. tree_size (tree terms.new t) ≤ 1 + all_nodes (map reading args.now)) }
+    ensures keeps { Extends terms.old terms.new }
+{
+    match function {
+        Function::Get => {
+            let (m, k) = map_and_key(terms, scope, args, line)?;
+            added(terms, Node::Get(m, k))
+        }
+        Function::Has => {
+            let (m, k) = map_and_key(terms, scope, args, line)?;
+            added(terms, Node::Has(m, k))
+        }
+        Function::Del => {
+            let (m, k) = map_and_key(terms, scope, args, line)?;
+            added(terms, Node::Del(m, k))
+        }
+        Function::Size => {
+            let m = argument(terms, scope, args, 0, line, Sort::Map)?;
+            added(terms, Node::Size(m))
+        }
+        Function::Sum => {
+            let m = argument(terms, scope, args, 0, line, Sort::Map)?;
+            added(terms, Node::Sum(m))
+        }
+        Function::Put => {
+            let (m, k, v) = map_and_two(terms, scope, args, line)?;
+            added(terms, Node::Put(m, k, v))
+        }
+        Function::Bump => {
+            let (m, k, v) = map_and_two(terms, scope, args, line)?;
+            added(terms, Node::Bump(m, k, v))
+        }
+        Function::Held => Err(refused(Rule::N1, line)),
+    }
+}
+
+/// A function of its arguments.
+#[cycle(terms)]
+#[tactic(auto, using(crate::proofs::Kept::stays), unfolding(crate::specs::Exprs::call_term))]
+fn call(
+    terms: &mut Terms,
+    scope: &Scope,
+    function: Function,
+    args: &[Expr],
+    line: u32,
+) -> Result<TermId, Stop>
+    requires small { 1 + all_nodes (map reading args.now) ≤ 1000000 }
+    ensures exact { Gives (tree terms.new) result (call_term function (map reading args.now) line scope.now) }
+    ensures id { IfOk result (IsTerm terms.new) }
+    ensures size { IfOk result (λ t. tree_size (tree terms.new t) ≤ 1 + all_nodes (map reading args.now)) }
+    ensures keeps { Extends terms.old terms.new }
+{
+    if let Some(refusal) = call_fault(function, line, args.len()) {
+        return Err(Stop::Refused(refusal));
+    }
+    applied(terms, scope, function, args, line)
+}
+
+/// An expression as a term of a sort.
+#[cycle(terms)]
+#[tactic(auto, using(crate::proofs::Kept::kept_tree, crate::proofs::Kept::kept_term, crate::proofs::Kept::along, crate::proofs::Kept::stays), unfolding(sync_terms::specs::Stored::shape, sync_terms::specs::Stored::tree, sync_terms::specs::Trees::tree_size))]
+fn term(terms: &mut Terms, scope: &Scope, e: &Expr, wanted: Sort) -> Result<TermId, Stop>
+    requires small { (reading e.now).nodes ≤ 1000000 }
+    ensures exact { Gives (tree terms.new) result (term_as wanted (reading e.now) scope.now) }
+    ensures id { IfOk result (IsTerm terms.new) }
+    ensures size { IfOk result (λ t. tree_size (tree terms.new t) ≤ (reading e.now).nodes) }
+    ensures keeps { Extends terms.old terms.new }
+{
+    if clashes(wanted, sort_of(scope, e)) {
+        return Err(misfit(scope, e));
+    }
+    match &e.what {
+        ExprKind::Number(n) => added(terms, Node::Lit(*n)),
+        ExprKind::Name(named) => {
+            let symbol = scope.name_symbol(*named)?;
+            added(terms, Node::Name(symbol))
+        }
+        ExprKind::Param(line, named) => {
+            let symbol = scope.param_symbol(*line, *named)?;
+            added(terms, Node::Name(symbol))
+        }
+        ExprKind::Nil => added(terms, Node::Nil),
+        ExprKind::Bracketed(a) => term(terms, scope, a.get(), wanted),
+        ExprKind::Special(_, line) => Err(refused(Rule::N1, *line)),
+        ExprKind::Call(function, line, args) => {
+            call(terms, scope, *function, args.as_slice(), *line)
+        }
+        ExprKind::Minus(a) => {
+            let x = term(terms, scope, a.get(), Sort::Number)?;
+            negated(terms, x)
+        }
+        ExprKind::Times(n, a) => {
+            let x = term(terms, scope, a.get(), Sort::Number)?;
+            added(terms, Node::Scale(*n, x))
+        }
+        ExprKind::Two(operator, a, b) => {
+            let x = term(terms, scope, a.get(), Sort::Number)?;
+            let y = term(terms, scope, b.get(), Sort::Number)?;
+            counted(terms, *operator, x, y)
+        }
+        ExprKind::Not(_) => Err(refused(Rule::N6, e.line)),
+    }
+}
+
+/// Two terms, compared.
+#[tactic(auto, using(crate::proofs::Kept::along, crate::proofs::Kept::stays), unfolding(sync_terms::specs::Stored::form_shape, sync_terms::specs::Stored::tree, sync_terms::specs::Stored::formula, sync_terms::specs::Trees::tree_size, sync_terms::specs::Trees::formula_size))]
+fn compared(terms: &mut Terms, operator: Operator, x: TermId, y: TermId) -> Result<FormId, Stop>
+    requires x { IsTerm terms.old x }
+    requires y { IsTerm terms.old y }
+    requires small { operator_nodes operator + tree_size (tree terms.old x) + tree_size (tree terms.old y) ≤ 1000000 }
+    ensures exact { Gives (formula terms.new) result (Ok (compared operator (tree terms.old x) (tree terms.old y))) }
+    ensures id { IfOk result (IsForm terms.new) }
+    ensures keeps { Extends terms.old terms.new }
+{
+    match operator {
+        Operator::AtMost => added_form(terms, FormNode::Le(x, y)),
+        Operator::Below => added_form(terms, FormNode::Lt(x, y)),
+        Operator::NotEqual => {
+            let equal = added_form(terms, FormNode::Eq(x, y))?;
+            added_form(terms, FormNode::Not(equal))
+        }
+        Operator::Equal
+        | Operator::Implies
+        | Operator::Or
+        | Operator::And
+        | Operator::Plus
+        | Operator::Minus => added_form(terms, FormNode::Eq(x, y)),
+    }
+}
+
+/// Two formulas, joined.
+#[tactic(auto, unfolding(sync_terms::specs::Stored::form_shape, sync_terms::specs::Stored::tree, sync_terms::specs::Stored::formula, sync_terms::specs::Trees::tree_size, sync_terms::specs::Trees::formula_size))]
+fn combined(terms: &mut Terms, operator: Operator, f: FormId, g: FormId) -> Result<FormId, Stop>
+    requires f { IsForm terms.old f }
+    requires g { IsForm terms.old g }
+    requires small { 1 + formula_size (formula terms.old f) + formula_size (formula terms.old g) ≤ 1000000 }
+    ensures exact { Gives (formula terms.new) result (Ok (two_forms operator (formula terms.old f) (formula terms.old g))) }
+    ensures id { IfOk result (IsForm terms.new) }
+    ensures keeps { Extends terms.old terms.new }
+{
+    match operator {
+        Operator::Implies => added_form(terms, FormNode::Imp(f, g)),
+        Operator::Or => added_form(terms, FormNode::Or(f, g)),
+        Operator::And
+        | Operator::Plus
+        | Operator::Minus
+        | Operator::Equal
+        | Operator::NotEqual
+        | Operator::AtMost
+        | Operator::Below => added_form(terms, FormNode::And(f, g)),
+    }
+}
+
+fn joins_forms(operator: Operator) -> bool
+    ensures { result ≡ joins_forms operator }
+{
+    match operator {
+        Operator::Implies | Operator::Or | Operator::And => true,
+        Operator::Plus
+        | Operator::Minus
+        | Operator::Equal
+        | Operator::NotEqual
+        | Operator::AtMost
+        | Operator::Below => false,
+    }
+}
+
+/// An expression as a formula.
+#[tactic(auto, using(crate::proofs::Kept::kept_tree, crate::proofs::Kept::kept_term, crate::proofs::Kept::kept_formula, crate::proofs::Kept::kept_form, crate::proofs::Kept::along, crate::proofs::Kept::stays), unfolding(sync_terms::specs::Stored::form_shape, sync_terms::specs::Stored::tree, sync_terms::specs::Stored::formula, sync_terms::specs::Trees::tree_size, sync_terms::specs::Trees::formula_size))]
+fn form(terms: &mut Terms, scope: &Scope, e: &Expr) -> Result<FormId, Stop>
+    requires small { (reading e.now).nodes ≤ 1000000 }
+    ensures exact { Gives (formula terms.new) result (form_as (reading e.now) scope.now) }
+    ensures id { IfOk result (IsForm terms.new) }
+    ensures size { IfOk result (λ f. formula_size (formula terms.new f) ≤ (reading e.now).nodes) }
+    ensures keeps { Extends terms.old terms.new }
+{
+    if clashes(Sort::Formula, sort_of(scope, e)) {
+        return Err(misfit(scope, e));
+    }
+    match &e.what {
+        ExprKind::Not(a) => {
+            let f = form(terms, scope, a.get())?;
+            added_form(terms, FormNode::Not(f))
+        }
+        ExprKind::Bracketed(a) => form(terms, scope, a.get()),
+        ExprKind::Two(operator, a, b) => {
+            if joins_forms(*operator) {
+                let f = form(terms, scope, a.get())?;
+                let g = form(terms, scope, b.get())?;
+                combined(terms, *operator, f, g)
+            } else {
+                let x = term(terms, scope, a.get(), Sort::Number)?;
+                let y = term(terms, scope, b.get(), Sort::Number)?;
+                compared(terms, *operator, x, y)
+            }
+        }
+        ExprKind::Name(named) => Err(refused(Rule::N1, named.line)),
+        ExprKind::Param(line, _) | ExprKind::Special(_, line) | ExprKind::Call(_, line, _) => {
+            Err(refused(Rule::N1, *line))
+        }
+        ExprKind::Number(_) | ExprKind::Nil | ExprKind::Minus(_) | ExprKind::Times(_, _) => {
+            Err(refused(Rule::N6, e.line))
+        }
+    }
+}
+
+/// An expression that stands by itself, as a term of a sort.
+#[tactic(auto, using(crate::proofs::Kept::stays))]
+pub fn term_of(terms: &mut Terms, scope: &Scope, e: &Expr, wanted: Sort) -> Result<TermId, Stop>
+    ensures exact { Gives (tree terms.new) result (term_of wanted e.now scope.now) }
+    ensures id { IfOk result (IsTerm terms.new) }
+    ensures keeps { Extends terms.old terms.new }
+{
+    if let Some(refusal) = start_fault(scope, e) {
+        return Err(Stop::Refused(refusal));
+    }
+    term(terms, scope, e, wanted)
+}
+
+/// An expression that stands by itself, as a formula.
+#[tactic(auto, using(crate::proofs::Kept::stays))]
+pub fn form_of(terms: &mut Terms, scope: &Scope, e: &Expr) -> Result<FormId, Stop>
+    ensures exact { Gives (formula terms.new) result (form_of e.now scope.now) }
+    ensures id { IfOk result (IsForm terms.new) }
+    ensures keeps { Extends terms.old terms.new }
+{
+    if let Some(refusal) = start_fault(scope, e) {
+        return Err(Stop::Refused(refusal));
+    }
+    form(terms, scope, e)
+}

@@ -1,9 +1,0 @@
-use Rattle.std.proofs.Common.{◌≡◌, drop}
-use Rattle.sync_machine.specs.Views.{steps_tree}
-use Rattle.sync_slots.specs.Slots.{earliest, changed_by}
-use Rattle.sync_slots.proofs.variables.first_changed.Given as goal
-
-abbrev pub invariant-loop-step : goal.invariant-loop-step
-invariant-loop-step l =
-    earliest (changed_by l.variable) (steps_tree l.m.terms (drop l.step-index l.steps))
-    ≡ earliest (changed_by l.variable) (steps_tree l.m.terms l.steps)

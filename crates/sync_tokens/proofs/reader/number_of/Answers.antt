@@ -1,7 +1,0 @@
-use Rattle.std.proofs.Common.{arith}
-use Rattle.sync_tokens.proofs.Numbers.{goes_on}
-use Rattle.sync_tokens.proofs.reader.number_of.Goals as goal
-
-pub loop-digit-preserved : goal.loop-digit-preserved
-loop-digit-preserved c =
-    goes_on c.args.digits.now c.loop-digit.digit-index c.loop-digit.number c.saturating_add-number.result (omega arith) (omega (arith, c.saturating_sub.ensures, c.from-value.ensures, c.saturating_mul.ensures, c.saturating_add-number.ensures)) c.loop-digit.invariant

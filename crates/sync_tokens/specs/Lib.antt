@@ -1,3 +1,0 @@
-pub mod Signs
-pub mod Strategies
-pub mod Words
