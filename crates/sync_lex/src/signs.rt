@@ -160,7 +160,7 @@ pub enum Sign {
     /// `program`
     Program,
     /// `word`
-    Terminal,
+    Word,
     /// `with`
     With,
     /// `holds`

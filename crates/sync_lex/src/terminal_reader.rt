@@ -17,7 +17,6 @@ use std::alloc::Global;
 use std::collections::HashMap;
 use sync_base::{Name, NameList, NoMemory, Stop};
 
-
 /// The largest number of a text: 2^127 - 1.
 pub const LARGEST: u128 = 170_141_183_460_469_231_731_687_303_715_884_105_727;
 
@@ -47,7 +46,11 @@ fn number_of(digits: &[u8]) -> u128
 }
 
 /// What bytes say that are met for the first time. A name is put to the names.
-fn said_first(alloc: Global, names: &mut Items<Name>, bytes: &[u8]) -> Result<TerminalKind, NoMemory>
+fn said_first(
+    alloc: Global,
+    names: &mut Items<Name>,
+    bytes: &[u8],
+) -> Result<TerminalKind, NoMemory>
     requires { list_any (spells bytes.now) names.old ≡ false }
     ensures what { IfOk result (λ w. w ≡ (named names.old bytes.now (sign_of bytes.now)).0) }
     ensures names { OnOk result (names.new ≡ (named names.old bytes.now (sign_of bytes.now)).1) }

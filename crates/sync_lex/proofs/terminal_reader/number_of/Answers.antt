@@ -1,6 +1,6 @@
 use Rattle.std.proofs.Common.{arith}
 use Rattle.sync_lex.proofs.TerminalNumbers.{goes_on}
-use Rattle.sync_lex.proofs.reader.number_of.Goals as goal
+use Rattle.sync_lex.proofs.terminal_reader.number_of.Goals as goal
 
 pub loop-digit-preserved : goal.loop-digit-preserved
 loop-digit-preserved c =

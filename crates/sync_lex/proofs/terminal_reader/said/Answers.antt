@@ -5,7 +5,7 @@ use Rattle.std.proofs.lemmas.Map.Text.{hash_map_updates_str}
 use Rattle.sync_base.specs.declared.names.Name.{Name}
 use Rattle.sync_lex.specs.declared.terminals.TerminalKind.{TerminalKind}
 use Rattle.sync_lex.proofs.Interned.{said_named, recalled, recalls_more}
-use Rattle.sync_lex.proofs.reader.said.Goals as goal
+use Rattle.sync_lex.proofs.terminal_reader.said.Goals as goal
 
 pub returns-in-Some-clause-what : goal.returns-in-Some-clause-what
 returns-in-Some-clause-what c =

@@ -3,7 +3,7 @@ use Rattle.sync_base.specs.declared.names.Name.{Name}
 use Rattle.sync_lex.specs.declared.terminals.TerminalKind.{TerminalKind}
 use Rattle.sync_lex.specs.Terminals.{name_of}
 use Rattle.sync_lex.proofs.Interned.{named_new}
-use Rattle.sync_lex.proofs.reader.said_first.Goals as goal
+use Rattle.sync_lex.proofs.terminal_reader.said_first.Goals as goal
 
 pub returns-clause-what : goal.returns-clause-what
 returns-clause-what c =
