@@ -2,7 +2,7 @@
 use Rattle.std.proofs.Common.{◌≡◌, ℕ, ◌<◌, Bool, true, false, cond, ◌&&◌, ◌||◌, get_or, List, [], ◌∷◌, ◌++◌, length, filter, All, sym, refl, ap, ◌∙◌, subst, arith, append_assoc}
 use Rattle.std.specs.Prelude.{unwrap_or}
 use Rattle.std.proofs.lemmas.List.{append-nil}
-use Rattle.std.proofs.lemmas.List.Elements.{All-nil, All-weaker}
+use Rattle.std.proofs.lemmas.List.Elements.{All-weaker}
 use mathlib.Core.Logic.{∥∥₁_elim}
 use native.Mathlib.Nat.{ℕ_set}
 use Rattle.sync_words.specs.declared.entries.Entry.{Entry}
@@ -80,12 +80,6 @@ reads_back es v word legal fits known all n last =
     ∙ ap (λ (ws : List ℕ). get_or ws word 0) (words_after-append v.words fits.0 v.since)
     ∙ value_after (words_after v.words fits.0) v.since word (legal_rest v.words fits.0 v.since split)
     ∙ ap (λ o. unwrap_or o (get_or (words_after v.words fits.0) word 0)) last
-
-pub listed_opened : (words : List ℕ) (threads : ℕ) → Listed (opened words threads)
-listed_opened words threads = ([], list_of [] (opened words threads) refl (fits_opened words threads) (All-nil (λ (e : Entry). e.thread < threads)))
-
-pub listed_part : (test : ℕ → Bool) (v : View) → ∥ Listed v ∥₁ → ∥ Listed (part test v) ∥₁
-listed_part test v listed = ∥∥₁_elim listed (hlevel) (λ (x : Listed v). ∣ (x.0, list_of x.0 (part test v) x.1.legal (fits_part test x.0 v x.1.fits) x.1.known) ∣₁)
 
 -- a part of a view has the logs of its numbers
 pub log_part : (test : ℕ → Bool) (v : View) (t : ℕ) → test t ≡ true → log (part test v) t ≡ log v t

@@ -3,3 +3,5 @@ pub mod Lists
 pub mod Fitting
 pub mod Keeping
 pub mod Stepping
+mod Resting
+mod Agreeing

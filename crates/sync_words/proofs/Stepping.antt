@@ -13,15 +13,15 @@ use Rattle.sync_words.specs.declared.entries.Operation.TheVariants.{Load, Store,
 use Rattle.sync_words.specs.declared.rule.View.{View}
 use Rattle.sync_words.specs.Entries.{entry, agrees, changed, has}
 use Rattle.sync_words.specs.Views.{added, below, from, merged, spent, HoldsAll, IsWhole}
-use Rattle.sync_words.specs.Rule.{Kept, Stands, Rests, Makes, Finds, Learns}
-use Rattle.sync_words.proofs.Lists.{length-words_after}
+use Rattle.sync_words.specs.Rule.{Kept, Rests, Makes, Finds, Learns}
+use Rattle.sync_words.proofs.Lists.{length-words_after, words_after-append}
 use Rattle.sync_words.proofs.Fitting.{adds_to_log, whole, list_of, reads_back}
 use Rattle.sync_words.proofs.Keeping.{set_there, enters, splits, joins}
 
 -- what a step tells that enters e into the log
 tells : (s : State ℕ View) (id : ℕ) (m : Me ℕ View) (e : Entry) (n : ℕ) (k : Kept m.0.words m.0.threads s) → get_elem? s.views id ≡ some m.0 → has m.0.numbers e.thread ≡ true → e.word < length s.words
     → agrees (get_or s.words e.word 0) e.operation ≡ true → changed (get_or s.words e.word 0) e.operation ≡ n → Makes e m (added m.0 e, m.1)
-unfolding Stands enters
+unfolding enters
 tells s id m e n k at own inside found becomes =
     let v : View = m.0 in
     let w : View = added v e in
@@ -31,7 +31,15 @@ tells s id m e n k at own inside found becomes =
       view = refl;
       slots = refl;
       ends = (k.entries, list_of (k.entries ++ e ∷ []) w after.legal (after.fits id w here) after.known);
-      stands = (stepped s e.word n id m.1 w keeps, after, (id, here), (k.entries, refl));
+      stands = record {
+        state = stepped s e.word n id m.1 w keeps;
+        rule = after;
+        seat = (id, here);
+        before = k.entries;
+        last = refl;
+        found = subst (λ (ws : List ℕ). agrees (get_or ws e.word 0) e.operation ≡ true) (sym k.leaves) found;
+        leaves = sym after.leaves ∙ words_after-append v.words k.entries (e ∷ []);
+      };
       logs = adds_to_log v e;
     }
 
@@ -102,7 +110,7 @@ learns slots id m i s k _ at _ =
 pub learns_at : (first : List ℕ) (threads slots id : ℕ) (m : Me ℕ View) (i : ℕ) → m.0.words ≡ first → m.0.threads ≡ threads → Allows (Kept first threads) slots id m i (λ n. n) (λ n w. Learns m w)
 learns_at first threads slots id m i words bound = subst (λ (p : List ℕ × ℕ). Allows (Kept p.0 p.1) slots id m i (λ n. n) (λ n w. Learns m w)) (λ j. (words j, bound j)) (learns slots id m i)
 
-test_apart : (at n : ℕ) → leb at n ≡ not (ltb n at)
+pub test_apart : (at n : ℕ) → leb at n ≡ not (ltb n at)
 test_apart at n = ⊎_elim (λ (l : n < at). lt-leb at n l ∙ sym (ap not (lt-ltb n at l))) (λ (l : at ≤ n). le-leb at n l ∙ sym (ap not (le-ltb n at l))) (cases_lt n at)
 
 pub cuts : (first : List ℕ) (threads id at : ℕ) (v : View) → Splits (Kept first threads) id v (below at v) (from at v)

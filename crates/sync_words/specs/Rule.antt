@@ -1,11 +1,11 @@
 -- The rule of the table: the words and the logs of all seats come from one legal list.
-use Rattle.std.specs.Prelude.{◌≡◌, ℕ, ◌<◌, true, List, [], ◌∷◌, ◌++◌, All}
+use Rattle.std.specs.Prelude.{◌≡◌, ℕ, ◌<◌, true, List, [], ◌∷◌, ◌++◌, All, slice_index}
 use mathlib.Core.Option.{some}
 use lib.ListN.{get_elem?}
 use Rattle.atomic_table.specs.Table.{State, Me}
 use Rattle.sync_words.specs.declared.entries.Entry.{Entry}
 use Rattle.sync_words.specs.declared.rule.View.{View}
-use Rattle.sync_words.specs.Entries.{IsLegal, words_after, has}
+use Rattle.sync_words.specs.Entries.{IsLegal, agrees, words_with, words_after, has}
 use Rattle.sync_words.specs.Views.{added, Fits, Listed, Ends, ReadsBack, AddsToLog}
 
 -- one list is legal from the first words, leaves the words, and has every seat. Each thread number is in exactly one seat, and the list has entries of these numbers alone
@@ -20,11 +20,18 @@ pub record Kept (first : List ℕ) (threads : ℕ) (s : State ℕ View) : Type 0
   pub alone : (id : ℕ) (v : View) (t : ℕ) → get_elem? s.views id ≡ some v → has v.numbers t ≡ true → (seat t ≡ id) × (t < threads)
   pub fits : (id : ℕ) (v : View) → get_elem? s.views id ≡ some v → Fits entries v
 
--- the whole table as one view's seat leaves it by this entry: the rule holds of the words and of all views, this one among them, and its list ends with the entry
-unfoldable pub Stands : View → Entry → Type 0
-Stands v e = (s : State ℕ View) × (rule : Kept v.words v.threads s) × ((id : ℕ) × (get_elem? s.views id ≡ some v)) × ((es : List Entry) × (rule.entries ≡ es ++ e ∷ []))
+-- A state of the table right behind a step of this view's seat with this entry: its list ends with the entry, whose operation
+-- found what the list before it left in its word, and the words are as the step left them.
+pub record Stands (v : View) (e : Entry) : Type 0 where
+  pub state : State ℕ View
+  pub rule : Kept v.words v.threads state
+  pub seat : (id : ℕ) × (get_elem? state.views id ≡ some v)
+  pub before : List Entry
+  pub last : rule.entries ≡ before ++ e ∷ []
+  pub found : agrees (slice_index (words_after v.words before) e.word) e.operation ≡ true
+  pub leaves : state.words ≡ words_with (words_after v.words before) e
 
--- the whole table at some moment while a seat has this view
+-- some state of the table has a seat with this view
 unfoldable pub Rests : View → Type 0
 Rests v = (s : State ℕ View) × Kept v.words v.threads s × ((id : ℕ) × (get_elem? s.views id ≡ some v))
 

@@ -4,17 +4,17 @@
 mod entries;
 mod finish;
 mod finished;
+mod laws;
 mod plays;
 mod rule;
 mod seat;
 mod seats;
 mod steps;
-#[cfg(test)]
-mod tests;
 mod words;
 
 pub use entries::{Entry, Operation};
 pub use finished::Finished;
+pub use laws::{logs_agree, numbers_agree};
 pub use rule::View;
 pub use seat::Seat;
 pub use words::Words;

@@ -21,6 +21,7 @@ impl Words {
         requires threads { 0 < threads }
         ensures own { IfOk result (λ made. Belongs made.0 made.1) }
         ensures view { IfOk result (λ made. view made.1 ≡ opened init.now threads) }
+        ensures rests { IfOk result (λ made. Rests (view made.1)) }
     {
         let mut words = Vec::with_capacity(alloc, init.len())?;
         words.extend_from_slice(init)?;
@@ -39,6 +40,7 @@ impl Words {
         ensures moved { view result ≡ from at (view seat.old) }
         ensures kept_logs { (t : ℕ) → t < at → log (view seat.new) t ≡ log (view seat.old) t }
         ensures moved_logs { (t : ℕ) → at ≤ t → log (view result) t ≡ log (view seat.old) t }
+        ensures rests { ∥ Rests (view seat.new) ∥₁ × ∥ Rests (view result) ∥₁ }
     {
         self.split_as::<Brand>(seat, at)
     }

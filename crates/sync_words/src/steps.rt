@@ -1,31 +1,23 @@
 //! The six steps on a word. Each makes one entry, and is one atomic step of the processor.
-ghost use Rattle.std.specs.Prelude.{◌≡◌, ◌<◌, true, length};
+ghost use Rattle.std.specs.Prelude.{◌≡◌};
 ghost use Rattle.sync_words.specs.declared.entries.Operation.TheVariants.{Load, Store, Swap, Add, Sub, Cas};
-ghost use Rattle.sync_words.specs.Entries.{entry, has};
-ghost use Rattle.sync_words.specs.Views.{added, Ends, ReadsBack, AddsToLog};
-ghost use Rattle.sync_words.specs.Rule.{Stands};
-ghost use Rattle.sync_words.specs.Names.{view, Belongs};
+ghost use Rattle.sync_words.specs.Entries.{entry};
+ghost use Rattle.sync_words.specs.Views.{ReadsBack};
+ghost use Rattle.sync_words.specs.Names.{view};
+ghost use Rattle.sync_words.specs.Steps.{MayStep, HasStepped};
 
 use crate::plays::{Adds, Exchanges, Loads, Number, Stores, Subs, Swaps};
 use crate::seat::Seat;
 use crate::words::Words;
 use std::marker::Brand;
 
-// A step asks that thread `t` is one of the seat's, that the word is there, and that the seat is the table's.
-// It ensures of its entry: the view has it (`view`), as one more of its thread's log (`logs`); some legal list has the seat and
-// ends with it (`ends`), as the list of the whole table does right then (`stands`); a seat that has all numbers finds what it
-// left there (`back`). In each function that ends in `_as`, N stands for the thread.
+// A step makes one entry. A seat that has all numbers finds what it left in the word (`back`). In each function that ends in
+// `_as`, N stands for the thread.
 impl Words {
     /// What word `w` holds.
     pub fn load(&self, seat: &mut Seat, t: u32, w: usize) -> u64
-        requires own { Belongs self.now seat.old }
-        requires mine { has (view seat.old).numbers t ≡ true }
-        requires word { w < length (view seat.old).words }
-        ensures own { Belongs self.now seat.new }
-        ensures view { view seat.new ≡ added (view seat.old) (entry t w (Load result)) }
-        ensures logs { AddsToLog (view seat.old) (view seat.new) (entry t w (Load result)) }
-        ensures ends { Ends (view seat.new) (entry t w (Load result)) }
-        ensures stands { Stands (view seat.new) (entry t w (Load result)) }
+        requires { MayStep self.now seat.old t w }
+        ensures step { HasStepped self.now seat.old seat.new (entry t w (Load result)) }
         ensures back { ReadsBack (view seat.old) w result }
     {
         self.load_as::<Brand>(seat, t, w)
@@ -33,14 +25,8 @@ impl Words {
 
     fn load_as<N: Number>(&self, seat: &mut Seat, t: u32, w: usize) -> u64
         requires number { t ≡ N.number }
-        requires own { Belongs self.now seat.old }
-        requires mine { has (view seat.old).numbers t ≡ true }
-        requires word { w < length (view seat.old).words }
-        ensures own { Belongs self.now seat.new }
-        ensures view { view seat.new ≡ added (view seat.old) (entry t w (Load result)) }
-        ensures logs { AddsToLog (view seat.old) (view seat.new) (entry t w (Load result)) }
-        ensures ends { Ends (view seat.new) (entry t w (Load result)) }
-        ensures stands { Stands (view seat.new) (entry t w (Load result)) }
+        requires may { MayStep self.now seat.old t w }
+        ensures step { HasStepped self.now seat.old seat.new (entry t w (Load result)) }
         ensures back { ReadsBack (view seat.old) w result }
     {
         self.table.shared.load::<Loads<N>>(&mut seat.token, w)
@@ -48,28 +34,16 @@ impl Words {
 
     /// Writes `new` into word `w`.
     pub fn store(&self, seat: &mut Seat, t: u32, w: usize, new: u64)
-        requires own { Belongs self.now seat.old }
-        requires mine { has (view seat.old).numbers t ≡ true }
-        requires word { w < length (view seat.old).words }
-        ensures own { Belongs self.now seat.new }
-        ensures view { view seat.new ≡ added (view seat.old) (entry t w (Store new)) }
-        ensures logs { AddsToLog (view seat.old) (view seat.new) (entry t w (Store new)) }
-        ensures ends { Ends (view seat.new) (entry t w (Store new)) }
-        ensures stands { Stands (view seat.new) (entry t w (Store new)) }
+        requires { MayStep self.now seat.old t w }
+        ensures { HasStepped self.now seat.old seat.new (entry t w (Store new)) }
     {
         self.store_as::<Brand>(seat, t, w, new);
     }
 
     fn store_as<N: Number>(&self, seat: &mut Seat, t: u32, w: usize, new: u64)
         requires number { t ≡ N.number }
-        requires own { Belongs self.now seat.old }
-        requires mine { has (view seat.old).numbers t ≡ true }
-        requires word { w < length (view seat.old).words }
-        ensures own { Belongs self.now seat.new }
-        ensures view { view seat.new ≡ added (view seat.old) (entry t w (Store new)) }
-        ensures logs { AddsToLog (view seat.old) (view seat.new) (entry t w (Store new)) }
-        ensures ends { Ends (view seat.new) (entry t w (Store new)) }
-        ensures stands { Stands (view seat.new) (entry t w (Store new)) }
+        requires may { MayStep self.now seat.old t w }
+        ensures { HasStepped self.now seat.old seat.new (entry t w (Store new)) }
     {
         self.table
             .shared
@@ -78,14 +52,8 @@ impl Words {
 
     /// Writes `new` into word `w`, and answers what it held.
     pub fn swap(&self, seat: &mut Seat, t: u32, w: usize, new: u64) -> u64
-        requires own { Belongs self.now seat.old }
-        requires mine { has (view seat.old).numbers t ≡ true }
-        requires word { w < length (view seat.old).words }
-        ensures own { Belongs self.now seat.new }
-        ensures view { view seat.new ≡ added (view seat.old) (entry t w (Swap new result)) }
-        ensures logs { AddsToLog (view seat.old) (view seat.new) (entry t w (Swap new result)) }
-        ensures ends { Ends (view seat.new) (entry t w (Swap new result)) }
-        ensures stands { Stands (view seat.new) (entry t w (Swap new result)) }
+        requires { MayStep self.now seat.old t w }
+        ensures step { HasStepped self.now seat.old seat.new (entry t w (Swap new result)) }
         ensures back { ReadsBack (view seat.old) w result }
     {
         self.swap_as::<Brand>(seat, t, w, new)
@@ -93,14 +61,8 @@ impl Words {
 
     fn swap_as<N: Number>(&self, seat: &mut Seat, t: u32, w: usize, new: u64) -> u64
         requires number { t ≡ N.number }
-        requires own { Belongs self.now seat.old }
-        requires mine { has (view seat.old).numbers t ≡ true }
-        requires word { w < length (view seat.old).words }
-        ensures own { Belongs self.now seat.new }
-        ensures view { view seat.new ≡ added (view seat.old) (entry t w (Swap new result)) }
-        ensures logs { AddsToLog (view seat.old) (view seat.new) (entry t w (Swap new result)) }
-        ensures ends { Ends (view seat.new) (entry t w (Swap new result)) }
-        ensures stands { Stands (view seat.new) (entry t w (Swap new result)) }
+        requires may { MayStep self.now seat.old t w }
+        ensures step { HasStepped self.now seat.old seat.new (entry t w (Swap new result)) }
         ensures back { ReadsBack (view seat.old) w result }
     {
         self.table.shared.swap::<Swaps<N>>(&mut seat.token, w, new)
@@ -108,14 +70,8 @@ impl Words {
 
     /// Adds `by` to word `w`, modulo 2^64, and answers what it held.
     pub fn add(&self, seat: &mut Seat, t: u32, w: usize, by: u64) -> u64
-        requires own { Belongs self.now seat.old }
-        requires mine { has (view seat.old).numbers t ≡ true }
-        requires word { w < length (view seat.old).words }
-        ensures own { Belongs self.now seat.new }
-        ensures view { view seat.new ≡ added (view seat.old) (entry t w (Add by result)) }
-        ensures logs { AddsToLog (view seat.old) (view seat.new) (entry t w (Add by result)) }
-        ensures ends { Ends (view seat.new) (entry t w (Add by result)) }
-        ensures stands { Stands (view seat.new) (entry t w (Add by result)) }
+        requires { MayStep self.now seat.old t w }
+        ensures step { HasStepped self.now seat.old seat.new (entry t w (Add by result)) }
         ensures back { ReadsBack (view seat.old) w result }
     {
         self.add_as::<Brand>(seat, t, w, by)
@@ -123,14 +79,8 @@ impl Words {
 
     fn add_as<N: Number>(&self, seat: &mut Seat, t: u32, w: usize, by: u64) -> u64
         requires number { t ≡ N.number }
-        requires own { Belongs self.now seat.old }
-        requires mine { has (view seat.old).numbers t ≡ true }
-        requires word { w < length (view seat.old).words }
-        ensures own { Belongs self.now seat.new }
-        ensures view { view seat.new ≡ added (view seat.old) (entry t w (Add by result)) }
-        ensures logs { AddsToLog (view seat.old) (view seat.new) (entry t w (Add by result)) }
-        ensures ends { Ends (view seat.new) (entry t w (Add by result)) }
-        ensures stands { Stands (view seat.new) (entry t w (Add by result)) }
+        requires may { MayStep self.now seat.old t w }
+        ensures step { HasStepped self.now seat.old seat.new (entry t w (Add by result)) }
         ensures back { ReadsBack (view seat.old) w result }
     {
         self.table
@@ -140,14 +90,8 @@ impl Words {
 
     /// Takes `by` off word `w`, modulo 2^64, and answers what it held.
     pub fn sub(&self, seat: &mut Seat, t: u32, w: usize, by: u64) -> u64
-        requires own { Belongs self.now seat.old }
-        requires mine { has (view seat.old).numbers t ≡ true }
-        requires word { w < length (view seat.old).words }
-        ensures own { Belongs self.now seat.new }
-        ensures view { view seat.new ≡ added (view seat.old) (entry t w (Sub by result)) }
-        ensures logs { AddsToLog (view seat.old) (view seat.new) (entry t w (Sub by result)) }
-        ensures ends { Ends (view seat.new) (entry t w (Sub by result)) }
-        ensures stands { Stands (view seat.new) (entry t w (Sub by result)) }
+        requires { MayStep self.now seat.old t w }
+        ensures step { HasStepped self.now seat.old seat.new (entry t w (Sub by result)) }
         ensures back { ReadsBack (view seat.old) w result }
     {
         self.sub_as::<Brand>(seat, t, w, by)
@@ -155,14 +99,8 @@ impl Words {
 
     fn sub_as<N: Number>(&self, seat: &mut Seat, t: u32, w: usize, by: u64) -> u64
         requires number { t ≡ N.number }
-        requires own { Belongs self.now seat.old }
-        requires mine { has (view seat.old).numbers t ≡ true }
-        requires word { w < length (view seat.old).words }
-        ensures own { Belongs self.now seat.new }
-        ensures view { view seat.new ≡ added (view seat.old) (entry t w (Sub by result)) }
-        ensures logs { AddsToLog (view seat.old) (view seat.new) (entry t w (Sub by result)) }
-        ensures ends { Ends (view seat.new) (entry t w (Sub by result)) }
-        ensures stands { Stands (view seat.new) (entry t w (Sub by result)) }
+        requires may { MayStep self.now seat.old t w }
+        ensures step { HasStepped self.now seat.old seat.new (entry t w (Sub by result)) }
         ensures back { ReadsBack (view seat.old) w result }
     {
         self.table
@@ -172,14 +110,8 @@ impl Words {
 
     /// Writes `new` into word `w` where it holds `old`, and answers what it held.
     pub fn cas(&self, seat: &mut Seat, t: u32, w: usize, old: u64, new: u64) -> u64
-        requires own { Belongs self.now seat.old }
-        requires mine { has (view seat.old).numbers t ≡ true }
-        requires word { w < length (view seat.old).words }
-        ensures own { Belongs self.now seat.new }
-        ensures view { view seat.new ≡ added (view seat.old) (entry t w (Cas old new result)) }
-        ensures logs { AddsToLog (view seat.old) (view seat.new) (entry t w (Cas old new result)) }
-        ensures ends { Ends (view seat.new) (entry t w (Cas old new result)) }
-        ensures stands { Stands (view seat.new) (entry t w (Cas old new result)) }
+        requires { MayStep self.now seat.old t w }
+        ensures step { HasStepped self.now seat.old seat.new (entry t w (Cas old new result)) }
         ensures back { ReadsBack (view seat.old) w result }
     {
         self.cas_as::<Brand>(seat, t, w, old, new)
@@ -187,14 +119,8 @@ impl Words {
 
     fn cas_as<N: Number>(&self, seat: &mut Seat, t: u32, w: usize, old: u64, new: u64) -> u64
         requires number { t ≡ N.number }
-        requires own { Belongs self.now seat.old }
-        requires mine { has (view seat.old).numbers t ≡ true }
-        requires word { w < length (view seat.old).words }
-        ensures own { Belongs self.now seat.new }
-        ensures view { view seat.new ≡ added (view seat.old) (entry t w (Cas old new result)) }
-        ensures logs { AddsToLog (view seat.old) (view seat.new) (entry t w (Cas old new result)) }
-        ensures ends { Ends (view seat.new) (entry t w (Cas old new result)) }
-        ensures stands { Stands (view seat.new) (entry t w (Cas old new result)) }
+        requires may { MayStep self.now seat.old t w }
+        ensures step { HasStepped self.now seat.old seat.new (entry t w (Cas old new result)) }
         ensures back { ReadsBack (view seat.old) w result }
     {
         self.table

@@ -4,6 +4,7 @@ use Rattle.atomic_table.specs.Table.{Me}
 use Rattle.sync_words.specs.declared.rule.View.{View}
 use Rattle.sync_words.specs.Views.{merged, log}
 use Rattle.sync_words.proofs.Fitting.{log_merged_left, log_merged_right}
+use Rattle.sync_words.proofs.Resting.{listed_rests}
 use Rattle.sync_words.proofs.Stepping.{glues, learns_at}
 use Rattle.sync_words.proofs.words.Words.merge.Goals as goal
 
@@ -29,9 +30,9 @@ load-requires c =
 pub returns-clause-own_logs : goal.returns-clause-own_logs
 returns-clause-own_logs c t none =
     let both : c.load.new.seat.me.0 ≡ merged c.args.into.now.token.me.0 c.args.from.token.me.0 = c.load.ensures.2.view ∙ ap (λ (m : Me ℕ View). m.0) c.join_seat.ensures.2 in
-    ap (λ (v : View). log v t) both ∙ log_merged_left c.args.into.now.token.me.0 c.args.from.token.me.0 c.args.from.listed t none
+    ap (λ (v : View). log v t) both ∙ log_merged_left c.args.into.now.token.me.0 c.args.from.token.me.0 (listed_rests _ c.args.from.rests) t none
 
 pub returns-clause-other_logs : goal.returns-clause-other_logs
 returns-clause-other_logs c t none =
     let both : c.load.new.seat.me.0 ≡ merged c.args.into.now.token.me.0 c.args.from.token.me.0 = c.load.ensures.2.view ∙ ap (λ (m : Me ℕ View). m.0) c.join_seat.ensures.2 in
-    ap (λ (v : View). log v t) both ∙ log_merged_right c.args.into.now.token.me.0 c.args.from.token.me.0 c.args.into.now.listed t none
+    ap (λ (v : View). log v t) both ∙ log_merged_right c.args.into.now.token.me.0 c.args.from.token.me.0 (listed_rests _ c.args.into.now.rests) t none
