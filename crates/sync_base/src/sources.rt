@@ -15,13 +15,14 @@ pub trait Source {
 
     /// Puts the next bytes into the front of the buffer, and says how many.
     ///
-    /// `Ok(0)` is the end of the input.
+    /// `Ok(0)` is the end of the input. A call that fails gives nothing.
     fn read(&mut self, buf: &mut [u8]) -> Result<usize, Failed>
         requires { 0 < length buf.old }
         ensures within { IfOk result (λ n. n ≤ length buf.new) }
         ensures given { IfOk result (λ n. GivesFront (left self.old) (left self.new) (take n buf.new)) }
         ensures ended { IfOk result (λ n. EndsAt (left self.old) n) }
         ensures sound { OnOk result (faults self.new ≡ faults self.old) }
+        ensures kept { OnErr result (left self.new ≡ left self.old) }
         ensures failed { OnErr result (Rose (faults self.old) (faults self.new)) }
         ensures told { TellsAlike (left self.old) (left self.new) };
 }
