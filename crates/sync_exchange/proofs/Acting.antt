@@ -16,7 +16,7 @@ use Rattle.sync_rules.specs.declared.slots.Role.TheVariants.{Given, Read}
 use Rattle.sync_exchange.specs.declared.cases.Asked.{Asked}
 use Rattle.sync_exchange.specs.declared.hands.XStop.{XStop}
 use Rattle.sync_exchange.specs.declared.hands.XStop.TheVariants.{Differs, RequireFalse, Width}
-use Rattle.sync_exchange.specs.Exchange.{Exchanging, Answer, unless, named, next_name, is_token, key_at, amount_at, place_fits, within, new_value, started, updated, raised, asked_token, asked_object, withdrawn, after_reading, after_taking, after_seeing, after_giving, knowing, binding, recording, storing, use_variable, does}
+use Rattle.sync_exchange.specs.Exchange.{Exchanging, Answer, unless, named, next_name, is_at_place, key_at, amount_at, place_fits, value_fits, new_value, started, updated, raised, asked_token, asked_object, withdrawn, after_reading, after_taking, after_seeing, after_giving, knowing, binding, recording, storing, use_variable, does}
 use Rattle.sync_exchange.specs.Outcomes.{Stops, Stopped}
 use Rattle.sync_exchange.proofs.Asking.{wide-stop}
 
@@ -26,13 +26,13 @@ pub variable-given : (f : ℕ) (x y z : Exchanging) → z ≡ after_giving (reco
 variable-given f x y z ez ey = ap Ok (sym (ey ∙ ap (knowing f (next_name x.given) (pos 0)) ez))
 
 using : ℕ → Exchanging → Token → Answer
-using f x t = unless (Differs x.slot) (is_token f (pos 0) t) (Ok (knowing f (next_name x.tokens) t.value (after_reading x)))
+using f x t = unless (Differs x.slot) (is_at_place f (pos 0) t) (Ok (knowing f (next_name x.tokens) t.value (after_reading x)))
 
 variable-is : (f : ℕ) (x : Exchanging) → use_variable f Read x ≡ (named x >>= using f x)
 unfolding using
 variable-is f x = refl
 
-pub variable-read : (f : ℕ) (x y z : Exchanging) (t : Token) → named x ≡ Ok t → is_token f (pos 0) t ≡ true → z ≡ after_reading x → y ≡ knowing f (next_name x.tokens) t.value z → use_variable f Read x ≡ Ok y
+pub variable-read : (f : ℕ) (x y z : Exchanging) (t : Token) → named x ≡ Ok t → is_at_place f (pos 0) t ≡ true → z ≡ after_reading x → y ≡ knowing f (next_name x.tokens) t.value z → use_variable f Read x ≡ Ok y
 unfolding using
 variable-read f x y z t e same ez ey =
     variable-is f x ∙ ap (λ r. r >>= using f x) e
@@ -56,19 +56,19 @@ module _ (fits : ℤ → Bool) (fs : List Field) (line : ℕ) (x : Exchanging) w
 
   -- ---- first values and new values
 
-  pub init-stop : (f : ℕ) (t : Tree) (stop : XStop) → Stopped stop (within fits fs f t x) → Stops stop (does fits fs (record { act = acts.Init f t; line = line }) x)
+  pub init-stop : (f : ℕ) (t : Tree) (stop : XStop) → Stopped stop (value_fits fits fs f t x) → Stops stop (does fits fs (record { act = acts.Init f t; line = line }) x)
   unfolding does
-  init-stop f t stop h = wide-stop stop (within fits fs f t x) (Ok (started (strategy_at fs f) f (new_value fs f t x) x)) h
+  init-stop f t stop h = wide-stop stop (value_fits fits fs f t x) (Ok (started (strategy_at fs f) f (new_value fs f t x) x)) h
 
-  pub init-done : (f : ℕ) (t : Tree) (v : Value) (y : Exchanging) → within fits fs f t x ≡ true → v ≡ new_value fs f t x → y ≡ started (strategy_at fs f) f v x → does fits fs (record { act = acts.Init f t; line = line }) x ≡ Ok y
+  pub init-done : (f : ℕ) (t : Tree) (v : Value) (y : Exchanging) → value_fits fits fs f t x ≡ true → v ≡ new_value fs f t x → y ≡ started (strategy_at fs f) f v x → does fits fs (record { act = acts.Init f t; line = line }) x ≡ Ok y
   unfolding does
   init-done f t v y w e ey = ap (λ b. unless Width b (Ok (started (strategy_at fs f) f (new_value fs f t x) x))) w ∙ ap Ok (sym (ey ∙ ap (λ u. started (strategy_at fs f) f u x) e))
 
-  pub update-stop : (f : ℕ) (t : Tree) (stop : XStop) → Stopped stop (within fits fs f t x) → Stops stop (does fits fs (record { act = acts.Update f t; line = line }) x)
+  pub update-stop : (f : ℕ) (t : Tree) (stop : XStop) → Stopped stop (value_fits fits fs f t x) → Stops stop (does fits fs (record { act = acts.Update f t; line = line }) x)
   unfolding does
-  update-stop f t stop h = wide-stop stop (within fits fs f t x) (Ok (updated (strategy_at fs f) f (new_value fs f t x) x)) h
+  update-stop f t stop h = wide-stop stop (value_fits fits fs f t x) (Ok (updated (strategy_at fs f) f (new_value fs f t x) x)) h
 
-  pub update-done : (f : ℕ) (t : Tree) (v : Value) (y : Exchanging) → within fits fs f t x ≡ true → v ≡ new_value fs f t x → y ≡ updated (strategy_at fs f) f v x → does fits fs (record { act = acts.Update f t; line = line }) x ≡ Ok y
+  pub update-done : (f : ℕ) (t : Tree) (v : Value) (y : Exchanging) → value_fits fits fs f t x ≡ true → v ≡ new_value fs f t x → y ≡ updated (strategy_at fs f) f v x → does fits fs (record { act = acts.Update f t; line = line }) x ≡ Ok y
   unfolding does
   update-done f t v y w e ey = ap (λ b. unless Width b (Ok (updated (strategy_at fs f) f (new_value fs f t x) x))) w ∙ ap Ok (sym (ey ∙ ap (λ u. updated (strategy_at fs f) f u x) e))
 

@@ -8,7 +8,7 @@ use Rattle.sync_join.specs.declared.tokens.Token.{Token}
 use Rattle.sync_exchange_values.specs.Fitting.{number_fits}
 use Rattle.sync_exchange.specs.declared.hands.XStop.{XStop}
 use Rattle.sync_exchange.specs.declared.hands.XStop.TheVariants.{Missing, Differs, RequireFalse, StoreEmpty, Width, Memory}
-use Rattle.sync_exchange.specs.Exchange.{Exchanging, Answer, unless, named, is_token, is_asked, key_at, amount_at, place_fits, asked_token, asked_object, stored_at}
+use Rattle.sync_exchange.specs.Exchange.{Exchanging, Answer, unless, named, is_at_place, is_asked, key_at, amount_at, place_fits, asked_token, asked_object, stored_at}
 use Rattle.sync_exchange.specs.Outcomes.{Stops, Stopped}
 use Rattle.sync_exchange.specs.Works.{amount_fits, is_wanted}
 
@@ -66,7 +66,7 @@ stops-is (StoreEmpty n) r s e h = sym e ∙ h
 
 module _ (fits : ℤ → Bool) (f : ℕ) (p : PlaceTree) (x : Exchanging) (next : Token → Exchanging) where
   looked : Token → Answer
-  looked t = unless Width (place_fits fits p x) (unless (Differs x.slot) (is_token f (key_at p x) t && is_asked p t.value x) (Ok (next t)))
+  looked t = unless Width (place_fits fits p x) (unless (Differs x.slot) (is_at_place f (key_at p x) t && is_asked p t.value x) (Ok (next t)))
 
   pub asked-missing : (stop : XStop) → Stops stop (named x) → Stops stop (asked_token fits f p x next)
   unfolding looked
@@ -80,13 +80,13 @@ module _ (fits : ℤ → Bool) (f : ℕ) (p : PlaceTree) (x : Exchanging) (next 
   unfolding looked
   asked-wide stop t e h = stops-is stop (looked t) (asked_token fits f p x next) (sym (found t e)) (wide-stop stop (place_fits fits p x) _ h)
 
-  pub asked-differs : (t : Token) → named x ≡ Ok t → place_fits fits p x ≡ true → (is_token f (key_at p x) t && is_asked p t.value x) ≡ false → asked_token fits f p x next ≡ Err (Differs x.slot)
+  pub asked-differs : (t : Token) → named x ≡ Ok t → place_fits fits p x ≡ true → (is_at_place f (key_at p x) t && is_asked p t.value x) ≡ false → asked_token fits f p x next ≡ Err (Differs x.slot)
   unfolding looked
-  asked-differs t e w h = found t e ∙ ap (λ b. unless Width b (unless (Differs x.slot) (is_token f (key_at p x) t && is_asked p t.value x) (Ok (next t)))) w ∙ ap (λ b. unless (Differs x.slot) b (Ok (next t))) h
+  asked-differs t e w h = found t e ∙ ap (λ b. unless Width b (unless (Differs x.slot) (is_at_place f (key_at p x) t && is_asked p t.value x) (Ok (next t)))) w ∙ ap (λ b. unless (Differs x.slot) b (Ok (next t))) h
 
-  pub asked-found : (t : Token) → named x ≡ Ok t → place_fits fits p x ≡ true → (is_token f (key_at p x) t && is_asked p t.value x) ≡ true → asked_token fits f p x next ≡ Ok (next t)
+  pub asked-found : (t : Token) → named x ≡ Ok t → place_fits fits p x ≡ true → (is_at_place f (key_at p x) t && is_asked p t.value x) ≡ true → asked_token fits f p x next ≡ Ok (next t)
   unfolding looked
-  asked-found t e w h = found t e ∙ ap (λ b. unless Width b (unless (Differs x.slot) (is_token f (key_at p x) t && is_asked p t.value x) (Ok (next t)))) w ∙ ap (λ b. unless (Differs x.slot) b (Ok (next t))) h
+  asked-found t e w h = found t e ∙ ap (λ b. unless Width b (unless (Differs x.slot) (is_at_place f (key_at p x) t && is_asked p t.value x) (Ok (next t)))) w ∙ ap (λ b. unless (Differs x.slot) b (Ok (next t))) h
 
 -- ---- objects that are asked for
 

@@ -32,7 +32,7 @@ use Rattle.sync_exchange.specs.Projection.{AreNames}
 use Rattle.sync_exchange.proofs.Making.{records-at}
 use Rattle.sync_exchange.proofs.Strategies.{some_is}
 use Rattle.sync_exchange.proofs.OneStrategy.{variable-only}
-use Rattle.sync_exchange.proofs.Standing.{Stands}
+use Rattle.sync_exchange.proofs.Standing.{IsUnderWay}
 use Rattle.sync_exchange.proofs.Doing.{beyond}
 use Rattle.sync_exchange.proofs.Going.{IsSameAt, AreUsed}
 use Rattle.sync_exchange.proofs.Rules.{AreRuled, AreReading}
@@ -111,7 +111,7 @@ module _ (fs : List Field) (o : OperationTree) (args : List ℤ) (tokens given :
   start-nil w f lt var =
       mapping-inside fs s w f lt ∙ number-nil (get_or s f nothing) (subst (λ z. IsOf (sort_of z) (get_or s f nothing)) (variable-only (strategy_at fs f) var) (start-sort f lt))
 
-  pub start-stands : (w : Valuation) → AreNames fs o tokens given hand → Stands fs (valuation fs s w) others (beginning fs o args tokens given whole hand kept) (map Name (range_with_len 0 (length fs)))
+  pub start-stands : (w : Valuation) → AreNames fs o tokens given hand → IsUnderWay fs (valuation fs s w) others (beginning fs o args tokens given whole hand kept) (map Name (range_with_len 0 (length fs)))
   unfolding token_name
   start-stands w names = record {
     makes = record {

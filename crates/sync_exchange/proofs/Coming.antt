@@ -18,7 +18,8 @@ use Rattle.sync_rules.specs.Shapes.{fits_new, has_shape}
 use Rattle.sync_join.specs.declared.tokens.Token.{Token}
 use Rattle.sync_join.specs.Shards.{IsTokenOf, IsOf}
 use Rattle.sync_join.specs.Join.{as_map, counts_of, sum_of, entries_of, number_of, is_value, is_entry, is_element, is_reached, borne_out, joined}
-use Rattle.sync_join.proofs.Maps.{get-put, equal}
+use Rattle.sync_entries.proofs.Maps.{get-put}
+use Rattle.sync_join.proofs.Maps.{equal}
 use Rattle.sync_join.proofs.Leaving.{as_map-in, get-put_same}
 use Rattle.sync_exchange.specs.Exchange.{raised}
 use Rattle.sync_exchange.proofs.Terms.{and_left, and_right, and_both}

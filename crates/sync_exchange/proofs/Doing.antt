@@ -25,7 +25,7 @@ use Rattle.sync_join.specs.Join.{tokens_of, joined, record_at, value_at, as_map,
 use Rattle.sync_join.proofs.Leaving.{only_value-out}
 use Rattle.sync_exchange.specs.declared.hands.XStop.{XStop}
 use Rattle.sync_exchange.specs.declared.hands.XStop.TheVariants.{Width}
-use Rattle.sync_exchange.specs.Exchange.{Exchanging, Answer, held_as, without, revalued, tokens_in, is_stored_at, withdrawn, token_name, next_name, unless, after_reading, after_taking, after_seeing, after_giving, binding, recording, storing, revaluing, key_at, amount_at, asked_token, asked_object, raised, updated, new_value, permission, token_of}
+use Rattle.sync_exchange.specs.Exchange.{Exchanging, Answer, held_as, without, revalued, tokens_in, is_at_place, withdrawn, token_name, next_name, unless, after_reading, after_taking, after_seeing, after_giving, binding, recording, storing, revaluing, key_at, amount_at, asked_token, asked_object, raised, updated, new_value, permission, token_of}
 use Rattle.sync_exchange.proofs.Terms.{truth-same, value-same}
 use Rattle.sync_exchange.proofs.Tokens.{holds, under, with_number, taken-part, revalued-part, given-part}
 use Rattle.sync_exchange.proofs.Strategies.{met-both, leaving, staying, there_with-from, free-none}
@@ -34,7 +34,7 @@ use Rattle.sync_exchange.proofs.Storing.{nat_eq-turned, seen-object, withdrawn-o
 use Rattle.sync_exchange.proofs.Making.{Makes, part-other, part-own, sound-out, sound-in, sound-recorded, sound-stored, token-of-part, records-length, records-at, records-set, amounts-of, change-one, same-field, kept-value}
 use Rattle.sync_exchange.proofs.Passing.{asked-token, asked-object, unless-ok, ok_is}
 use Rattle.sync_exchange.proofs.Lawful.{reads_only, gives, place-key, place-asked, place-amount}
-use Rattle.sync_exchange.proofs.Standing.{bag_of, Stands, IsReady, Moves, few-held, once-without, once-revalued, once-given, later-length, named-without, named-given, named-revalued, binding-stands, binding-given, binding-variables, binding-own}
+use Rattle.sync_exchange.proofs.Standing.{bag_at, IsUnderWay, IsReady, GoesAlong, few-held, once-without, once-revalued, once-given, later-length, named-without, named-given, named-revalued, binding-stands, binding-given, binding-variables, binding-own}
 use Rattle.sync_exchange.proofs.OneStrategy.{not-removed, storage-only, deposit-guard, withdraw-guard, update-cases, nothing-bound, stored-map, map-stored, only-variable, variable-only-value, variable-number, value-sort, perm-other}
 
 all-either : (P : Token → Type 0) (b : Bool) (t : Token) (ts : List Token) → P t → AllByRecursion P ts → AllByRecursion P (cond b (t ∷ ts) ts)
@@ -67,9 +67,9 @@ still fs t n is (inr h) = inr (
   },
 )
 
-module _ (fs : List Field) (v : Valuation) (others : List Token) (q : ℕ → Bool) (x y : Exchanging) (cur : List Tree) (stands : Stands fs v others x cur) where
-  pub to-answer : (a : ActTree) (z : Exchanging) → z ≡ y → Moves fs v others x z cur a → Moves fs v others x y cur a
-  to-answer a z e h = subst (λ w. Moves fs v others x w cur a) e h
+module _ (fs : List Field) (v : Valuation) (others : List Token) (q : ℕ → Bool) (x y : Exchanging) (cur : List Tree) (stands : IsUnderWay fs v others x cur) where
+  pub to-answer : (a : ActTree) (z : Exchanging) → z ≡ y → GoesAlong fs v others x z cur a → GoesAlong fs v others x y cur a
+  to-answer a z e h = subst (λ w. GoesAlong fs v others x w cur a) e h
 
   pub other-field : (t : Token) (f g : ℕ) → f ≡ t.field → nat_eq g f ≡ false → nat_eq t.field g ≡ false
   other-field t f g e apart = ap (λ n. nat_eq n g) (sym e) ∙ nat_eq-turned f g ∙ apart
@@ -85,7 +85,7 @@ module _ (fs : List Field) (v : Valuation) (others : List Token) (q : ℕ → Bo
       let h : has_statement (strategy_at fs f) kinds.Remove ≡ false = ap (λ s. has_statement s kinds.Remove) here ∙ variable in absurd (cc)
 
   pub doing-remove : (fit : ℤ → Bool) (f : ℕ) (p : PlaceTree) → asked_token fit f p x (λ (t : Token). binding (binds p) t.value (after_taking x)) ≡ Ok y
-      → IsReady fs v q x y cur (acts.Remove f p) → Moves fs v others x y cur (acts.Remove f p)
+      → IsReady fs v q x y cur (acts.Remove f p) → GoesAlong fs v others x y cur (acts.Remove f p)
   unfolding field_of kind_of fits reads_only bound_by condition safety enabling after gives
   doing-remove fit f p e r =
       let a = asked-token fit f p x (λ (t : Token). binding (binds p) t.value (after_taking x)) y e in
@@ -94,14 +94,14 @@ module _ (fs : List Field) (v : Valuation) (others : List Token) (q : ℕ → Bo
       let part = taken-part (next_name x.tokens) t x.hand x.entered others a.held (few-of (next_name x.tokens)) in
       let lt = r.lawful.inside f refl in
       let own = eq-eqb t.field f (sym a.field) in
-      let before = sym (part-own fs x.kept t (bag_of others x) rest f part own) ∙ stands.makes.values f lt in
+      let before = sym (part-own fs x.kept t (bag_at others x) rest f part own) ∙ stands.makes.values f lt in
       let key = a.key ∙ place-key q v p x r.same r.lawful.reads in
       let value = place-asked q v p t.value x r.same r.lawful.reads a.value
       (λ z b. sym (binding-own (binds p) t.value (after_taking x) z b) ∙ ap (λ (w : Exchanging). w.names.number z) a.answer ∙ r.bound z b) in
-      let sound = sound-out fs x.kept t (bag_of others x) rest part stands.makes.sound in
+      let sound = sound-out fs x.kept t (bag_at others x) rest part stands.makes.sound in
       let out = leaving (strategy_at fs f) v (get_or cur f Nil) p t (tokens_of f rest) (record_at x.kept f) (tokens_of f x.kept.stored) r.lawful.allowed before key value (amounts-of fs f rest sound.natural) in
-      let makes = change-one fs v (bag_of others x) rest x.kept x.kept cur f (removed (strategy_at fs f) (get_or cur f Nil) p) stands.makes lt out.1
-      (λ g below apart. sym (part-other fs x.kept t (bag_of others x) rest g part (other-field t f g a.field apart))) sound in
+      let makes = change-one fs v (bag_at others x) rest x.kept x.kept cur f (removed (strategy_at fs f) (get_or cur f Nil) p) stands.makes lt out.1
+      (λ g below apart. sym (part-other fs x.kept t (bag_at others x) rest g part (other-field t f g a.field apart))) sound in
       to-answer (acts.Remove f p) (binding (binds p) t.value (after_taking x)) a.answer (record {
         met = met-both v _ _ r.safe out.0;
         stands = binding-stands fs v others (binds p) t.value (after_taking x) _ (record {
@@ -115,7 +115,7 @@ module _ (fs : List Field) (v : Valuation) (others : List Token) (q : ℕ → Bo
       })
 
   pub doing-have : (fit : ℤ → Bool) (f : ℕ) (p : PlaceTree) → asked_token fit f p x (λ (t : Token). binding (binds p) t.value (after_reading x)) ≡ Ok y
-      → IsReady fs v q x y cur (acts.Have f p) → Moves fs v others x y cur (acts.Have f p)
+      → IsReady fs v q x y cur (acts.Have f p) → GoesAlong fs v others x y cur (acts.Have f p)
   unfolding field_of kind_of fits reads_only bound_by condition safety enabling after gives
   doing-have fit f p e r =
       let a = asked-token fit f p x (λ (t : Token). binding (binds p) t.value (after_reading x)) y e in
@@ -124,16 +124,16 @@ module _ (fs : List Field) (v : Valuation) (others : List Token) (q : ℕ → Bo
       let part = taken-part (next_name x.tokens) t x.hand x.entered others a.held (few-of (next_name x.tokens)) in
       let lt = r.lawful.inside f refl in
       let own = eq-eqb t.field f (sym a.field) in
-      let before = sym (part-own fs x.kept t (bag_of others x) rest f part own) ∙ stands.makes.values f lt in
+      let before = sym (part-own fs x.kept t (bag_at others x) rest f part own) ∙ stands.makes.values f lt in
       let key = a.key ∙ place-key q v p x r.same r.lawful.reads in
       let value = place-asked q v p t.value x r.same r.lawful.reads a.value
       (λ z b. sym (binding-own (binds p) t.value (after_reading x) z b) ∙ ap (λ (w : Exchanging). w.names.number z) a.answer ∙ r.bound z b) in
-      let sound = sound-out fs x.kept t (bag_of others x) rest part stands.makes.sound in
+      let sound = sound-out fs x.kept t (bag_at others x) rest part stands.makes.sound in
       let there = staying (strategy_at fs f) v (get_or cur f Nil) p t (tokens_of f rest) (record_at x.kept f) (tokens_of f x.kept.stored) r.lawful.allowed before key value (amounts-of fs f rest sound.natural) in
       to-answer (acts.Have f p) (binding (binds p) t.value (after_reading x)) a.answer (record {
         met = met-both v _ _ r.safe there;
         stands = binding-stands fs v others (binds p) t.value (after_reading x) _ (record {
-          makes = same-field fs v (bag_of others x) x.kept cur f stands.makes;
+          makes = same-field fs v (bag_at others x) x.kept cur f stands.makes;
           once = stands.once;
           named = stands.named;
           fields = stands.fields;
@@ -143,7 +143,7 @@ module _ (fs : List Field) (v : Valuation) (others : List Token) (q : ℕ → Bo
       })
 
   pub doing-require : (stop : XStop) (fit : Bool) (form : Formula) → unless Width fit (unless stop (truth x.names form) (Ok x)) ≡ Ok y
-      → IsReady fs v q x y cur (acts.Require form) → Moves fs v others x y cur (acts.Require form)
+      → IsReady fs v q x y cur (acts.Require form) → GoesAlong fs v others x y cur (acts.Require form)
   unfolding field_of reads_only condition safety enabling gives
   doing-require stop fit form e r =
       let a = unless-ok Width fit _ y e in
@@ -155,15 +155,15 @@ module _ (fs : List Field) (v : Valuation) (others : List Token) (q : ℕ → Bo
         variables = refl;
       })
 
-  pub doing-assert : (form : Formula) → ◌≡◌ {A = Answer} (Ok x) (Ok y) → IsReady fs v q x y cur (acts.Assert form) → Moves fs v others x y cur (acts.Assert form)
+  pub doing-assert : (form : Formula) → ◌≡◌ {A = Answer} (Ok x) (Ok y) → IsReady fs v q x y cur (acts.Assert form) → GoesAlong fs v others x y cur (acts.Assert form)
   unfolding field_of condition safety enabling gives
   doing-assert form e r = to-answer (acts.Assert form) x (ok_is x y e) (record { met = r.safe; stands = stands; given = omega arith; variables = refl })
 
-  pub doing-variable : (f : ℕ) → ◌≡◌ {A = Answer} (Ok x) (Ok y) → Moves fs v others x y cur (acts.HaveVariable f)
+  pub doing-variable : (f : ℕ) → ◌≡◌ {A = Answer} (Ok x) (Ok y) → GoesAlong fs v others x y cur (acts.HaveVariable f)
   unfolding field_of condition safety enabling after gives
   doing-variable f e = to-answer (acts.HaveVariable f) x (ok_is x y e) (record {
     met = tt;
-    stands = record { makes = same-field fs v (bag_of others x) x.kept cur f stands.makes; once = stands.once; named = stands.named; fields = stands.fields };
+    stands = record { makes = same-field fs v (bag_at others x) x.kept cur f stands.makes; once = stands.once; named = stands.named; fields = stands.fields };
     given = omega arith;
     variables = refl;
   })
@@ -171,7 +171,7 @@ module _ (fs : List Field) (v : Valuation) (others : List Token) (q : ℕ → Bo
   -- a place's key and amount under both valuations
   pub doing-add : (fit : Bool) (f : ℕ) (p : PlaceTree)
       → unless Width fit (Ok (recording f (raised (strategy_at fs f) (record_at x.kept f) (key_at p x) (amount_at p x)) (after_giving (token_of f (key_at p x) (amount_at p x)) x))) ≡ Ok y
-      → IsReady fs v q x y cur (acts.Add f p) → Moves fs v others x y cur (acts.Add f p)
+      → IsReady fs v q x y cur (acts.Add f p) → GoesAlong fs v others x y cur (acts.Add f p)
   unfolding field_of kind_of fits reads_only bound_by condition safety enabling after gives
   doing-add fit f p e r =
       let s = strategy_at fs f in
@@ -187,15 +187,15 @@ module _ (fs : List Field) (v : Valuation) (others : List Token) (q : ℕ → Bo
       let value = place-amount q v p x r.same r.lawful.reads (nothing-bound s p r.lawful.fit) in
       let records = stands.makes.sound.shaped.records in
       let long = records-length fs x.kept.records records in
-      let comes = coming s v (get_or cur f Nil) p t (tokens_of f (bag_of others x)) (record_at x.kept f) (tokens_of f x.kept.stored) r.lawful.allowed r.lawful.fit (stands.makes.values f lt) key value r.safe in
+      let comes = coming s v (get_or cur f Nil) p t (tokens_of f (bag_at others x)) (record_at x.kept f) (tokens_of f x.kept.stored) r.lawful.allowed r.lawful.fit (stands.makes.values f lt) key value r.safe in
       let recorded : record_at now f ≡ w = get_or-set_same x.kept.records f w (Number (pos 0)) (omega (arith, long, lt)) in
-      let sound = sound-in fs now t (bag_of others z) (bag_of others x) part (inr (lt, coming-shaped s v p t r.lawful.allowed r.lawful.fit key value))
+      let sound = sound-in fs now t (bag_at others z) (bag_at others x) part (inr (lt, coming-shaped s v p t r.lawful.allowed r.lawful.fit key value))
       (λ count. subst (λ (n : ℤ). pos 0 ≤ℤ n) (sym value) (coming-natural s v (get_or cur f Nil) p r.safe count))
-      (sound-recorded fs (bag_of others x) x.kept (set x.kept.records f w) (records-set fs x.kept.records f w records (raised-sort s (record_at x.kept f) t.key t.value (records-at fs x.kept.records f records lt))) stands.makes.sound) in
-      let makes = change-one fs v (bag_of others x) (bag_of others z) x.kept now cur f (added s (get_or cur f Nil) p) stands.makes lt
-      (part-own fs now t (bag_of others z) (bag_of others x) f part own ∙ ap (λ u. joined s (t ∷ tokens_of f (bag_of others x)) u (tokens_of f x.kept.stored)) recorded ∙ comes)
-      (λ g below apart. part-other fs now t (bag_of others z) (bag_of others x) g part (other-field t f g refl apart)
-      ∙ kept-value fs (bag_of others x) x.kept now g (get_or-set_other x.kept.records f g w (Number (pos 0)) (λ same. let h = eq-eqb g f same in absurd (cc))) refl)
+      (sound-recorded fs (bag_at others x) x.kept (set x.kept.records f w) (records-set fs x.kept.records f w records (raised-sort s (record_at x.kept f) t.key t.value (records-at fs x.kept.records f records lt))) stands.makes.sound) in
+      let makes = change-one fs v (bag_at others x) (bag_at others z) x.kept now cur f (added s (get_or cur f Nil) p) stands.makes lt
+      (part-own fs now t (bag_at others z) (bag_at others x) f part own ∙ ap (λ u. joined s (t ∷ tokens_of f (bag_at others x)) u (tokens_of f x.kept.stored)) recorded ∙ comes)
+      (λ g below apart. part-other fs now t (bag_at others z) (bag_at others x) g part (other-field t f g refl apart)
+      ∙ kept-value fs (bag_at others x) x.kept now g (get_or-set_other x.kept.records f g w (Number (pos 0)) (λ same. let h = eq-eqb g f same in absurd (cc))) refl)
       sound in
       to-answer (acts.Add f p) z (ok_is z y a.1) (record {
         met = met-both v _ None r.safe tt;
@@ -215,11 +215,11 @@ module _ (fs : List Field) (v : Valuation) (others : List Token) (q : ℕ → Bo
 
   all-withdrawn : (P : Token → Type 0) (f : ℕ) (k : ℤ) (ts : List Token) → AllByRecursion P ts → AllByRecursion P (withdrawn f k ts)
   all-withdrawn P f k [] h = tt
-  all-withdrawn P f k (t ∷ ts) h = all-either P (not (is_stored_at f k t)) t (withdrawn f k ts) h.0 (all-withdrawn P f k ts h.1)
+  all-withdrawn P f k (t ∷ ts) h = all-either P (not (is_at_place f k t)) t (withdrawn f k ts) h.0 (all-withdrawn P f k ts h.1)
 
   pub doing-deposit : length fs ≤ 32 → (fit : ℤ → Bool) (f : ℕ) (p : PlaceTree)
       → asked_token fit perm p x (λ (t : Token). storing (x.kept.stored ++ token_of f (key_at p x) (amount_at p x) ∷ []) (after_taking x)) ≡ Ok y
-      → IsReady fs v q x y cur (acts.Deposit f p) → Moves fs v others x y cur (acts.Deposit f p)
+      → IsReady fs v q x y cur (acts.Deposit f p) → GoesAlong fs v others x y cur (acts.Deposit f p)
   unfolding field_of kind_of fits reads_only bound_by condition safety enabling after gives sort_of
   doing-deposit few fit f p e r =
       let s = strategy_at fs f in
@@ -235,17 +235,17 @@ module _ (fs : List Field) (v : Valuation) (others : List Token) (q : ℕ → Bo
       let is : s ≡ StorageMap = storage-only s (deposit-guard s r.lawful.allowed) in
       let key = place-key q v p x r.same r.lawful.reads in
       let value = place-amount q v p x r.same r.lawful.reads (nothing-bound s p r.lawful.fit) in
-      let before = stored-map s v (get_or cur f Nil) (tokens_of f (bag_of others x)) (record_at x.kept f) (tokens_of f x.kept.stored) is (stands.makes.values f lt) in
+      let before = stored-map s v (get_or cur f Nil) (tokens_of f (bag_at others x)) (record_at x.kept f) (tokens_of f x.kept.stored) is (stands.makes.values f lt) in
       let free = ap (finmap.get (mapped v (get_or cur f Nil))) key ∙ free-none v (get_or cur f Nil) (key_of p) (value_of p) r.safe in
       let stored : as_map (tokens_of f ts) ≡ Some (mapped v (Put (get_or cur f Nil) (key_of p) (value_of p))) =
       deposited-object f u.key u.value x.kept.stored (mapped v (get_or cur f Nil)) before free
       ∙ ap (λ k. Some (maps.put (mapped v (get_or cur f Nil)) k u.value)) key ∙ ap (λ n. Some (maps.put (mapped v (get_or cur f Nil)) (num v (key_of p)) n)) value in
       let sound = sound-stored fs rest x.kept ts (all-last (λ (w : Token). strategy_at fs w.field ≡ StorageMap) x.kept.stored u stands.makes.sound.shaped.stored is)
-      (sound-out fs x.kept t (bag_of others x) rest part stands.makes.sound) in
-      let makes = change-one fs v (bag_of others x) rest x.kept now cur f (Put (get_or cur f Nil) (key_of p) (value_of p)) stands.makes lt
+      (sound-out fs x.kept t (bag_at others x) rest part stands.makes.sound) in
+      let makes = change-one fs v (bag_at others x) rest x.kept now cur f (Put (get_or cur f Nil) (key_of p) (value_of p)) stands.makes lt
       (map-stored s v (Put (get_or cur f Nil) (key_of p) (value_of p)) (tokens_of f rest) (record_at x.kept f) (tokens_of f ts) is stored)
       (λ g below apart. kept-value fs rest x.kept now g refl (deposited-other f g u.key u.value x.kept.stored apart)
-      ∙ sym (part-other fs x.kept t (bag_of others x) rest g part (perm-other (length fs) t.field g few below (sym a.field)))) sound in
+      ∙ sym (part-other fs x.kept t (bag_at others x) rest g part (perm-other (length fs) t.field g few below (sym a.field)))) sound in
       to-answer (acts.Deposit f p) z a.answer (record {
         met = r.safe;
         stands = record {
@@ -260,7 +260,7 @@ module _ (fs : List Field) (v : Valuation) (others : List Token) (q : ℕ → Bo
 
   pub doing-withdraw : length fs ≤ 32 → (fit : ℤ → Bool) (f : ℕ) (p : PlaceTree)
       → asked_object fit f p x (λ (n : ℤ). binding (binds p) n (storing (withdrawn f (key_at p x) x.kept.stored) (after_giving (permission (key_at p x) n) x))) ≡ Ok y
-      → IsReady fs v q x y cur (acts.Withdraw f p) → Moves fs v others x y cur (acts.Withdraw f p)
+      → IsReady fs v q x y cur (acts.Withdraw f p) → GoesAlong fs v others x y cur (acts.Withdraw f p)
   unfolding field_of kind_of fits reads_only bound_by condition safety enabling after gives sort_of
   doing-withdraw few fit f p e r =
       let s = strategy_at fs f in
@@ -277,16 +277,16 @@ module _ (fs : List Field) (v : Valuation) (others : List Token) (q : ℕ → Bo
       let key = place-key q v p x r.same r.lawful.reads in
       let value = place-asked q v p n x r.same r.lawful.reads a.value
       (λ m b. sym (binding-own (binds p) n z m b) ∙ ap (λ (w : Exchanging). w.names.number m) a.answer ∙ r.bound m b) in
-      let before = stored-map s v (get_or cur f Nil) (tokens_of f (bag_of others x)) (record_at x.kept f) (tokens_of f x.kept.stored) is (stands.makes.values f lt) in
+      let before = stored-map s v (get_or cur f Nil) (tokens_of f (bag_at others x)) (record_at x.kept f) (tokens_of f x.kept.stored) is (stands.makes.values f lt) in
       let there = ap (finmap.get (mapped v (get_or cur f Nil))) (sym key) ∙ seen-object f k n x.kept.stored (mapped v (get_or cur f Nil)) a.stored before ∙ ap Some value in
       let stored : as_map (tokens_of f ts) ≡ Some (mapped v (Del (get_or cur f Nil) (key_of p))) =
       withdrawn-object f k x.kept.stored (mapped v (get_or cur f Nil)) before ∙ ap (λ l. Some (maps.del (mapped v (get_or cur f Nil)) l)) key in
-      let sound = sound-in fs now t (bag_of others z) (bag_of others x) part (inl refl) (λ count. absurd (no-permission fs few count))
-      (sound-stored fs (bag_of others x) x.kept ts (all-withdrawn (λ (w : Token). strategy_at fs w.field ≡ StorageMap) f k x.kept.stored stands.makes.sound.shaped.stored) stands.makes.sound) in
-      let makes = change-one fs v (bag_of others x) (bag_of others z) x.kept now cur f (Del (get_or cur f Nil) (key_of p)) stands.makes lt
-      (map-stored s v (Del (get_or cur f Nil) (key_of p)) (tokens_of f (bag_of others z)) (record_at x.kept f) (tokens_of f ts) is stored)
-      (λ g below apart. part-other fs now t (bag_of others z) (bag_of others x) g part (perm-other (length fs) perm g few below refl)
-      ∙ kept-value fs (bag_of others x) x.kept now g refl (withdrawn-other f g k x.kept.stored apart)) sound in
+      let sound = sound-in fs now t (bag_at others z) (bag_at others x) part (inl refl) (λ count. absurd (no-permission fs few count))
+      (sound-stored fs (bag_at others x) x.kept ts (all-withdrawn (λ (w : Token). strategy_at fs w.field ≡ StorageMap) f k x.kept.stored stands.makes.sound.shaped.stored) stands.makes.sound) in
+      let makes = change-one fs v (bag_at others x) (bag_at others z) x.kept now cur f (Del (get_or cur f Nil) (key_of p)) stands.makes lt
+      (map-stored s v (Del (get_or cur f Nil) (key_of p)) (tokens_of f (bag_at others z)) (record_at x.kept f) (tokens_of f ts) is stored)
+      (λ g below apart. part-other fs now t (bag_at others z) (bag_at others x) g part (perm-other (length fs) perm g few below refl)
+      ∙ kept-value fs (bag_at others x) x.kept now g refl (withdrawn-other f g k x.kept.stored apart)) sound in
       to-answer (acts.Withdraw f p) (binding (binds p) n z) a.answer (record {
         met = there_with-from v (get_or cur f Nil) (key_of p) (value_of p) there;
         stands = binding-stands fs v others (binds p) n z _ (record {
@@ -300,7 +300,7 @@ module _ (fs : List Field) (v : Valuation) (others : List Token) (q : ℕ → Bo
       })
 
   pub doing-guard : (fit : ℤ → Bool) (f : ℕ) (p : PlaceTree) → asked_object fit f p x (λ (n : ℤ). binding (binds p) n (after_seeing x)) ≡ Ok y
-      → IsReady fs v q x y cur (acts.Guard f p) → Moves fs v others x y cur (acts.Guard f p)
+      → IsReady fs v q x y cur (acts.Guard f p) → GoesAlong fs v others x y cur (acts.Guard f p)
   unfolding field_of kind_of fits reads_only bound_by condition safety enabling after gives sort_of
   doing-guard fit f p e r =
       let s = strategy_at fs f in
@@ -311,12 +311,12 @@ module _ (fs : List Field) (v : Valuation) (others : List Token) (q : ℕ → Bo
       let key = place-key q v p x r.same r.lawful.reads in
       let value = place-asked q v p n x r.same r.lawful.reads a.value
       (λ m b. sym (binding-own (binds p) n (after_seeing x) m b) ∙ ap (λ (w : Exchanging). w.names.number m) a.answer ∙ r.bound m b) in
-      let before = stored-map s v (get_or cur f Nil) (tokens_of f (bag_of others x)) (record_at x.kept f) (tokens_of f x.kept.stored) is (stands.makes.values f lt) in
+      let before = stored-map s v (get_or cur f Nil) (tokens_of f (bag_at others x)) (record_at x.kept f) (tokens_of f x.kept.stored) is (stands.makes.values f lt) in
       let there = ap (finmap.get (mapped v (get_or cur f Nil))) (sym key) ∙ seen-object f (key_at p x) n x.kept.stored (mapped v (get_or cur f Nil)) a.stored before ∙ ap Some value in
       to-answer (acts.Guard f p) (binding (binds p) n (after_seeing x)) a.answer (record {
         met = there_with-from v (get_or cur f Nil) (key_of p) (value_of p) there;
         stands = binding-stands fs v others (binds p) n (after_seeing x) _ (record {
-          makes = same-field fs v (bag_of others x) x.kept cur f stands.makes;
+          makes = same-field fs v (bag_at others x) x.kept cur f stands.makes;
           once = stands.once;
           named = stands.named;
           fields = stands.fields;
@@ -329,7 +329,7 @@ module _ (fs : List Field) (v : Valuation) (others : List Token) (q : ℕ → Bo
   pub revalue-makes : (f name : ℕ) (n : ℤ) (t : Tree) (tk : Token) → f < length fs → strategy_at fs f ≡ Variable → held_as name (x.hand ++ x.entered) ≡ Some tk → tk.field ≡ f → n ≡ num v t
       → Makes fs v (tokens_in (revalued name n x.hand ++ revalued name n x.entered) ++ others) x.kept (set cur f t)
   revalue-makes f name n t tk lt is held field number =
-      let bag = bag_of others x in
+      let bag = bag_at others x in
       let new = tokens_in (revalued name n x.hand ++ revalued name n x.entered) ++ others in
       let parts = revalued-part name n tk x.hand x.entered others held (few-of name) in
       let rest = parts.rest in
@@ -348,7 +348,7 @@ module _ (fs : List Field) (v : Valuation) (others : List Token) (q : ℕ → Bo
       sound
 
   pub revalue-stands : (f name : ℕ) (n : ℤ) (t : Tree) → f < length fs → strategy_at fs f ≡ Variable → token_name f x.variables ≡ Some name → n ≡ num v t
-      → Stands fs v others (record { names = x.names; slot = x.slot; tokens = x.tokens; given = x.given; variables = x.variables; hand = revalued name n x.hand; entered = revalued name n x.entered; kept = x.kept; bound = x.bound }) (set cur f t)
+      → IsUnderWay fs v others (record x { hand = revalued name n x.hand; entered = revalued name n x.entered }) (set cur f t)
   revalue-stands f name n t lt is has number =
       let tk = stands.named f name has in
       record {
@@ -359,15 +359,15 @@ module _ (fs : List Field) (v : Valuation) (others : List Token) (q : ℕ → Bo
       }
 
   pub revaluing-is : (f name : ℕ) (n : ℤ) → token_name f x.variables ≡ Some name
-      → record { names = x.names; slot = x.slot; tokens = x.tokens; given = x.given; variables = x.variables; hand = revalued name n x.hand; entered = revalued name n x.entered; kept = x.kept; bound = x.bound } ≡ revaluing f n x
+      → record x { hand = revalued name n x.hand; entered = revalued name n x.entered } ≡ revaluing f n x
   revaluing-is f name n has = rw has refl
 
   -- a field that is recorded alone gets another record
   pub record-stands : (f : ℕ) (w : Value) (t : Tree) → f < length fs → IsOf (sort_of (strategy_at fs f)) w
-      → value_at fs (bag_of others x) (record { records = set x.kept.records f w; stored = x.kept.stored }) f ≡ Some (value_in v (sort_of (strategy_at fs f)) t)
-      → Stands fs v others (recording f w x) (set cur f t)
+      → value_at fs (bag_at others x) (record { records = set x.kept.records f w; stored = x.kept.stored }) f ≡ Some (value_in v (sort_of (strategy_at fs f)) t)
+      → IsUnderWay fs v others (recording f w x) (set cur f t)
   record-stands f w t lt sort own =
-      let bag = bag_of others x in
+      let bag = bag_at others x in
       let now : Kept = record { records = set x.kept.records f w; stored = x.kept.stored } in
       let records = stands.makes.sound.shaped.records in
       record {
@@ -385,7 +385,7 @@ module _ (fs : List Field) (v : Valuation) (others : List Token) (q : ℕ → Bo
       get_or-set_same x.kept.records f w (Number (pos 0)) (omega (arith, long, lt))
 
   pub doing-update : (fit : Bool) (f : ℕ) (t : Tree) → unless Width fit (Ok (updated (strategy_at fs f) f (new_value fs f t x) x)) ≡ Ok y
-      → IsReady fs v q x y cur (acts.Update f t) → Moves fs v others x y cur (acts.Update f t)
+      → IsReady fs v q x y cur (acts.Update f t) → GoesAlong fs v others x y cur (acts.Update f t)
   unfolding field_of kind_of reads_only condition safety enabling after gives changed_by
   doing-update fit f t e r =
       let s = strategy_at fs f in
@@ -393,7 +393,7 @@ module _ (fs : List Field) (v : Valuation) (others : List Token) (q : ℕ → Bo
       let a = unless-ok Width fit _ y e in
       let same : w ≡ value_in v (sort_of s) t = value-same q x.names v r.same (sort_of s) t r.lawful.reads in
       let lt = r.lawful.inside f refl in
-      update-cases s (Moves fs v others x y cur (acts.Update f t)) r.lawful.allowed
+      update-cases s (GoesAlong fs v others x y cur (acts.Update f t)) r.lawful.allowed
       (λ is.
       let used = r.used f refl (ap is_variable is) in
       let n = number_of w in
@@ -406,7 +406,7 @@ module _ (fs : List Field) (v : Valuation) (others : List Token) (q : ℕ → Bo
       }))
       (λ is.
       let sort = value-sort (sort_of s) x.names t in
-      let own = ap (λ z. joined z (tokens_of f (bag_of others x)) (record_at (record { records = set x.kept.records f w; stored = x.kept.stored }) f) (tokens_of f x.kept.stored)) is ∙ ap Some (record-there f w lt ∙ same) in
+      let own = ap (λ z. joined z (tokens_of f (bag_at others x)) (record_at (record { records = set x.kept.records f w; stored = x.kept.stored }) f) (tokens_of f x.kept.stored)) is ∙ ap Some (record-there f w lt ∙ same) in
       to-answer (acts.Update f t) (recording f w x) (ap (λ z. updated z f w x) (sym is) ∙ ok_is (updated s f w x) y a.1) (record {
         met = tt;
         stands = record-stands f w t lt sort own;

@@ -29,7 +29,7 @@ use Rattle.sync_exchange.proofs.Strategies.{some_is}
 use Rattle.sync_exchange.proofs.Storing.{nat_eq-turned, tokens_of-append}
 use Rattle.sync_exchange.proofs.OneStrategy.{perm-other}
 use Rattle.sync_exchange.proofs.Passing.{either, unless-ok, ok_is, asked-token}
-use Rattle.sync_exchange.proofs.Standing.{bag_of, Stands, few-held}
+use Rattle.sync_exchange.proofs.Standing.{bag_at, IsUnderWay, few-held}
 use Rattle.sync_exchange.proofs.Rules.{AreRuled}
 
 -- one of these statements gives the field its first value
@@ -183,20 +183,20 @@ apart-field g f h = cases (nat_eq g f) refl where
   cases true e = absurd (h (ap Some (eqb-true g f e)))
   cases false e = refl
 
-module _ (fs : List Field) (few : length fs ≤ 32) (v : Valuation) (others : List Token) (x : Exchanging) (cur : List Tree) (stands : Stands fs v others x cur) (f : ℕ) (lt : f < length fs) where
-  revaluing-tokens : (g : ℕ) (n : ℤ) → nat_eq g f ≡ false → tokens_of f (bag_of others (revaluing g n x)) ≡ tokens_of f (bag_of others x)
-  revaluing-tokens g n other = either (token_name g x.variables) (tokens_of f (bag_of others (revaluing g n x)) ≡ tokens_of f (bag_of others x))
+module _ (fs : List Field) (few : length fs ≤ 32) (v : Valuation) (others : List Token) (x : Exchanging) (cur : List Tree) (stands : IsUnderWay fs v others x cur) (f : ℕ) (lt : f < length fs) where
+  revaluing-tokens : (g : ℕ) (n : ℤ) → nat_eq g f ≡ false → tokens_of f (bag_at others (revaluing g n x)) ≡ tokens_of f (bag_at others x)
+  revaluing-tokens g n other = either (token_name g x.variables) (tokens_of f (bag_at others (revaluing g n x)) ≡ tokens_of f (bag_at others x))
       (λ none. rw none refl)
       (λ name some.
       let tk = stands.named g name some in
       let parts = revalued-part name n tk.0 x.hand x.entered others tk.1 (few-held name (x.hand ++ x.entered) x.given (stands.once name)) in
       let away : nat_eq tk.0.field f ≡ false = ap (λ m. nat_eq m f) tk.2 ∙ other in
-      rw some (part-tokens _ _ parts.rest f parts.is away ∙ sym (part-tokens tk.0 (bag_of others x) parts.rest f parts.was away)))
+      rw some (part-tokens _ _ parts.rest f parts.is away ∙ sym (part-tokens tk.0 (bag_at others x) parts.rest f parts.was away)))
 
-  given-tokens : (tk : Token) → nat_eq tk.field f ≡ false → tokens_of f (bag_of others (after_giving tk x)) ≡ tokens_of f (bag_of others x)
-  given-tokens tk other = part-tokens tk (bag_of others (after_giving tk x)) (bag_of others x) f (given-part (next_name x.given) tk x.hand x.entered others) other
+  given-tokens : (tk : Token) → nat_eq tk.field f ≡ false → tokens_of f (bag_at others (after_giving tk x)) ≡ tokens_of f (bag_at others x)
+  given-tokens tk other = part-tokens tk (bag_at others (after_giving tk x)) (bag_at others x) f (given-part (next_name x.given) tk x.hand x.entered others) other
 
-  started-tokens : (s : Strategy) (g : ℕ) (w : Value) → nat_eq g f ≡ false → tokens_of f (bag_of others (started s g w x)) ≡ tokens_of f (bag_of others x)
+  started-tokens : (s : Strategy) (g : ℕ) (w : Value) → nat_eq g f ≡ false → tokens_of f (bag_at others (started s g w x)) ≡ tokens_of f (bag_at others x)
   started-tokens Variable g w other = revaluing-tokens g (number_of w) other
   started-tokens Count g w other = given-tokens (token_of g (pos 0) (number_of w)) other
   started-tokens PersistentCount g w other = given-tokens (token_of g (pos 0) (number_of w)) other
@@ -211,22 +211,22 @@ module _ (fs : List Field) (few : length fs ≤ 32) (v : Valuation) (others : Li
   started-tokens PersistentSet g w other = refl
   started-tokens StorageMap g w other = refl
 
-  pub tokens-kept : (fit : ℤ → Bool) (y : Exchanging) (line : ℕ) (a : ActTree) → may_start a ≡ true → does fit fs (record { act = a; line = line }) x ≡ Ok y → (changed_by a ≡ Some f → ⊥) → tokens_of f (bag_of others y) ≡ tokens_of f (bag_of others x)
+  pub tokens-kept : (fit : ℤ → Bool) (y : Exchanging) (line : ℕ) (a : ActTree) → may_start a ≡ true → does fit fs (record { act = a; line = line }) x ≡ Ok y → (changed_by a ≡ Some f → ⊥) → tokens_of f (bag_at others y) ≡ tokens_of f (bag_at others x)
   unfolding does may_start changed_by
   tokens-kept fit y line (acts.Require form) start e h =
       let a = unless-ok Width _ _ y e in
       let b = unless-ok (RequireFalse line) _ (Ok x) y a.1 in
-      ap (λ (z : Exchanging). tokens_of f (bag_of others z)) (sym (ok_is x y b.1))
+      ap (λ (z : Exchanging). tokens_of f (bag_at others z)) (sym (ok_is x y b.1))
   tokens-kept fit y line (acts.Init g t) start e h =
       let a = unless-ok Width _ _ y e in
-      ap (λ (z : Exchanging). tokens_of f (bag_of others z)) (sym (ok_is _ y a.1)) ∙ started-tokens (strategy_at fs g) g (new_value fs g t x) (apart-field g f h)
+      ap (λ (z : Exchanging). tokens_of f (bag_at others z)) (sym (ok_is _ y a.1)) ∙ started-tokens (strategy_at fs g) g (new_value fs g t x) (apart-field g f h)
   tokens-kept fit y line (acts.Add g p) start e h =
       let a = unless-ok Width _ _ y e in
-      ap (λ (z : Exchanging). tokens_of f (bag_of others z)) (sym (ok_is _ y a.1)) ∙ given-tokens (token_of g (key_at p x) (amount_at p x)) (apart-field g f h)
+      ap (λ (z : Exchanging). tokens_of f (bag_at others z)) (sym (ok_is _ y a.1)) ∙ given-tokens (token_of g (key_at p x) (amount_at p x)) (apart-field g f h)
   tokens-kept fit y line (acts.Deposit g p) start e h =
       let a = asked-token fit perm p x _ y e in
       let part = taken-part (next_name x.tokens) a.token x.hand x.entered others a.held (few-held (next_name x.tokens) (x.hand ++ x.entered) x.given (stands.once (next_name x.tokens))) in
-      ap (λ (z : Exchanging). tokens_of f (bag_of others z)) (sym a.answer) ∙ sym (part-tokens a.token (bag_of others x) _ f part (perm-other (length fs) a.token.field f few lt (sym a.field)))
+      ap (λ (z : Exchanging). tokens_of f (bag_at others z)) (sym a.answer) ∙ sym (part-tokens a.token (bag_at others x) _ f part (perm-other (length fs) a.token.field f few lt (sym a.field)))
   tokens-kept fit y line (acts.Assert form) start e h = absurd (cc)
   tokens-kept fit y line (acts.Update g t) start e h = absurd (cc)
   tokens-kept fit y line (acts.HaveVariable g) start e h = absurd (cc)
@@ -241,13 +241,13 @@ pub record AreWaiting (fs : List Field) (others : List Token) (ss : List StepTre
   pub ordered : AreOrdered ss
   pub starts : AllByRecursion (λ (s : StepTree). may_start s.act ≡ true) ss
   pub untouched : (f : ℕ) → f < length fs → is_started_in f ss ≡ true → get_or cur f Nil ≡ blank (sort_of (strategy_at fs f))
-  pub free : (f : ℕ) → f < length fs → is_started_in f ss ≡ true → is_variable (strategy_at fs f) ≡ false → tokens_of f (bag_of others x) ≡ []
+  pub free : (f : ℕ) → f < length fs → is_started_in f ss ≡ true → is_variable (strategy_at fs f) ≡ false → tokens_of f (bag_at others x) ≡ []
 
 or-later : (a b : Bool) → b ≡ true → (a || b) ≡ true
 or-later true b e = refl
 or-later false b e = e
 
-pub waiting-next : (fit : ℤ → Bool) (fs : List Field) → length fs ≤ 32 → (v : Valuation) (others : List Token) (s : StepTree) (ss : List StepTree) (x y : Exchanging) (cur : List Tree) → Stands fs v others x cur
+pub waiting-next : (fit : ℤ → Bool) (fs : List Field) → length fs ≤ 32 → (v : Valuation) (others : List Token) (s : StepTree) (ss : List StepTree) (x y : Exchanging) (cur : List Tree) → IsUnderWay fs v others x cur
     → does fit fs s x ≡ Ok y → AreWaiting fs others (s ∷ ss) x cur → AreWaiting fs others ss y (advanced fs cur s.act)
 waiting-next fit fs few v others s ss x y cur stands e h =
     let spare = λ (f : ℕ) (started : is_started_in f ss ≡ true) (c : changed_by s.act ≡ Some f). let k = h.ordered.0 f c in clash (is_started_in f ss) started k in

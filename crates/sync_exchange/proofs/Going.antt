@@ -20,11 +20,11 @@ use Rattle.sync_join.specs.declared.tokens.Token.{Token}
 use Rattle.sync_join.specs.Shards.{perm}
 use Rattle.sync_join.specs.Join.{number_of}
 use Rattle.sync_exchange.specs.declared.hands.XStop.TheVariants.{Width, RequireFalse}
-use Rattle.sync_exchange.specs.Exchange.{Exchanging, unless, token_name, revaluing, after_reading, after_taking, after_seeing, after_giving, binding, storing, withdrawn, permission, key_at, started, updated, new_value, within, does, does_all}
+use Rattle.sync_exchange.specs.Exchange.{Exchanging, unless, token_name, revaluing, after_reading, after_taking, after_seeing, after_giving, binding, storing, withdrawn, permission, key_at, started, updated, new_value, value_fits, does, does_all}
 use Rattle.sync_exchange.proofs.Terms.{Same, and_left, and_right, or_left, or_right}
 use Rattle.sync_exchange.proofs.Passing.{either, unless-ok, ok_is, bind-ok, asked-token, asked-object}
 use Rattle.sync_exchange.proofs.Lawful.{IsLawful, gives}
-use Rattle.sync_exchange.proofs.Standing.{Stands, IsReady, Moves}
+use Rattle.sync_exchange.proofs.Standing.{IsUnderWay, IsReady, GoesAlong}
 use Rattle.sync_exchange.proofs.Doing.{doing-remove, doing-have, doing-require, doing-assert, doing-variable, doing-add, doing-deposit, doing-withdraw, doing-guard, doing-update}
 
 -- ---- what symbols stand for changes where a name is bound alone
@@ -186,7 +186,7 @@ AreUsed fs vars ss = AllByRecursion (λ (s : StepTree). (f : ℕ) → changed_by
 -- the statements have been done
 pub record AreDone (fs : List Field) (v : Valuation) (others : List Token) (y : Exchanging) (cur : List Tree) (ss : List StepTree) : Type 0 where
   pub met : AreMet fs v cur ss
-  pub stands : Stands fs v others y (last_values fs cur ss)
+  pub stands : IsUnderWay fs v others y (last_values fs cur ss)
 
 module _ (fit : ℤ → Bool) (fs : List Field) (few : length fs ≤ 32) (trusted : ℕ → Bool) (params : List ℕ) where
   pub names-kept_all : (before ss : List StepTree) (x y : Exchanging) → AreLawful fs trusted params before ss → does_all fit fs ss x ≡ Ok y
@@ -199,13 +199,13 @@ module _ (fit : ℤ → Bool) (fs : List Field) (few : length fs ≤ 32) (truste
       (names-kept_all (before ++ s ∷ []) ss a.0 y laws.2 a.2 z (known-later fs params before (s ∷ []) z known))
 
   module _ (v : Valuation) (others : List Token) (Extra : List StepTree → Exchanging → List Tree → Type 0)
-      (init : (q : ℕ → Bool) (x y : Exchanging) (cur : List Tree) (f : ℕ) (t : Tree) (line : ℕ) (ss : List StepTree) → Stands fs v others x cur → IsReady fs v q x y cur (acts.Init f t)
-      → Extra (record { act = acts.Init f t; line = line } ∷ ss) x cur → unless Width (within fit fs f t x) (Ok (started (strategy_at fs f) f (new_value fs f t x) x)) ≡ Ok y → Moves fs v others x y cur (acts.Init f t))
-      (next : (q : ℕ → Bool) (s : StepTree) (ss : List StepTree) (x y : Exchanging) (cur : List Tree) → IsLawful fs q s.act → Stands fs v others x cur → does fit fs s x ≡ Ok y → Extra (s ∷ ss) x cur → Extra ss y (advanced fs cur s.act))
+      (init : (q : ℕ → Bool) (x y : Exchanging) (cur : List Tree) (f : ℕ) (t : Tree) (line : ℕ) (ss : List StepTree) → IsUnderWay fs v others x cur → IsReady fs v q x y cur (acts.Init f t)
+      → Extra (record { act = acts.Init f t; line = line } ∷ ss) x cur → unless Width (value_fits fit fs f t x) (Ok (started (strategy_at fs f) f (new_value fs f t x) x)) ≡ Ok y → GoesAlong fs v others x y cur (acts.Init f t))
+      (next : (q : ℕ → Bool) (s : StepTree) (ss : List StepTree) (x y : Exchanging) (cur : List Tree) → IsLawful fs q s.act → IsUnderWay fs v others x cur → does fit fs s x ≡ Ok y → Extra (s ∷ ss) x cur → Extra ss y (advanced fs cur s.act))
       (outside : (z : ℕ) → nat_lt z (length fs) ≡ false → trusted z ≡ true)
     where
-      doing : (q : ℕ → Bool) (x y : Exchanging) (cur : List Tree) (line : ℕ) (a : ActTree) (ss : List StepTree) → Stands fs v others x cur → IsReady fs v q x y cur a
-          → Extra (record { act = a; line = line } ∷ ss) x cur → does fit fs (record { act = a; line = line }) x ≡ Ok y → Moves fs v others x y cur a
+      doing : (q : ℕ → Bool) (x y : Exchanging) (cur : List Tree) (line : ℕ) (a : ActTree) (ss : List StepTree) → IsUnderWay fs v others x cur → IsReady fs v q x y cur a
+          → Extra (record { act = a; line = line } ∷ ss) x cur → does fit fs (record { act = a; line = line }) x ≡ Ok y → GoesAlong fs v others x y cur a
       unfolding does
       doing q x y cur line (acts.Init f t) ss h r extra e = init q x y cur f t line ss h r extra e
       doing q x y cur line (acts.Require form) ss h r extra e = doing-require fs v others q x y cur h (RequireFalse line) _ form e r
@@ -219,10 +219,10 @@ module _ (fit : ℤ → Bool) (fs : List Field) (few : length fs ≤ 32) (truste
       doing q x y cur line (acts.Withdraw f p) ss h r extra e = doing-withdraw fs v others q x y cur h few fit f p e r
       doing q x y cur line (acts.Guard f p) ss h r extra e = doing-guard fs v others q x y cur h fit f p e r
 
-      pub going : (before ss : List StepTree) (x y : Exchanging) (cur : List Tree) → AreLawful fs trusted params before ss → does_all fit fs ss x ≡ Ok y → Stands fs v others x cur
+      pub going : (before ss : List StepTree) (x y : Exchanging) (cur : List Tree) → AreLawful fs trusted params before ss → does_all fit fs ss x ≡ Ok y → IsUnderWay fs v others x cur
           → IsKeptSafe fs v cur ss → Same trusted y.names v → total_gives fs ss ≤ length x.given → AreUsed fs x.variables ss → Extra ss x cur → AreDone fs v others y cur ss
       unfolding AreMet IsKeptSafe last_values total_gives
-      going before [] x y cur laws e h safe same enough used extra = record { met = tt; stands = subst (λ w. Stands fs v others w cur) (ok_is x y e) h }
+      going before [] x y cur laws e h safe same enough used extra = record { met = tt; stands = subst (λ w. IsUnderWay fs v others w cur) (ok_is x y e) h }
       going before (s ∷ ss) x y cur laws e h safe same enough used extra =
           let a = bind-ok (does fit fs s x) (does_all fit fs ss) y e in
           let q = λ (z : ℕ). trusted z && is_known_by fs (params ++ bound_names before) z in

@@ -28,11 +28,12 @@ use Rattle.sync_join.proofs.Through.{append-nothing}
 use Rattle.sync_exchange.specs.declared.hands.Held.{Held}
 use Rattle.sync_exchange.specs.Exchange.{Exchanging, tokens_in, token_name, argument, beginning, variable_slots, use_variables, does_all}
 use Rattle.sync_exchange.specs.Projection.{AreNames, ArePermissions, IsBlank, AreBlank, Begins, Initialises}
+use Rattle.sync_exchange.proofs.Answering.{Answers, all-answered, used-bind-nothing}
 use Rattle.sync_exchange.proofs.Terms.{only-more, form-only-more, and_left, and_right, and_both}
 use Rattle.sync_exchange.proofs.OneStrategy.{perm-other}
 use Rattle.sync_exchange.proofs.Passing.{bind-ok}
 use Rattle.sync_exchange.proofs.Lawful.{reads_only}
-use Rattle.sync_exchange.proofs.Standing.{bag_of, Stands, IsReady}
+use Rattle.sync_exchange.proofs.Standing.{bag_at, IsUnderWay, IsReady}
 use Rattle.sync_exchange.proofs.Doing.{no-permission}
 use Rattle.sync_exchange.proofs.Going.{IsSameAt, AreLawful, AreUsed, AreDone, total_gives, known-in, names-kept_all, going}
 use Rattle.sync_exchange.proofs.Rules.{broken-none, IsRegular, AreRuled, AreReading, regular, are-lawful}
@@ -175,17 +176,17 @@ module _ (fs : List Field) (o : OperationTree) (args : List ℤ) (tokens given :
   abbrev begun : Exchanging
   begun = beginning fs o args tokens given whole hand kept
 
-  bag-perms : AllByRecursion (λ (t : Token). t.field ≡ perm) (bag_of [] begun)
+  bag-perms : AllByRecursion (λ (t : Token). t.field ≡ perm) (bag_at [] begun)
   bag-perms = subst (AllByRecursion (λ (t : Token). t.field ≡ perm)) (sym (append-nothing (tokens_in (hand ++ [])) ∙ ap (λ hs. tokens_in hs) (append-nothing hand))) perms.permissions
 
   pub start-open : (v : Valuation) → IsOpen fs v begun.names 0 begun
   unfolding token_name
   start-open v = record {
     values = λ f lt c. from f lt c;
-    free = λ f lt c. no-tokens (length fs) f (bag_of [] begun) few lt bag-perms;
+    free = λ f lt c. no-tokens (length fs) f (bag_at [] begun) few lt bag-perms;
     sound = record {
-      shaped = record { tokens = perms-tokens fs (bag_of [] begun) bag-perms; records = blank-records fs kept.records blanks; stored = subst (AllByRecursion (λ (t : Token). strategy_at fs t.field ≡ StorageMap)) (sym empty) tt };
-      natural = perms-natural fs (bag_of [] begun) few bag-perms;
+      shaped = record { tokens = perms-tokens fs (bag_at [] begun) bag-perms; records = blank-records fs kept.records blanks; stored = subst (AllByRecursion (λ (t : Token). strategy_at fs t.field ≡ StorageMap)) (sym empty) tt };
+      natural = perms-natural fs (bag_at [] begun) few bag-perms;
     };
     once = names-once fs o tokens given hand names;
     named = λ g name e. absurd (cc);
@@ -193,14 +194,14 @@ module _ (fs : List Field) (o : OperationTree) (args : List ℤ) (tokens given :
     used = λ f lt var. absurd (omega arith);
     beyond = λ z e. record { number = refl; mapping = refl };
   } where
-    from : (f : ℕ) → f < length fs → (is_variable (strategy_at fs f) ≡ false) ⊎ (f < 0) → value_at fs (bag_of [] begun) kept f ≡ Some (blank_value v (strategy_at fs f))
+    from : (f : ℕ) → f < length fs → (is_variable (strategy_at fs f) ≡ false) ⊎ (f < 0) → value_at fs (bag_at [] begun) kept f ≡ Some (blank_value v (strategy_at fs f))
     from f lt (inl var) =
-        ap (λ ts. joined (strategy_at fs f) ts (record_at kept f) (tokens_of f kept.stored)) (no-tokens (length fs) f (bag_of [] begun) few lt bag-perms)
+        ap (λ ts. joined (strategy_at fs f) ts (record_at kept f) (tokens_of f kept.stored)) (no-tokens (length fs) f (bag_at [] begun) few lt bag-perms)
         ∙ ap (λ st. joined (strategy_at fs f) [] (record_at kept f) (tokens_of f st)) empty
         ∙ blank-joined (strategy_at fs f) v (record_at kept f) var (blank-at fs kept.records f blanks lt)
     from f lt (inr l) = absurd (omega arith)
 
-pub open-stands : (fs : List Field) (v : Valuation) (begun : Valuation) (y : Exchanging) → IsOpen fs v begun (length fs) y → Stands fs v [] y (first_values fs mode.Init)
+pub open-stands : (fs : List Field) (v : Valuation) (begun : Valuation) (y : Exchanging) → IsOpen fs v begun (length fs) y → IsUnderWay fs v [] y (first_values fs mode.Init)
 open-stands fs v from_start y h = record {
   makes = record {
     values = λ f lt. h.values f lt (inr lt) ∙ ap (λ t. Some (Rattle.sync_machine.specs.States.value_in v (sort_of (strategy_at fs f)) t)) (sym (first-blank fs f lt));
@@ -286,7 +287,16 @@ module _ (fit : ℤ → Bool) (m : MachineTree) (o : OperationTree) (args : List
   given-args long = are-given y.names o.params args long (params-apart m.fields [] o.params rules.params).1
       (all-both IsTextName (λ z. is_in z o.params ≡ true) (λ z. y.names.number z ≡ argument o.params args z) o.params param-value rules.texts.params (all-in o.params))
 
-  pub begins : Contains m.ops o → length args ≡ length o.params → (AreGiven o.params args y.names → IsKeptSafe m.fields y.names (first_values m.fields o.mode) o.steps) → Begins m o args (tokens_in (y.hand ++ y.entered) ++ []) y.kept
+  answers : Answers o.steps y0 y y.names
+  answers = all-answered fit m.fields rules.few (is_outside m.fields) o.params y.names [] o.steps y0 y laws rest (λ z out. refl)
+
+  given-bound : AreGiven (bound_names o.steps) y.bound y.names
+  given-bound =
+      let none-yet : start.bound ≡ y0.bound = used-bind-nothing (variable_slots m.fields o) start y0 first in
+      let all : y.bound ≡ answers.values = answers.bound ∙ ap (λ (bs : List ℤ). bs ++ answers.values) (sym none-yet) in
+      subst (λ (bs : List ℤ). AreGiven (bound_names o.steps) bs y.names) (sym all) answers.given
+
+  pub begins : Contains m.ops o → length args ≡ length o.params → (AreGiven o.params args y.names → IsKeptSafe m.fields y.names (first_values m.fields o.mode) o.steps) → Begins m o args y.bound (tokens_in (y.hand ++ y.entered) ++ []) y.kept
   begins has long safe =
       let args_are = given-args long in
       let d = done (subst (λ k. IsKeptSafe m.fields y.names (first_values m.fields k) o.steps) init (safe args_are)) in
@@ -294,8 +304,8 @@ module _ (fit : ℤ → Bool) (m : MachineTree) (o : OperationTree) (args : List
       record {
         sound = d.stands.makes.sound;
         state = values_in y.names m.fields last;
-        joined = joined-state m.fields (bag_of [] y) y.kept _ (values-list y.names (value_at m.fields (bag_of [] y) y.kept) 0 m.fields last d.stands.makes.many
-            (λ i lt. let e : 0 + i ≡ i = omega arith in ap (value_at m.fields (bag_of [] y) y.kept) e ∙ d.stands.makes.values i lt));
+        joined = joined-state m.fields (bag_at [] y) y.kept _ (values-list y.names (value_at m.fields (bag_at [] y) y.kept) 0 m.fields last d.stands.makes.many
+            (λ i lt. let e : 0 + i ≡ i = omega arith in ap (value_at m.fields (bag_at [] y) y.kept) e ∙ d.stands.makes.values i lt));
         start = record {
           names = y.names;
           declared = has;
@@ -304,6 +314,8 @@ module _ (fit : ℤ → Bool) (m : MachineTree) (o : OperationTree) (args : List
           met = subst (λ k. AreMet m.fields y.names (first_values m.fields k) o.steps) (sym init) d.met;
           leaves = ap (λ k. values_in y.names m.fields (last_values m.fields (first_values m.fields k) o.steps)) (sym init);
         };
+        answered = given-bound;
+        safe = safe args_are;
       }
 
 -- the theorem for numbers within any bound
@@ -314,5 +326,6 @@ initialises-in fit m proved o has init args long tokens given hand names perms k
     let y = out.0 in
     let a = bind-ok (use_variables (variable_slots m.fields o) (beginning m.fields o args tokens given whole hand kept)) (does_all fit m.fields o.steps) y out.1 in
     let b = begins fit m o args tokens given hand kept whole init names rules perms blanks empty a.0 y a.1 a.2 has long (λ gives. proved.holds.starts_safe o has init args y.names gives) in
-    subst (λ k. Begins m o args (tokens_in x.hand) k) (sym out.2.kept)
-    (subst (λ ts. Begins m o args ts y.kept) (append-nothing (tokens_in (y.hand ++ y.entered)) ∙ sym out.2.hand) b)
+    subst (λ (bs : List ℤ). Begins m o args bs (tokens_in x.hand) x.kept) (sym out.2.bound)
+    (subst (λ k. Begins m o args y.bound (tokens_in x.hand) k) (sym out.2.kept)
+    (subst (λ ts. Begins m o args y.bound ts y.kept) (append-nothing (tokens_in (y.hand ++ y.entered)) ∙ sym out.2.hand) b))

@@ -28,7 +28,7 @@ equal a b e = grind (arith, nat_tests)
 
 -- ---- where a token stands in a hand
 
-pub record Stands (name : ℕ) (hs : List Held) (t : Token) : Type 0 where
+pub record HeldAt (name : ℕ) (hs : List Held) (t : Token) : Type 0 where
   pub before : List Held
   pub after : List Held
   pub here : Held
@@ -37,7 +37,7 @@ pub record Stands (name : ℕ) (hs : List Held) (t : Token) : Type 0 where
   pub changed : (new : Held) → replaced name new hs ≡ before ++ new ∷ after
   pub gone : dropped name hs ≡ before ++ after
 
-stands-here : (name : ℕ) (h : Held) (hs : List Held) (t : Token) → nat_eq name h.name ≡ true → h.token ≡ t → Stands name (h ∷ hs) t
+stands-here : (name : ℕ) (h : Held) (hs : List Held) (t : Token) → nat_eq name h.name ≡ true → h.token ≡ t → HeldAt name (h ∷ hs) t
 stands-here name h hs t same e = record {
   before = [];
   after = hs;
@@ -48,7 +48,7 @@ stands-here name h hs t same e = record {
   gone = cond-true (nat_eq name h.name) hs (h ∷ dropped name hs) same;
 }
 
-stands-later : (name : ℕ) (h : Held) (hs : List Held) (t : Token) → nat_eq name h.name ≡ false → Stands name hs t → Stands name (h ∷ hs) t
+stands-later : (name : ℕ) (h : Held) (hs : List Held) (t : Token) → nat_eq name h.name ≡ false → HeldAt name hs t → HeldAt name (h ∷ hs) t
 stands-later name h hs t other s = record {
   before = h ∷ s.before;
   after = s.after;
@@ -59,11 +59,11 @@ stands-later name h hs t other s = record {
   gone = cond-false (nat_eq name h.name) hs (h ∷ dropped name hs) other ∙ ap (λ ks. h ∷ ks) s.gone;
 }
 
-stands-cases : (name : ℕ) (h : Held) (hs : List Held) (t : Token) (b : Bool) → nat_eq name h.name ≡ b → (if b then Some h.token else held_as name hs) ≡ Some t → (held_as name hs ≡ Some t → Stands name hs t) → Stands name (h ∷ hs) t
+stands-cases : (name : ℕ) (h : Held) (hs : List Held) (t : Token) (b : Bool) → nat_eq name h.name ≡ b → (if b then Some h.token else held_as name hs) ≡ Some t → (held_as name hs ≡ Some t → HeldAt name hs t) → HeldAt name (h ∷ hs) t
 stands-cases name h hs t true same e later = stands-here name h hs t same (same_some h.token t e)
 stands-cases name h hs t false other e later = stands-later name h hs t other (later e)
 
-pub stands : (name : ℕ) (hs : List Held) (t : Token) → held_as name hs ≡ Some t → Stands name hs t
+pub stands : (name : ℕ) (hs : List Held) (t : Token) → held_as name hs ≡ Some t → HeldAt name hs t
 unfolding held_as
 stands name [] t e = absurd (none_not_some t e)
 stands name (h ∷ hs) t e = stands-cases name h hs t (nat_eq name h.name) refl e (stands name hs t)

@@ -44,3 +44,4 @@ pub mod MovesNamed
 pub mod Moving
 pub mod MovesStarting
 mod MoveExamples
+pub mod Answering

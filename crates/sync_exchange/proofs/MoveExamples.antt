@@ -13,7 +13,7 @@ use Rattle.sync_rules.specs.Slots.{act_slot}
 use Rattle.sync_exchange_values.specs.Fitting.{number_fits}
 use Rattle.sync_exchange.specs.declared.hands.Held.{Held}
 use Rattle.sync_exchange.specs.Exchange.{held_as, token_of, does}
-use Rattle.sync_exchange.specs.Moves.{Move, Exchange, Split, Holders, bag_of, IsExchange, IsSplit, AreMoves, no_more, one_more}
+use Rattle.sync_exchange.specs.Moves.{Move, Exchange, Split, Holders, all_tokens, IsExchange, IsSplit, AreMoves, no_more, one_more}
 use Rattle.sync_exchange.specs.Runs.{calls_of}
 
 -- one is taken from the count
@@ -32,9 +32,13 @@ counted = record { name = 0; fields = record { name = 0; strategy = Count; line 
 abbrev amount : ℕ → ℤ → Held
 amount name n = record { name = name; token = record { field = 0; key = pos 0; value = n } }
 
--- two holders; the second one's hand stays as it is
+-- two holders; the second one's hand stays as it is, and so does a loose token
 abbrev with_hand : List Held → Holders
-with_hand hand = record { hands = hand ∷ (amount 1 (pos 5) ∷ []) ∷ []; kept = record { records = Number (pos 0) ∷ []; stored = [] } }
+with_hand hand = record {
+  hands = hand ∷ (amount 1 (pos 5) ∷ []) ∷ [];
+  loose = token_of 0 (pos 0) (pos 4) ∷ [];
+  kept = record { records = Number (pos 0) ∷ []; stored = [] };
+}
 
 abbrev moves : List Move
 moves = Split 1 (pos 1) 2 3 ∷ Exchange spend [] (2 ∷ []) [] [] ∷ []
@@ -63,7 +67,7 @@ parted = record {
   leaves = refl;
 }
 
-spent : IsExchange (λ n. true) counted (bag_of (with_hand (amount 2 (pos 1) ∷ amount 3 (pos 2) ∷ [])).hands []) spend [] (2 ∷ []) [] []
+spent : IsExchange (λ n. true) counted (all_tokens (with_hand (amount 2 (pos 1) ∷ amount 3 (pos 2) ∷ []))) spend [] (2 ∷ []) [] []
     (amount 2 (pos 1) ∷ amount 3 (pos 2) ∷ []) (with_hand []).kept (amount 3 (pos 2) ∷ []) (with_hand []).kept
 unfolding held_as does act_slot number_fits IsDistinct
 spent = record {
@@ -76,11 +80,11 @@ spent = record {
   leaves = refl;
 }
 
-both : AreMoves (λ n. true) counted [] (with_hand (amount 1 (pos 3) ∷ [])) moves (with_hand (amount 3 (pos 2) ∷ []))
+both : AreMoves (λ n. true) counted (with_hand (amount 1 (pos 3) ∷ [])) moves (with_hand (amount 3 (pos 2) ∷ []))
 both = one_more {next = with_hand (amount 2 (pos 1) ∷ amount 3 (pos 2) ∷ [])}
-    (record { before = []; hand = amount 1 (pos 3) ∷ []; left = amount 2 (pos 1) ∷ amount 3 (pos 2) ∷ []; after = (amount 1 (pos 5) ∷ []) ∷ []; was = refl; is = refl; does = (parted, refl) })
+    (record { before = []; hand = amount 1 (pos 3) ∷ []; left = amount 2 (pos 1) ∷ amount 3 (pos 2) ∷ []; after = (amount 1 (pos 5) ∷ []) ∷ []; was = refl; is = refl; stay = refl; does = (parted, refl) })
     (one_more {next = with_hand (amount 3 (pos 2) ∷ [])}
-    (record { before = []; hand = amount 2 (pos 1) ∷ amount 3 (pos 2) ∷ []; left = amount 3 (pos 2) ∷ []; after = (amount 1 (pos 5) ∷ []) ∷ []; was = refl; is = refl; does = spent })
+    (record { before = []; hand = amount 2 (pos 1) ∷ amount 3 (pos 2) ∷ []; left = amount 3 (pos 2) ∷ []; after = (amount 1 (pos 5) ∷ []) ∷ []; was = refl; is = refl; stay = refl; does = spent })
     no_more)
 
 -- the split is no step, and the exchange is one

@@ -17,9 +17,9 @@ use Rattle.sync_rules.specs.declared.slots.Role.TheVariants.{Change, Taken, Read
 use Rattle.sync_rules.specs.Slots.{SlotTree, has_amounts}
 use Rattle.sync_exchange.specs.declared.hands.Held.{Held}
 use Rattle.sync_exchange.specs.declared.hands.XStop.TheVariants.{Differs, RequireFalse, Width}
-use Rattle.sync_exchange.specs.Exchange.{Exchanging, Exchanged, Answer, outcome, named, is_token, unless, token_name, next_name, after_reading, after_taking, after_seeing, after_giving, knowing, binding, recording, storing, revaluing, key_at, amount_at, permission, token_of, started, updated, new_value, use_variable, use_variables, variable_slots, beginning, does, does_all, exchange_in}
+use Rattle.sync_exchange.specs.Exchange.{Exchanging, Exchanged, Answer, outcome, named, is_at_place, unless, token_name, next_name, after_reading, after_taking, after_seeing, after_giving, knowing, binding, recording, storing, revaluing, key_at, amount_at, permission, token_of, started, updated, new_value, use_variable, use_variables, variable_slots, beginning, does, does_all, exchange_in}
 use Rattle.sync_exchange.specs.Projection.{names_new, AreNames}
-use Rattle.sync_exchange.proofs.Tokens.{times, holds}
+use Rattle.sync_exchange.proofs.Tokens.{occurs, holds}
 use Rattle.sync_exchange.proofs.Passing.{ok_is, bind-ok, unless-ok, either, asked-token, asked-object}
 use Rattle.sync_exchange.proofs.Lawful.{gives}
 use Rattle.sync_exchange.proofs.Standing.{few-held, once-without, once-revalued, once-given, later-length}
@@ -31,7 +31,7 @@ use Rattle.sync_exchange.proofs.MovesSplitting.{once-apart}
 -- No name stands twice among those in hand, those entered and those to be given, and of these there are as many as
 -- are wanted.
 pub record AreOnce (x : Exchanging) (wanted : ℕ) : Type 0 where
-  pub once : (name : ℕ) → holds name (x.hand ++ x.entered) + times name x.given ≤ 1
+  pub once : (name : ℕ) → holds name (x.hand ++ x.entered) + occurs name x.given ≤ 1
   pub enough : wanted ≤ length x.given
 
 none-wanted : (x : Exchanging) (n : ℕ) → AreOnce x (0 + n) → AreOnce x n
@@ -158,11 +158,11 @@ module _ (fit : ℤ → Bool) (fs : List Field) where
 
 -- a token of the hand is read
 reads-once : (f : ℕ) (x y : Exchanging) (n : ℕ)
-    → (named x >>= (λ (t : Token). unless (Differs x.slot) (is_token f (pos 0) t) (Ok (knowing f (next_name x.tokens) t.value (after_reading x))))) ≡ Ok y
+    → (named x >>= (λ (t : Token). unless (Differs x.slot) (is_at_place f (pos 0) t) (Ok (knowing f (next_name x.tokens) t.value (after_reading x))))) ≡ Ok y
     → AreOnce x n → AreOnce y n
 reads-once f x y n e h =
     let a = bind-ok (named x) _ y e in
-    let b = unless-ok (Differs x.slot) (is_token f (pos 0) a.0) _ y a.2 in
+    let b = unless-ok (Differs x.slot) (is_at_place f (pos 0) a.0) _ y a.2 in
     to-answer _ y n (ok_is _ y b.1) (knowing-once f (next_name x.tokens) a.0.value (after_reading x) n (reading-once x n h))
 
 variable-once : (f : ℕ) (role : Role) (x y : Exchanging) (n : ℕ) → use_variable f role x ≡ Ok y → AreOnce x (cond (names_new role) 1 0 + n) → AreOnce y n

@@ -42,7 +42,7 @@ apart-does fits m bag (Merge a b into) hand kept left rest d apart = apart-merge
 apart-does fits m bag (Copy name new) hand kept left rest d apart = apart-copy m.fields name new hand left d.0 apart
 
 pub names-stay-apart : NamesStayApart
-names-stay-apart fits m others move old new h apart =
+names-stay-apart fits m move old new h apart =
     let hands = subst AreApart h.was apart in
     let here = all-at IsApart h.before h.hand h.after hands in
     let there = apart-does fits m _ move h.hand old.kept h.left new.kept h.does here in

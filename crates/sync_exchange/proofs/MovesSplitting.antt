@@ -5,22 +5,22 @@ use Rattle.sync_machine.specs.declared.fields.Field.{Field}
 use Rattle.sync_join.specs.declared.tokens.Token.{Token}
 use Rattle.sync_exchange.specs.declared.hands.Held.{Held}
 use Rattle.sync_exchange.specs.Splitting.{replaced, dropped, held, split_of, merged_of, copied_of}
-use Rattle.sync_exchange.proofs.Tokens.{times, names_in, holds, holds-append}
-use Rattle.sync_exchange.proofs.Owning.{distinct-times}
-use Rattle.sync_exchange.proofs.Keeping.{Stands, stands, held-dropped}
+use Rattle.sync_exchange.proofs.Tokens.{occurs, names_in, holds, holds-append}
+use Rattle.sync_exchange.proofs.Owning.{distinct-occurs}
+use Rattle.sync_exchange.proofs.Keeping.{HeldAt, stands, held-dropped}
 use Rattle.sync_exchange.specs.Moves.{IsApart, IsSplit, IsMerger, IsCopy}
-use Rattle.sync_exchange.proofs.MovesApart.{IsOnce, times-distinct, not-held}
+use Rattle.sync_exchange.proofs.MovesApart.{IsOnce, occurs-distinct, not-held}
 
 -- a token under one more name
 pub once-more : (new : Held) (hs : List Held) → IsOnce hs → holds new.name hs ≡ 0 → IsOnce (new ∷ hs)
-unfolding times
+unfolding occurs
 once-more new hs once none z = cases (nat_eq z new.name) refl (once z) where
   cases : (b : Bool) → nat_eq z new.name ≡ b → holds z hs ≤ 1 → (if b then 1 else 0) + holds z hs ≤ 1
   cases true same few = let here : holds z hs ≡ 0 = ap (λ n. holds n hs) (eqb-true z new.name same) ∙ none in omega (arith, here)
   cases false other few = omega (arith, few)
 
 holds-one : (z : ℕ) (new : Held) (hs : List Held) → holds z (new ∷ hs) ≡ (if nat_eq z new.name then 1 else 0) + holds z hs
-unfolding times
+unfolding occurs
 holds-one z new hs = refl
 
 -- where a token stands among others does not matter
@@ -31,7 +31,7 @@ holds-front z xs new ys =
     let c = holds-one z new ys in
     let d = holds-one z new (xs ++ ys) in omega (arith, a, b, c, d)
 
-module _ (name : ℕ) (hs : List Held) (t : Token) (s : Stands name hs t) where
+module _ (name : ℕ) (hs : List Held) (t : Token) (s : HeldAt name hs t) where
   pub holds-replaced : (z : ℕ) (new : Held) → holds z (replaced name new hs) ≡ holds z (new ∷ dropped name hs)
   holds-replaced z new =
       ap (λ ks. holds z ks) (s.changed new) ∙ holds-front z s.before new s.after
@@ -55,7 +55,7 @@ module _ (name : ℕ) (hs : List Held) (t : Token) (s : Stands name hs t) where
       let b = once-more new (dropped name hs) (once-dropped once) (none-dropped new.name none) z in omega (arith, a, b)
 
 holds-none : (z : ℕ) → holds z [] ≡ 0
-unfolding times
+unfolding occurs
 holds-none z = refl
 
 -- a token comes last
@@ -68,19 +68,19 @@ once-last new hs once none z =
     let e = holds-none z in omega (arith, a, b, c, d, e)
 
 other-none : (z : ℕ) (new : Held) (hs : List Held) → new.name ≢ z → holds z hs ≡ 0 → holds z (new ∷ hs) ≡ 0
-unfolding times
+unfolding occurs
 other-none z new hs other none = cases (nat_eq z new.name) refl where
   cases : (b : Bool) → nat_eq z new.name ≡ b → (if b then 1 else 0) + holds z hs ≡ 0
   cases true same = absurd (other (sym (eqb-true z new.name same)))
   cases false apart = omega (arith, none)
 
 pub apart-once : (hs : List Held) → IsApart hs → IsOnce hs
-apart-once hs h z = distinct-times z (names_in hs) h
+apart-once hs h z = distinct-occurs z (names_in hs) h
 
 pub once-apart : (hs : List Held) → IsOnce hs → IsApart hs
-once-apart hs h = times-distinct (names_in hs) h
+once-apart hs h = occurs-distinct (names_in hs) h
 
-split-once : (hs : List Held) (name : ℕ) (t : Token) → Stands name hs t → (one two : Held) → IsOnce hs → holds one.name hs ≡ 0 → holds two.name hs ≡ 0 → one.name ≢ two.name → IsOnce (replaced name one hs ++ two ∷ [])
+split-once : (hs : List Held) (name : ℕ) (t : Token) → HeldAt name hs t → (one two : Held) → IsOnce hs → holds one.name hs ≡ 0 → holds two.name hs ≡ 0 → one.name ≢ two.name → IsOnce (replaced name one hs ++ two ∷ [])
 split-once hs name t s one two once none also apart =
     once-last two (replaced name one hs) (once-replaced name hs t s one once none)
     (holds-replaced name hs t s two.name one ∙ other-none two.name one (dropped name hs) apart (none-dropped name hs t s two.name also))

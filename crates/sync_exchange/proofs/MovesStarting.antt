@@ -17,7 +17,7 @@ starts-go-on fits m proved o declared init args enough tokens given hand names p
     let begins = initialises fits m proved o declared init args enough tokens given hand names permissions kept blank stored whole x is in
     let alone : bag_of (x.hand ∷ []) [] ≡ tokens_in x.hand = append-nil (tokens_in x.hand ++ []) ∙ append-nil (tokens_in x.hand) in
     let apart = apart-exchange fits m.fields o args tokens given whole hand kept names x is in
-    let on = moves-are-steps fits m proved [] moves (record { hands = x.hand ∷ []; kept = x.kept }) new list (apart, tt)
+    let on = moves-are-steps fits m proved moves (record { hands = x.hand ∷ []; loose = []; kept = x.kept }) new list (apart, tt)
     (subst (λ (ts : List Token). AreSoundShards m.fields ts x.kept) (sym alone) begins.sound)
     begins.state (ap (λ (ts : List Token). join_of m.fields ts x.kept) alone ∙ begins.joined) (starts o args begins.start) in (
       record { first = begins.state; start = begins.start; on = on.0 },

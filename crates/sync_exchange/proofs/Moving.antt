@@ -5,9 +5,9 @@ use Rattle.std.proofs.lemmas.Grind.{flat_map-append}
 use Rattle.sync_machine.specs.Machines.{MachineTree}
 use Rattle.sync_machine.specs.States.{State, Steps, IsReached, steps}
 use Rattle.sync_join.specs.declared.tokens.Token.{Token}
-use Rattle.sync_join.specs.Shards.{Kept, AreSoundShards}
+use Rattle.sync_join.specs.Shards.{Kept, AreSoundShards, often}
 use Rattle.sync_join.specs.Join.{join_of}
-use Rattle.sync_join.proofs.Rearranged.{IsRearranged, is_same_token, one_more as more, times, times-append, rearranged-sym, shards-rearranged, join_of-rearranged}
+use Rattle.sync_join.proofs.Rearranged.{IsRearranged, often-append, rearranged-sym, shards-rearranged, join_of-rearranged}
 use Rattle.sync_exchange.specs.declared.hands.Held.{Held}
 use Rattle.sync_exchange.specs.Exchange.{tokens_in}
 use Rattle.sync_exchange.specs.Plain.{is_plain}
@@ -15,7 +15,7 @@ use Rattle.sync_exchange.specs.Splitting.{KeepsShards}
 use Rattle.sync_exchange.specs.Projection.{IsProved}
 use Rattle.sync_exchange.proofs.Keeping.{split-keeps, merge-keeps, copy-keeps}
 use Rattle.sync_exchange.proofs.Projecting.{projects}
-use Rattle.sync_exchange.specs.Moves.{Move, Exchange, Split, Merge, Copy, Holders, bag_of, IsApart, AreApart, IsSplit, IsMerger, IsCopy, Does, IsMove, often, AreMoves, no_more, one_more, dealt}
+use Rattle.sync_exchange.specs.Moves.{Move, Exchange, Split, Merge, Copy, Holders, bag_of, all_tokens, IsApart, AreApart, IsSplit, IsMerger, IsCopy, Does, IsMove, AreMoves, no_more, one_more, dealt}
 use Rattle.sync_exchange.specs.Runs.{Call, call_of, calls_of, Runs, no_step, one_step, RunsOn}
 use Rattle.sync_exchange.specs.MoveLaws.{MovesAreSteps}
 use Rattle.sync_exchange.proofs.MovesNamed.{all-at, names-of, names-stay-apart}
@@ -25,20 +25,20 @@ use Rattle.sync_exchange.proofs.MovesNamed.{all-at, names-of, names-stay-apart}
 abbrev pub all_but : List (List Held) → List (List Held) → List Token → List Token
 all_but before after others = (flat_map tokens_in before ++ flat_map tokens_in after) ++ others
 
-parts-times : (t : Token) (xs ys zs us : List Token) → times t ((xs ++ (ys ++ zs)) ++ us) ≡ times t (ys ++ ((xs ++ zs) ++ us))
-parts-times t xs ys zs us =
-    let a = times-append t (xs ++ (ys ++ zs)) us in
-    let b = times-append t xs (ys ++ zs) in
-    let c = times-append t ys zs in
-    let d = times-append t ys ((xs ++ zs) ++ us) in
-    let e = times-append t (xs ++ zs) us in
-    let f = times-append t xs zs in omega (arith, a, b, c, d, e, f)
+parts-often : (t : Token) (xs ys zs us : List Token) → often t ((xs ++ (ys ++ zs)) ++ us) ≡ often t (ys ++ ((xs ++ zs) ++ us))
+parts-often t xs ys zs us =
+    let a = often-append t (xs ++ (ys ++ zs)) us in
+    let b = often-append t xs (ys ++ zs) in
+    let c = often-append t ys zs in
+    let d = often-append t ys ((xs ++ zs) ++ us) in
+    let e = often-append t (xs ++ zs) us in
+    let f = often-append t xs zs in omega (arith, a, b, c, d, e, f)
 
 pub hand-first : (before : List (List Held)) (hand : List Held) (after : List (List Held)) (others : List Token) → IsRearranged (bag_of (before ++ hand ∷ after) others) (tokens_in hand ++ all_but before after others)
 hand-first before hand after others = record {
-  times = λ t.
-      ap (λ ts. times t (ts ++ others)) (flat_map-append tokens_in before (hand ∷ after))
-      ∙ parts-times t (flat_map tokens_in before) (tokens_in hand) (flat_map tokens_in after) others;
+  often = λ t.
+      ap (λ ts. often t (ts ++ others)) (flat_map-append tokens_in before (hand ∷ after))
+      ∙ parts-often t (flat_map tokens_in before) (tokens_in hand) (flat_map tokens_in after) others;
 }
 
 -- ---- one move
@@ -88,39 +88,35 @@ module _ (m : MachineTree) (s : State) (hand : List Held) (kept : Kept) (others 
   moves-on fits proved reached apart bag all (Merge a b into) left rest d = stays-same left rest (keeps-merger a b into left d.0) d.1
   moves-on fits proved reached apart bag all (Copy name new) left rest d = stays-same left rest (keeps-copy name new left d.0) d.1
 
-pub move-on : (fits : ℤ → Bool) (m : MachineTree) → IsProved m → (others : List Token) (move : Move) (old new : Holders) → IsMove fits m others old move new
-    → AreApart old.hands → AreSoundShards m.fields (bag_of old.hands others) old.kept
-    → (s : State) → join_of m.fields (bag_of old.hands others) old.kept ≡ Some s → IsReached m s
-    → MovesOn m s (call_of move) (bag_of new.hands others) new.kept
-move-on fits m proved others move old new h apart sound s joined reached =
-    let rest = all_but h.before h.after others in
-    let order : IsRearranged (bag_of old.hands others) (tokens_in h.hand ++ rest) = subst (λ hands. IsRearranged (bag_of hands others) (tokens_in h.hand ++ rest)) (sym h.was) (hand-first h.before h.hand h.after others) in
-    let back : IsRearranged (tokens_in h.left ++ rest) (bag_of new.hands others) =
-    subst (λ hands. IsRearranged (tokens_in h.left ++ rest) (bag_of hands others)) (sym h.is)
-    (rearranged-sym (bag_of (h.before ++ h.left ∷ h.after) others) (tokens_in h.left ++ rest) (hand-first h.before h.left h.after others)) in
+pub move-on : (fits : ℤ → Bool) (m : MachineTree) → IsProved m → (move : Move) (old new : Holders) → IsMove fits m old move new
+    → AreApart old.hands → AreSoundShards m.fields (all_tokens old) old.kept
+    → (s : State) → join_of m.fields (all_tokens old) old.kept ≡ Some s → IsReached m s
+    → MovesOn m s (call_of move) (all_tokens new) new.kept
+move-on fits m proved move old new h apart sound s joined reached =
+    let bag : List Token = bag_of old.hands old.loose in
+    let rest = all_but h.before h.after old.loose in
+    let order : IsRearranged bag (tokens_in h.hand ++ rest) =
+    subst (λ hands. IsRearranged (bag_of hands old.loose) (tokens_in h.hand ++ rest)) (sym h.was) (hand-first h.before h.hand h.after old.loose) in
+    let same : bag_of (h.before ++ h.left ∷ h.after) old.loose ≡ bag_of new.hands new.loose =
+    ap (λ hands. bag_of hands old.loose) (sym h.is) ∙ ap (bag_of new.hands) (sym h.stay) in
+    let back : IsRearranged (tokens_in h.left ++ rest) (bag_of new.hands new.loose) =
+    subst (IsRearranged (tokens_in h.left ++ rest)) same
+    (rearranged-sym (bag_of (h.before ++ h.left ∷ h.after) old.loose) (tokens_in h.left ++ rest) (hand-first h.before h.left h.after old.loose)) in
     let own : IsApart h.hand = all-at IsApart h.before h.hand h.after (subst AreApart h.was apart) in
-    let on = moves-on m s h.hand old.kept rest (shards-rearranged m.fields (bag_of old.hands others) (tokens_in h.hand ++ rest) old.kept order sound)
-    (sym (join_of-rearranged m.fields (bag_of old.hands others) (tokens_in h.hand ++ rest) old.kept order) ∙ joined)
-    fits proved reached own (bag_of old.hands others) joined move h.left new.kept h.does in
+    let on = moves-on m s h.hand old.kept rest (shards-rearranged m.fields bag (tokens_in h.hand ++ rest) old.kept order sound)
+    (sym (join_of-rearranged m.fields bag (tokens_in h.hand ++ rest) old.kept order) ∙ joined)
+    fits proved reached own bag joined move h.left new.kept h.does in
     record {
-      sound = shards-rearranged m.fields (tokens_in h.left ++ rest) (bag_of new.hands others) new.kept back on.sound;
+      sound = shards-rearranged m.fields (tokens_in h.left ++ rest) (bag_of new.hands new.loose) new.kept back on.sound;
       state = on.state;
-      joined = sym (join_of-rearranged m.fields (tokens_in h.left ++ rest) (bag_of new.hands others) new.kept back) ∙ on.joined;
+      joined = sym (join_of-rearranged m.fields (tokens_in h.left ++ rest) (bag_of new.hands new.loose) new.kept back) ∙ on.joined;
       advances = on.advances;
     }
 
 -- ---- lists of moves
 
-more-often : (b : Bool) (n k : ℕ) → n ≡ k → more b n ≡ (if b then suc k else k)
-more-often true n k e = ap suc e
-more-often false n k e = e
-
-times-often : (t : Token) (ts : List Token) → times t ts ≡ often t ts
-times-often t [] = refl
-times-often t (u ∷ us) = more-often (is_same_token t u) (times t us) (often t us) (times-often t us)
-
 same-bag : (xs ys : List Token) → ((t : Token) → often t xs ≡ often t ys) → IsRearranged xs ys
-same-bag xs ys same = record { times = λ t. times-often t xs ∙ same t ∙ sym (times-often t ys) }
+same-bag xs ys same = record { often = same }
 
 reached-on : (m : MachineTree) (s t : State) (call : Option Call) → Advances m s call t → IsReached m s → IsReached m t
 reached-on m s t None e reached = subst (IsReached m) e reached
@@ -131,20 +127,20 @@ runs-on m s t u None calls e run = subst (λ (x : State). Runs m x calls u) (sym
 runs-on m s t u (Some c) calls step run = one_step step run
 
 pub moves-are-steps : MovesAreSteps
-moves-are-steps fits m proved others moves old new list apart sound s joined reached = go old moves new list apart sound s joined reached where
-  go : (old : Holders) (moves : List Move) (new : Holders) → AreMoves fits m others old moves new
-      → AreApart old.hands → AreSoundShards m.fields (bag_of old.hands others) old.kept
-      → (s : State) → join_of m.fields (bag_of old.hands others) old.kept ≡ Some s → IsReached m s
-      → RunsOn m s (calls_of moves) (bag_of new.hands others) new.kept × AreApart new.hands
+moves-are-steps fits m proved moves old new list apart sound s joined reached = go old moves new list apart sound s joined reached where
+  go : (old : Holders) (moves : List Move) (new : Holders) → AreMoves fits m old moves new
+      → AreApart old.hands → AreSoundShards m.fields (all_tokens old) old.kept
+      → (s : State) → join_of m.fields (all_tokens old) old.kept ≡ Some s → IsReached m s
+      → RunsOn m s (calls_of moves) (all_tokens new) new.kept × AreApart new.hands
   go old moves new no_more apart sound s joined reached = (record { sound = sound; state = s; joined = joined; run = no_step; reached = reached }, apart)
   go old moves new (dealt {next = next} d list) apart sound s joined reached =
-      let order = same-bag (bag_of old.hands others) (bag_of next.hands others) d.same in
+      let order = same-bag (all_tokens old) (all_tokens next) d.same in
       go next moves new list d.apart
-      (subst (AreSoundShards m.fields (bag_of next.hands others)) (sym d.kept) (shards-rearranged m.fields (bag_of old.hands others) (bag_of next.hands others) old.kept order sound))
-      s (ap (join_of m.fields (bag_of next.hands others)) d.kept ∙ sym (join_of-rearranged m.fields (bag_of old.hands others) (bag_of next.hands others) old.kept order) ∙ joined) reached
+      (subst (AreSoundShards m.fields (all_tokens next)) (sym d.kept) (shards-rearranged m.fields (all_tokens old) (all_tokens next) old.kept order sound))
+      s (ap (join_of m.fields (all_tokens next)) d.kept ∙ sym (join_of-rearranged m.fields (all_tokens old) (all_tokens next) old.kept order) ∙ joined) reached
   go old _ new (one_more {next = next} {move = move} {moves = later} h list) apart sound s joined reached =
-      let on = move-on fits m proved others move old next h apart sound s joined reached in
-      let rest = go next later new list (names-stay-apart fits m others move old next h apart) on.sound on.state on.joined (reached-on m s on.state (call_of move) on.advances reached) in (
+      let on = move-on fits m proved move old next h apart sound s joined reached in
+      let rest = go next later new list (names-stay-apart fits m move old next h apart) on.sound on.state on.joined (reached-on m s on.state (call_of move) on.advances reached) in (
         record {
           sound = rest.0.sound;
           state = rest.0.state;

@@ -20,12 +20,12 @@ use Rattle.sync_rules.specs.declared.slots.Role.TheVariants.{Given}
 use Rattle.sync_rules.specs.Slots.{SlotTree, started_at, given_by, changed_by, read_by, earliest, field_slot}
 use Rattle.sync_exchange.specs.Exchange.{Exchanging, held_as, token_name, next_name, later_names, after_giving, knowing, use_variable, use_variables}
 use Rattle.sync_exchange.specs.Projection.{names_new}
-use Rattle.sync_exchange.proofs.Tokens.{times, holds, under, given-part, held_as-last}
+use Rattle.sync_exchange.proofs.Tokens.{occurs, holds, under, given-part, held_as-last}
 use Rattle.sync_exchange.proofs.Making.{part-other, part-own, sound-in}
 use Rattle.sync_exchange.proofs.Storing.{nat_eq-turned}
 use Rattle.sync_exchange.proofs.OneStrategy.{variable-only, variable-only-value}
 use Rattle.sync_exchange.proofs.Passing.{ok_is, bind-ok}
-use Rattle.sync_exchange.proofs.Standing.{bag_of, AreNamed, AreVariables, once-given, later-length, named-given}
+use Rattle.sync_exchange.proofs.Standing.{bag_at, AreNamed, AreVariables, once-given, later-length, named-given}
 use Rattle.sync_exchange.proofs.Going.{IsSameAt, same-through}
 use Rattle.sync_exchange.proofs.Using.{valued-is, earliest-some, field-slot, token-cases}
 use Rattle.sync_exchange.proofs.Trusting.{first-left, first-right, variable-slotted}
@@ -85,10 +85,10 @@ token-here : (f name : ℕ) (vs : List (ℕ × ℕ)) → is_some (token_name f (
 unfolding token_name
 token-here f name vs = let e : nat_eq f f ≡ true = eq-eqb f f refl in rw e refl
 
-next-times : (gs : List ℕ) → 1 ≤ length gs → 1 ≤ times (next_name gs) gs
-unfolding times
-next-times [] h = absurd (omega arith)
-next-times (g ∷ gs) h = let own : nat_eq g g ≡ true = eq-eqb g g refl in rw own (omega arith)
+next-occurs : (gs : List ℕ) → 1 ≤ length gs → 1 ≤ occurs (next_name gs) gs
+unfolding occurs
+next-occurs [] h = absurd (omega arith)
+next-occurs (g ∷ gs) h = let own : nat_eq g g ≡ true = eq-eqb g g refl in rw own (omega arith)
 
 with-other : (f z : ℕ) (n : ℤ) (w : Valuation) → nat_eq z f ≡ false → IsSameAt z w (with_value f n maps.nil w)
 with-other f z n w e = record { number = rw e refl; mapping = rw e refl }
@@ -116,10 +116,10 @@ clash b p q = let e : true ≡ false = sym p ∙ q in cc
 
 -- the variables below k have their tokens
 pub record IsOpen (fs : List Field) (v : Valuation) (begun : Valuation) (k : ℕ) (x : Exchanging) : Type 0 where
-  pub values : (f : ℕ) → f < length fs → (is_variable (strategy_at fs f) ≡ false) ⊎ (f < k) → value_at fs (bag_of [] x) x.kept f ≡ Some (blank_value v (strategy_at fs f))
-  pub free : (f : ℕ) → f < length fs → (is_variable (strategy_at fs f) ≡ false) ⊎ (k ≤ f) → tokens_of f (bag_of [] x) ≡ []
-  pub sound : AreSoundShards fs (bag_of [] x) x.kept
-  pub once : (name : ℕ) → holds name (x.hand ++ x.entered) + times name x.given ≤ 1
+  pub values : (f : ℕ) → f < length fs → (is_variable (strategy_at fs f) ≡ false) ⊎ (f < k) → value_at fs (bag_at [] x) x.kept f ≡ Some (blank_value v (strategy_at fs f))
+  pub free : (f : ℕ) → f < length fs → (is_variable (strategy_at fs f) ≡ false) ⊎ (k ≤ f) → tokens_of f (bag_at [] x) ≡ []
+  pub sound : AreSoundShards fs (bag_at [] x) x.kept
+  pub once : (name : ℕ) → holds name (x.hand ++ x.entered) + occurs name x.given ≤ 1
   pub named : AreNamed x.variables (x.hand ++ x.entered)
   pub fields : AreVariables fs x.variables
   pub used : (f : ℕ) → f < k → is_variable (strategy_at fs f) ≡ true → is_some (token_name f x.variables) ≡ true
@@ -164,13 +164,13 @@ module _ (fs : List Field) (ss : List StepTree) (v begun : Valuation) (starts : 
       let name = next_name x.given in
       let part = given-part name tk x.hand x.entered [] in
       let none = h.free k lt (inr (omega arith)) in
-      let own = part-own fs x.kept tk (bag_of [] u) (bag_of [] x) k part (eq-eqb k k refl)
-      ∙ variable-only-value (strategy_at fs k) v (blank (sort_of (strategy_at fs k))) (tk ∷ tokens_of k (bag_of [] x)) (record_at x.kept k) (tokens_of k x.kept.stored) is
+      let own = part-own fs x.kept tk (bag_at [] u) (bag_at [] x) k part (eq-eqb k k refl)
+      ∙ variable-only-value (strategy_at fs k) v (blank (sort_of (strategy_at fs k))) (tk ∷ tokens_of k (bag_at [] x)) (record_at x.kept k) (tokens_of k x.kept.stored) is
       (ap (λ ts. only_value (tk ∷ ts)) none ∙ ap Some (sym (ap (λ s. num v (blank (sort_of s))) is))) in
       record {
-        values = λ f below c. value-cases f below c (nat_eq f k) refl own (λ e. part-other fs x.kept tk (bag_of [] u) (bag_of [] x) f part e);
-        free = λ f below c. part-tokens tk (bag_of [] u) (bag_of [] x) f part (away f c) ∙ h.free f below (above f c);
-        sound = sound-in fs x.kept tk (bag_of [] u) (bag_of [] x) part
+        values = λ f below c. value-cases f below c (nat_eq f k) refl own (λ e. part-other fs x.kept tk (bag_at [] u) (bag_at [] x) f part e);
+        free = λ f below c. part-tokens tk (bag_at [] u) (bag_at [] x) f part (away f c) ∙ h.free f below (above f c);
+        sound = sound-in fs x.kept tk (bag_at [] u) (bag_at [] x) part
             (inr (lt, subst (λ s. IsTokenOf s tk) (sym is) (record { tokens = refl; keys = λ e. refl; elements = λ e. absurd (cc) })))
             (λ count. let clash : Variable ≡ Count = sym is ∙ count in absurd (cc)) h.sound;
         once = once-given x.hand x.entered x.given tk some h.once;
@@ -183,9 +183,9 @@ module _ (fs : List Field) (ss : List StepTree) (v begun : Valuation) (starts : 
         used = λ f below is. used-cases f below is (nat_eq f k) refl;
         beyond = λ z e. same-through z begun x.names u.names (h.beyond z e) (with-other k z (pos 0) x.names (apart-below z k (length fs) e lt));
       } where
-        value-cases : (f : ℕ) → f < length fs → (is_variable (strategy_at fs f) ≡ false) ⊎ (f < k + 1) → (b : Bool) → nat_eq f k ≡ b → value_at fs (bag_of [] (opened k x)) x.kept k ≡ Some (blank_value v (strategy_at fs k))
-            → (nat_eq k f ≡ false → value_at fs (bag_of [] (opened k x)) x.kept f ≡ value_at fs (bag_of [] x) x.kept f) → value_at fs (bag_of [] (opened k x)) x.kept f ≡ Some (blank_value v (strategy_at fs f))
-        value-cases f below c true e own other = subst (λ n. value_at fs (bag_of [] (opened k x)) x.kept n ≡ Some (blank_value v (strategy_at fs n))) (sym (eqb-true f k e)) own
+        value-cases : (f : ℕ) → f < length fs → (is_variable (strategy_at fs f) ≡ false) ⊎ (f < k + 1) → (b : Bool) → nat_eq f k ≡ b → value_at fs (bag_at [] (opened k x)) x.kept k ≡ Some (blank_value v (strategy_at fs k))
+            → (nat_eq k f ≡ false → value_at fs (bag_at [] (opened k x)) x.kept f ≡ value_at fs (bag_at [] x) x.kept f) → value_at fs (bag_at [] (opened k x)) x.kept f ≡ Some (blank_value v (strategy_at fs f))
+        value-cases f below c true e own other = subst (λ n. value_at fs (bag_at [] (opened k x)) x.kept n ≡ Some (blank_value v (strategy_at fs n))) (sym (eqb-true f k e)) own
         value-cases f below (inl c) false e own other = other (nat_eq-turned k f ∙ e) ∙ h.values f below (inl c)
         value-cases f below (inr c) false e own other = other (nat_eq-turned k f ∙ e) ∙ h.values f below (inr (lower f k e c))
 
@@ -200,7 +200,7 @@ module _ (fs : List Field) (ss : List StepTree) (v begun : Valuation) (starts : 
         new-held : (tk : Token) → held_as (next_name x.given) (x.hand ++ (x.entered ++ under (next_name x.given) tk ∷ [])) ≡ Some tk
         new-held tk =
             let a = h.once (next_name x.given) in
-            let b = next-times x.given some in
+            let b = next-occurs x.given some in
             ap (held_as (next_name x.given)) (sym (append_assoc x.hand x.entered (under (next_name x.given) tk ∷ []))) ∙ held_as-last (next_name x.given) (x.hand ++ x.entered) tk (omega (arith, a, b))
 
         used-cases : (f : ℕ) → f < k + 1 → is_variable (strategy_at fs f) ≡ true → (b : Bool) → nat_eq f k ≡ b → is_some (token_name f ((k, next_name x.given) ∷ x.variables)) ≡ true

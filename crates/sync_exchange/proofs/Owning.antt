@@ -13,45 +13,45 @@ use Rattle.sync_rules.specs.declared.slots.Role.TheVariants.{Given}
 use Rattle.sync_rules.specs.Slots.{SlotTree, only_if, value_slot, has_amounts, act_slot, statement_slot, field_slot}
 use Rattle.sync_exchange.specs.declared.hands.Held.{Held}
 use Rattle.sync_exchange.specs.Projection.{names_new, AreNames}
-use Rattle.sync_exchange.proofs.Tokens.{times, names_in, holds}
+use Rattle.sync_exchange.proofs.Tokens.{occurs, names_in, holds}
 use Rattle.sync_exchange.proofs.Lawful.{gives}
 use Rattle.sync_exchange.proofs.Going.{total_gives}
 
-apart-times : (x z : ℕ) (ys : List ℕ) → AllByRecursion (λ (y : ℕ). nat_eq x y ≡ false) ys → z ≡ x → times z ys ≡ 0
-unfolding times
-apart-times x z [] h is = refl
-apart-times x z (y ∷ ys) h is =
+apart-occurs : (x z : ℕ) (ys : List ℕ) → AllByRecursion (λ (y : ℕ). nat_eq x y ≡ false) ys → z ≡ x → occurs z ys ≡ 0
+unfolding occurs
+apart-occurs x z [] h is = refl
+apart-occurs x z (y ∷ ys) h is =
     let other : nat_eq z y ≡ false = ap (λ n. nat_eq n y) is ∙ h.0 in
-    let rest = apart-times x z ys h.1 is in cases (nat_eq z y) other rest where
-      cases : (b : Bool) → b ≡ false → times z ys ≡ 0 → (if b then 1 else 0) + times z ys ≡ 0
+    let rest = apart-occurs x z ys h.1 is in cases (nat_eq z y) other rest where
+      cases : (b : Bool) → b ≡ false → occurs z ys ≡ 0 → (if b then 1 else 0) + occurs z ys ≡ 0
       cases true e r = absurd (cc)
       cases false e r = omega (arith, r)
 
-pub distinct-times : (z : ℕ) (ys : List ℕ) → IsDistinct nat_eq ys → times z ys ≤ 1
-unfolding times IsDistinct
-distinct-times z [] h = omega arith
-distinct-times z (y ∷ ys) h = cases (nat_eq z y) refl (distinct-times z ys h.1) where
-  cases : (b : Bool) → nat_eq z y ≡ b → times z ys ≤ 1 → (if b then 1 else 0) + times z ys ≤ 1
-  cases true e r = let none = apart-times y z ys h.0 (eqb-true z y e) in omega (arith, none)
+pub distinct-occurs : (z : ℕ) (ys : List ℕ) → IsDistinct nat_eq ys → occurs z ys ≤ 1
+unfolding occurs IsDistinct
+distinct-occurs z [] h = omega arith
+distinct-occurs z (y ∷ ys) h = cases (nat_eq z y) refl (distinct-occurs z ys h.1) where
+  cases : (b : Bool) → nat_eq z y ≡ b → occurs z ys ≤ 1 → (if b then 1 else 0) + occurs z ys ≤ 1
+  cases true e r = let none = apart-occurs y z ys h.0 (eqb-true z y e) in omega (arith, none)
   cases false e r = omega (arith, r)
 
-pub times-contains : (z : ℕ) (ys : List ℕ) → 1 ≤ times z ys → Contains ys z
-unfolding times
-times-contains z [] h = absurd (omega arith)
-times-contains z (y ∷ ys) h = cases (nat_eq z y) refl h (times-contains z ys) where
-  cases : (b : Bool) → nat_eq z y ≡ b → 1 ≤ (if b then 1 else 0) + times z ys → (1 ≤ times z ys → Contains ys z) → Contains (y ∷ ys) z
+pub occurs-contains : (z : ℕ) (ys : List ℕ) → 1 ≤ occurs z ys → Contains ys z
+unfolding occurs
+occurs-contains z [] h = absurd (omega arith)
+occurs-contains z (y ∷ ys) h = cases (nat_eq z y) refl h (occurs-contains z ys) where
+  cases : (b : Bool) → nat_eq z y ≡ b → 1 ≤ (if b then 1 else 0) + occurs z ys → (1 ≤ occurs z ys → Contains ys z) → Contains (y ∷ ys) z
   cases true e k later = (zero, omega arith, sym (eqb-true z y e))
   cases false e k later = let (i, lt, is) = later (omega (arith, k)) in (suc i, omega (arith, lt), is)
 
-pub names-once : (fs : List Field) (o : OperationTree) (tokens given : List ℕ) (hand : List Held) → AreNames fs o tokens given hand → (name : ℕ) → holds name (hand ++ []) + times name given ≤ 1
+pub names-once : (fs : List Field) (o : OperationTree) (tokens given : List ℕ) (hand : List Held) → AreNames fs o tokens given hand → (name : ℕ) → holds name (hand ++ []) + occurs name given ≤ 1
 names-once fs o tokens given hand names name =
     let a : holds name (hand ++ []) ≡ holds name hand = ap (λ hs. holds name hs) (append-nothing hand) in
-    let b = distinct-times name (names_in hand) names.held_apart in
-    let c = distinct-times name given names.given_apart in
-    cases a b c (cases_lt 0 (holds name hand)) (cases_lt 0 (times name given)) where
-      cases : holds name (hand ++ []) ≡ holds name hand → holds name hand ≤ 1 → times name given ≤ 1 → (0 < holds name hand) ⊎ (holds name hand ≤ 0) → (0 < times name given) ⊎ (times name given ≤ 0)
-          → holds name (hand ++ []) + times name given ≤ 1
-      cases a b c (inl p) (inl q) = absurd (names.given_new name (times-contains name given (omega (arith, q))) (times-contains name (names_in hand) (omega (arith, p))))
+    let b = distinct-occurs name (names_in hand) names.held_apart in
+    let c = distinct-occurs name given names.given_apart in
+    cases a b c (cases_lt 0 (holds name hand)) (cases_lt 0 (occurs name given)) where
+      cases : holds name (hand ++ []) ≡ holds name hand → holds name hand ≤ 1 → occurs name given ≤ 1 → (0 < holds name hand) ⊎ (holds name hand ≤ 0) → (0 < occurs name given) ⊎ (occurs name given ≤ 0)
+          → holds name (hand ++ []) + occurs name given ≤ 1
+      cases a b c (inl p) (inl q) = absurd (names.given_new name (occurs-contains name given (omega (arith, q))) (occurs-contains name (names_in hand) (omega (arith, p))))
       cases a b c (inl p) (inr q) = omega (arith, a, b, c, p, q)
       cases a b c (inr p) q = omega (arith, a, b, c, p)
 

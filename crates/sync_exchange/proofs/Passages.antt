@@ -18,13 +18,10 @@ use Rattle.sync_exchange.specs.declared.hands.XStop.{XStop}
 use Rattle.sync_exchange.specs.declared.works.Work.{Work}
 use Rattle.sync_exchange.specs.Exchange.{Exchanging, Exchanged, names_before, exchange_in}
 use Rattle.sync_exchange.specs.Outcomes.{Stops}
-use Rattle.sync_exchange.specs.Works.{Base, AreStores, under_way, goes_through, meaning_of}
+use Rattle.sync_exchange.specs.Works.{Base, AreStores, under_way, fresh, goes_through, meaning_of}
 use Rattle.sync_exchange.proofs.Asking.{stops-is}
 use Rattle.sync_exchange.proofs.Running.{names-same}
 use Rattle.sync_exchange.proofs.Finishing.{begun, exchange-stop, exchange-done}
-
-abbrev pub start : List Held → List Token → Work
-start hand stored = record { known = []; slot = 0; tokens = 0; given = 0; variables = []; hand = hand; entered = []; changes = []; stored = stored; bound = [] }
 
 stores-onto : (fs fs' : List Field) (sd sd' : List Token) (st st' : List maps.Map) → fs' ≡ fs → sd' ≡ sd → st' ≡ st → AreStores fs' sd' st → AreStores fs sd st'
 stores-onto fs fs' sd sd' st st' F S T h =
@@ -32,7 +29,7 @@ stores-onto fs fs' sd sd' st st' F S T h =
 
 module _ (fits : ℤ → Bool) (m : Machine) (op : Operation) (args : List ℤ) (tokens given : List ℕ) (whole : List Value) (hand : List Held) (rest : Rest)
     (fs : List Field) (F : fs ≡ m.fields) (rs : List Value) (R : rs ≡ rest.records) (sd : List Token) (S : sd ≡ rest.stored) (ps : List Sym) (P : ps ≡ op.params)
-    (st stores : List maps.Map) (T : stores ≡ st) (are : AreStores fs sd st) (tk gv : List ℕ) (K : tk ≡ tokens) (G : gv ≡ given) (ss : List Step) (Z : ss ≡ op.steps) (w : Work) (W : w ≡ start hand rest.stored) where
+    (st stores : List maps.Map) (T : stores ≡ st) (are : AreStores fs sd st) (tk gv : List ℕ) (K : tk ≡ tokens) (G : gv ≡ given) (ss : List Step) (Z : ss ≡ op.steps) (w : Work) (W : w ≡ fresh hand rest.stored) where
   base : Base
   base = record { names = meaning_of fs ps args rs stores whole; tokens = tk; given = gv; records = map value_tree rs }
 

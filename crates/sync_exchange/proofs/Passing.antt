@@ -7,7 +7,7 @@ use Rattle.sync_join.specs.declared.tokens.Token.{Token}
 use Rattle.sync_join.proofs.Maps.{equal}
 use Rattle.sync_exchange.specs.declared.hands.XStop.{XStop}
 use Rattle.sync_exchange.specs.declared.hands.XStop.TheVariants.{Differs, Width}
-use Rattle.sync_exchange.specs.Exchange.{Exchanging, Answer, held_as, next_name, unless, named, is_token, key_at, place_fits, is_asked, asked_token, asked_object, stored_at}
+use Rattle.sync_exchange.specs.Exchange.{Exchanging, Answer, held_as, next_name, unless, named, is_at_place, key_at, place_fits, is_asked, asked_token, asked_object, stored_at}
 use Rattle.sync_exchange.proofs.Terms.{and_left, and_right}
 
 pub ok_is : {A : Type 0} (x y : A) → ◌≡◌ {A = Result A XStop} (Ok x) (Ok y) → x ≡ y
@@ -44,14 +44,14 @@ asked-token fits f p x next y e =
     let a = bind-ok (named x) _ y e in
     let t = a.0 in
     let b = unless-ok Width (place_fits fits p x) _ y a.2 in
-    let c = unless-ok (Differs x.slot) (is_token f (key_at p x) t && is_asked p t.value x) _ y b.1 in
-    let d = and_left (is_token f (key_at p x) t) _ c.0 in
+    let c = unless-ok (Differs x.slot) (is_at_place f (key_at p x) t && is_asked p t.value x) _ y b.1 in
+    let d = and_left (is_at_place f (key_at p x) t) _ c.0 in
     record {
       token = t;
       held = named-ok x t a.1;
       field = eqb-true f t.field (and_left _ _ d);
       key = sym (equal (key_at p x) t.key (and_right _ _ d));
-      value = and_right (is_token f (key_at p x) t) _ c.0;
+      value = and_right (is_at_place f (key_at p x) t) _ c.0;
       answer = ok_is (next t) y c.1;
     }
 

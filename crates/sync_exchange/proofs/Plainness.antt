@@ -21,7 +21,7 @@ use Rattle.sync_rules.specs.declared.slots.Role.{Role}
 use Rattle.sync_rules.specs.declared.slots.Role.TheVariants.{Change, Taken, Read, Given, In, Out, Seen}
 use Rattle.sync_rules.specs.Slots.{SlotTree, field_slot}
 use Rattle.sync_exchange.specs.declared.hands.XStop.TheVariants.{Differs}
-use Rattle.sync_exchange.specs.Exchange.{Exchanging, Answer, unless, is_token, knowing, next_name, after_reading, seen, names_before, beginning, use_variable, use_variables, does, does_all}
+use Rattle.sync_exchange.specs.Exchange.{Exchanging, Answer, unless, is_at_place, knowing, next_name, after_reading, seen, names_before, beginning, use_variable, use_variables, does, does_all}
 use Rattle.sync_exchange.specs.Projection.{ReadsNoState}
 use Rattle.sync_exchange.specs.Plain.{is_kept, is_at_hand, is_plain}
 use Rattle.sync_exchange.proofs.Terms.{Same, and_left, and_right, and_both}
@@ -98,10 +98,10 @@ read-alike : (f : ℕ) (n : ℤ) (x : Exchanging) (w : Valuation) → ((z : ℕ)
 read-alike f n x w = ((λ z h. with-both f z n x.names w h), with-own f f n x.names w refl)
 
 token-read : (f : ℕ) (t : Token) (x : Exchanging) (w : Valuation)
-    → Alike (Used f x w) (unless (Differs x.slot) (is_token f (pos 0) t) (Ok (knowing f (next_name x.tokens) t.value (after_reading x))))
-    (unless (Differs x.slot) (is_token f (pos 0) t) (Ok (knowing f (next_name x.tokens) t.value (after_reading (renamed w x)))))
+    → Alike (Used f x w) (unless (Differs x.slot) (is_at_place f (pos 0) t) (Ok (knowing f (next_name x.tokens) t.value (after_reading x))))
+    (unless (Differs x.slot) (is_at_place f (pos 0) t) (Ok (knowing f (next_name x.tokens) t.value (after_reading (renamed w x)))))
 token-read f t x w =
-    alike-unless (Used f x w) (Differs x.slot) (is_token f (pos 0) t) (is_token f (pos 0) t) (Ok (knowing f (next_name x.tokens) t.value (after_reading x)))
+    alike-unless (Used f x w) (Differs x.slot) (is_at_place f (pos 0) t) (is_at_place f (pos 0) t) (Ok (knowing f (next_name x.tokens) t.value (after_reading x)))
     (Ok (knowing f (next_name x.tokens) t.value (after_reading (renamed w x)))) refl (with_value f t.value maps.nil w, refl, read-alike f t.value x w)
 
 pub variable-alike : (f : ℕ) (role : Role) (x : Exchanging) (w : Valuation) → Alike (Used f x w) (use_variable f role x) (use_variable f role (renamed w x))

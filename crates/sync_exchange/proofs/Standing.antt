@@ -14,13 +14,13 @@ use Rattle.sync_join.specs.declared.tokens.Token.{Token}
 use Rattle.sync_exchange.specs.declared.hands.Held.{Held}
 use Rattle.sync_exchange.specs.Exchange.{Exchanging, held_as, without, revalued, tokens_in, token_name, next_name, later_names, binding}
 use Rattle.sync_exchange.proofs.Terms.{Same}
-use Rattle.sync_exchange.proofs.Tokens.{times, names_in, names_in-revalued, holds, holds-append, holds-without, under, held_as-more, held_as-without, held_as-revalued}
+use Rattle.sync_exchange.proofs.Tokens.{occurs, names_in, names_in-revalued, holds, holds-append, holds-without, under, held_as-more, held_as-without, held_as-revalued}
 use Rattle.sync_exchange.proofs.Strategies.{some_is}
 use Rattle.sync_exchange.proofs.Making.{Makes}
 use Rattle.sync_exchange.proofs.Lawful.{IsLawful, gives}
 
-abbrev pub bag_of : List Token → Exchanging → List Token
-bag_of others x = tokens_in (x.hand ++ x.entered) ++ others
+abbrev pub bag_at : List Token → Exchanging → List Token
+bag_at others x = tokens_in (x.hand ++ x.entered) ++ others
 
 -- the names of variables are of tokens of theirs
 abbrev pub AreNamed : List (ℕ × ℕ) → List Held → Type 0
@@ -30,9 +30,9 @@ AreNamed vars hs = (g name : ℕ) → token_name g vars ≡ Some name → (t : T
 abbrev pub AreVariables : List Field → List (ℕ × ℕ) → Type 0
 AreVariables fs vars = (g name : ℕ) → token_name g vars ≡ Some name → (g < length fs) × (is_variable (strategy_at fs g) ≡ true)
 
-pub record Stands (fs : List Field) (v : Valuation) (others : List Token) (x : Exchanging) (cur : List Tree) : Type 0 where
-  pub makes : Makes fs v (bag_of others x) x.kept cur
-  pub once : (name : ℕ) → holds name (x.hand ++ x.entered) + times name x.given ≤ 1
+pub record IsUnderWay (fs : List Field) (v : Valuation) (others : List Token) (x : Exchanging) (cur : List Tree) : Type 0 where
+  pub makes : Makes fs v (bag_at others x) x.kept cur
+  pub once : (name : ℕ) → holds name (x.hand ++ x.entered) + occurs name x.given ≤ 1
   pub named : AreNamed x.variables (x.hand ++ x.entered)
   pub fields : AreVariables fs x.variables
 
@@ -46,41 +46,41 @@ pub record IsReady (fs : List Field) (v : Valuation) (q : ℕ → Bool) (x y : E
   pub used : (f : ℕ) → changed_by a ≡ Some f → is_variable (strategy_at fs f) ≡ true → (name : ℕ) × (token_name f x.variables ≡ Some name)
 
 -- what is known behind it
-pub record Moves (fs : List Field) (v : Valuation) (others : List Token) (x y : Exchanging) (cur : List Tree) (a : ActTree) : Type 0 where
+pub record GoesAlong (fs : List Field) (v : Valuation) (others : List Token) (x y : Exchanging) (cur : List Tree) (a : ActTree) : Type 0 where
   pub met : IsMet v (condition (strategy_of fs a) (current_of cur a) a)
-  pub stands : Stands fs v others y (advanced fs cur a)
+  pub stands : IsUnderWay fs v others y (advanced fs cur a)
   pub given : length y.given + gives fs a ≡ length x.given
   pub variables : y.variables ≡ x.variables
 
 -- ---- names
 
-pub few-held : (name : ℕ) (hs : List Held) (gs : List ℕ) → holds name hs + times name gs ≤ 1 → holds name hs ≤ 1
+pub few-held : (name : ℕ) (hs : List Held) (gs : List ℕ) → holds name hs + occurs name gs ≤ 1 → holds name hs ≤ 1
 few-held name hs gs h = omega arith
 
-pub once-without : (gone : ℕ) (hand entered : List Held) (gs : List ℕ) → ((name : ℕ) → holds name (hand ++ entered) + times name gs ≤ 1)
-    → (name : ℕ) → holds name (without gone hand ++ entered) + times name gs ≤ 1
+pub once-without : (gone : ℕ) (hand entered : List Held) (gs : List ℕ) → ((name : ℕ) → holds name (hand ++ entered) + occurs name gs ≤ 1)
+    → (name : ℕ) → holds name (without gone hand ++ entered) + occurs name gs ≤ 1
 once-without gone hand entered gs h name =
     let a = holds-append name hand entered in
     let b = holds-append name (without gone hand) entered in
     let c = holds-without name gone hand in
     let d = h name in omega (arith, a, b, c, d)
 
-pub once-revalued : (other : ℕ) (n : ℤ) (hand entered : List Held) (gs : List ℕ) → ((name : ℕ) → holds name (hand ++ entered) + times name gs ≤ 1)
-    → (name : ℕ) → holds name (revalued other n hand ++ revalued other n entered) + times name gs ≤ 1
+pub once-revalued : (other : ℕ) (n : ℤ) (hand entered : List Held) (gs : List ℕ) → ((name : ℕ) → holds name (hand ++ entered) + occurs name gs ≤ 1)
+    → (name : ℕ) → holds name (revalued other n hand ++ revalued other n entered) + occurs name gs ≤ 1
 once-revalued other n hand entered gs h name =
     let a = holds-append name hand entered in
     let b = holds-append name (revalued other n hand) (revalued other n entered) in
-    let c : holds name (revalued other n hand) ≡ holds name hand = ap (times name) (names_in-revalued other n hand) in
-    let e : holds name (revalued other n entered) ≡ holds name entered = ap (times name) (names_in-revalued other n entered) in
+    let c : holds name (revalued other n hand) ≡ holds name hand = ap (occurs name) (names_in-revalued other n hand) in
+    let e : holds name (revalued other n entered) ≡ holds name entered = ap (occurs name) (names_in-revalued other n entered) in
     let d = h name in omega (arith, a, b, c, d, e)
 
-one-more : (name : ℕ) (gs : List ℕ) (t : Token) → 1 ≤ length gs → times name (names_in (under (next_name gs) t ∷ [])) + times name (later_names gs) ≡ times name gs
-unfolding times
+one-more : (name : ℕ) (gs : List ℕ) (t : Token) → 1 ≤ length gs → occurs name (names_in (under (next_name gs) t ∷ [])) + occurs name (later_names gs) ≡ occurs name gs
+unfolding occurs
 one-more name [] t h = absurd (omega arith)
 one-more name (g ∷ gs) t h = omega arith
 
-pub once-given : (hand entered : List Held) (gs : List ℕ) (t : Token) → 1 ≤ length gs → ((name : ℕ) → holds name (hand ++ entered) + times name gs ≤ 1)
-    → (name : ℕ) → holds name (hand ++ (entered ++ under (next_name gs) t ∷ [])) + times name (later_names gs) ≤ 1
+pub once-given : (hand entered : List Held) (gs : List ℕ) (t : Token) → 1 ≤ length gs → ((name : ℕ) → holds name (hand ++ entered) + occurs name gs ≤ 1)
+    → (name : ℕ) → holds name (hand ++ (entered ++ under (next_name gs) t ∷ [])) + occurs name (later_names gs) ≤ 1
 once-given hand entered gs t some h name =
     let new = under (next_name gs) t ∷ [] in
     let a : holds name (hand ++ (entered ++ new)) ≡ holds name ((hand ++ entered) ++ new) = ap (λ hs. holds name hs) (sym (append_assoc hand entered new)) in
@@ -121,7 +121,7 @@ named-revalued vars other n hand entered named g name e =
 
 -- ---- bound names
 
-pub binding-stands : (fs : List Field) (v : Valuation) (others : List Token) (o : Option ℕ) (n : ℤ) (x : Exchanging) (cur : List Tree) → Stands fs v others x cur → Stands fs v others (binding o n x) cur
+pub binding-stands : (fs : List Field) (v : Valuation) (others : List Token) (o : Option ℕ) (n : ℤ) (x : Exchanging) (cur : List Tree) → IsUnderWay fs v others x cur → IsUnderWay fs v others (binding o n x) cur
 binding-stands fs v others None n x cur h = h
 binding-stands fs v others (Some z) n x cur h = record { makes = h.makes; once = h.once; named = h.named; fields = h.fields }
 

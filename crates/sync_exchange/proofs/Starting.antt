@@ -28,7 +28,7 @@ use Rattle.sync_exchange.proofs.Coming.{le-refl}
 use Rattle.sync_exchange.proofs.Making.{Makes, part-other, part-own, sound-in, sound-recorded, records-set, change-one, same-field, kept-value}
 use Rattle.sync_exchange.proofs.Passing.{unless-ok, ok_is}
 use Rattle.sync_exchange.proofs.Lawful.{reads_only, gives}
-use Rattle.sync_exchange.proofs.Standing.{bag_of, Stands, IsReady, Moves, once-given, later-length, named-given}
+use Rattle.sync_exchange.proofs.Standing.{bag_at, IsUnderWay, IsReady, GoesAlong, once-given, later-length, named-given}
 use Rattle.sync_exchange.proofs.OneStrategy.{variable-number, value-sort}
 use Rattle.sync_exchange.proofs.Doing.{to-answer, other-field, revalue-stands, revaluing-is, record-stands, record-there}
 
@@ -53,9 +53,9 @@ start-nil s t is e = is-nil t (subst (λ z. is_start z t ≡ true) is e)
 no_more : (a b n : ℤ) → b ≡ pos 0 → a ≡ n → a +ℤ b ≡ n
 no_more a b n z e = omega (arith, ints, z, e)
 
-module _ (fs : List Field) (v : Valuation) (others : List Token) (q : ℕ → Bool) (x y : Exchanging) (cur : List Tree) (stands : Stands fs v others x cur)
+module _ (fs : List Field) (v : Valuation) (others : List Token) (q : ℕ → Bool) (x y : Exchanging) (cur : List Tree) (stands : IsUnderWay fs v others x cur)
     (f : ℕ) (t : Tree) (r : IsReady fs v q x y cur (acts.Init f t)) (lt : f < length fs)
-    (untouched : get_or cur f Nil ≡ blank (sort_of (strategy_at fs f))) (free : is_variable (strategy_at fs f) ≡ false → tokens_of f (bag_of others x) ≡ []) where
+    (untouched : get_or cur f Nil ≡ blank (sort_of (strategy_at fs f))) (free : is_variable (strategy_at fs f) ≡ false → tokens_of f (bag_at others x) ≡ []) where
   abbrev w : Value
   w = new_value fs f t x
 
@@ -77,7 +77,7 @@ module _ (fs : List Field) (v : Valuation) (others : List Token) (q : ℕ → Bo
       let here : sort_of (strategy_at fs f) ≡ Maps = ap sort_of is ∙ sort in
       (start-nil (sort_of (strategy_at fs f)) t here starts, untouched ∙ ap blank here)
 
-  keeps : (s : Strategy) → strategy_at fs f ≡ s → sort_of s ≡ Maps → gives fs (acts.Init f t) ≡ 0 → x ≡ y → Moves fs v others x y cur (acts.Init f t)
+  keeps : (s : Strategy) → strategy_at fs f ≡ s → sort_of s ≡ Maps → gives fs (acts.Init f t) ≡ 0 → x ≡ y → GoesAlong fs v others x y cur (acts.Init f t)
   unfolding field_of after
   keeps s is sort none e =
       let nil = empty s is sort in
@@ -85,7 +85,7 @@ module _ (fs : List Field) (v : Valuation) (others : List Token) (q : ℕ → Bo
       to-answer fs v others q x y cur stands (acts.Init f t) x e (record {
         met = met;
         stands = record {
-          makes = subst (λ (u : Tree). Makes fs v (bag_of others x) x.kept (set cur f u)) there (same-field fs v (bag_of others x) x.kept cur f stands.makes);
+          makes = subst (λ (u : Tree). Makes fs v (bag_at others x) x.kept (set cur f u)) there (same-field fs v (bag_at others x) x.kept cur f stands.makes);
           once = stands.once;
           named = stands.named;
           fields = stands.fields;
@@ -94,27 +94,27 @@ module _ (fs : List Field) (v : Valuation) (others : List Token) (q : ℕ → Bo
         variables = refl;
       })
 
-  records : (s : Strategy) → strategy_at fs f ≡ s → gives fs (acts.Init f t) ≡ 0 → joined (strategy_at fs f) (tokens_of f (bag_of others x)) w (tokens_of f x.kept.stored) ≡ Some w → recording f w x ≡ y → Moves fs v others x y cur (acts.Init f t)
+  records : (s : Strategy) → strategy_at fs f ≡ s → gives fs (acts.Init f t) ≡ 0 → joined (strategy_at fs f) (tokens_of f (bag_at others x)) w (tokens_of f x.kept.stored) ≡ Some w → recording f w x ≡ y → GoesAlong fs v others x y cur (acts.Init f t)
   unfolding field_of after
   records s is none own e =
       let there = record-there fs v others q x y cur stands f w lt in
       to-answer fs v others q x y cur stands (acts.Init f t) (recording f w x) e (record {
         met = met;
         stands = record-stands fs v others q x y cur stands f w t lt (subst (IsOf (sort_of (strategy_at fs f))) (sym same) (value-sort (sort_of (strategy_at fs f)) v t))
-            (ap (λ z. joined (strategy_at fs f) (tokens_of f (bag_of others x)) z (tokens_of f x.kept.stored)) there ∙ own ∙ ap Some same);
+            (ap (λ z. joined (strategy_at fs f) (tokens_of f (bag_at others x)) z (tokens_of f x.kept.stored)) there ∙ own ∙ ap Some same);
         given = omega (arith, none);
         variables = refl;
       })
 
   -- an empty record stays what it is
-  blank-record : (s : Strategy) → strategy_at fs f ≡ s → sort_of s ≡ Maps → ((b : Value) → joined s (tokens_of f (bag_of others x)) (record_at x.kept f) (tokens_of f x.kept.stored) ≡ Some b → record_at x.kept f ≡ b)
-      → joined (strategy_at fs f) (tokens_of f (bag_of others x)) w (tokens_of f x.kept.stored) ≡ Some w
+  blank-record : (s : Strategy) → strategy_at fs f ≡ s → sort_of s ≡ Maps → ((b : Value) → joined s (tokens_of f (bag_at others x)) (record_at x.kept f) (tokens_of f x.kept.stored) ≡ Some b → record_at x.kept f ≡ b)
+      → joined (strategy_at fs f) (tokens_of f (bag_at others x)) w (tokens_of f x.kept.stored) ≡ Some w
   blank-record s is sort own =
       let nil = empty s is sort in
       let before = stands.makes.values f lt in
       let now : value_in v (sort_of (strategy_at fs f)) (get_or cur f Nil) ≡ w = ap (value_in v (sort_of (strategy_at fs f))) (nil.1 ∙ sym nil.0) ∙ sym same in
-      let at : record_at x.kept f ≡ w = own w (ap (λ z. joined z (tokens_of f (bag_of others x)) (record_at x.kept f) (tokens_of f x.kept.stored)) (sym is) ∙ before ∙ ap Some now) in
-      ap (λ z. joined (strategy_at fs f) (tokens_of f (bag_of others x)) z (tokens_of f x.kept.stored)) (sym at) ∙ before ∙ ap Some now
+      let at : record_at x.kept f ≡ w = own w (ap (λ z. joined z (tokens_of f (bag_at others x)) (record_at x.kept f) (tokens_of f x.kept.stored)) (sym is) ∙ before ∙ ap Some now) in
+      ap (λ z. joined (strategy_at fs f) (tokens_of f (bag_at others x)) z (tokens_of f x.kept.stored)) (sym at) ∙ before ∙ ap Some now
 
   gives-none : (s : Strategy) → strategy_at fs f ≡ s → has_amounts s ≡ false → gives fs (acts.Init f t) ≡ 0
   unfolding gives
@@ -124,7 +124,7 @@ module _ (fs : List Field) (v : Valuation) (others : List Token) (q : ℕ → Bo
   unfolding gives
   gives-one s is e = ap (λ b. if b then 1 else 0) (ap has_amounts is ∙ e)
 
-  counts : strategy_at fs f ≡ Count → after_giving (token_of f (pos 0) (number_of w)) x ≡ y → Moves fs v others x y cur (acts.Init f t)
+  counts : strategy_at fs f ≡ Count → after_giving (token_of f (pos 0) (number_of w)) x ≡ y → GoesAlong fs v others x y cur (acts.Init f t)
   unfolding field_of after sort_of safety truth amount_is_natural
   counts is e =
       let n = number_of w in
@@ -134,17 +134,17 @@ module _ (fs : List Field) (v : Valuation) (others : List Token) (q : ℕ → Bo
       let some : 1 ≤ length x.given = let g = r.enough in omega (arith, one, g) in
       let part = given-part (next_name x.given) tk x.hand x.entered others in
       let number : n ≡ num v t = ap number_of (same ∙ ap (λ s. value_in v (sort_of s) t) is) in
-      let before : sum_of (tokens_of f (bag_of others x)) ≡ num v (get_or cur f Nil) = number_is _ _ (ap (λ s. joined s (tokens_of f (bag_of others x)) (record_at x.kept f) (tokens_of f x.kept.stored)) (sym is) ∙ stands.makes.values f lt ∙ ap (λ s. Some (value_in v (sort_of s) (get_or cur f Nil))) is) in
+      let before : sum_of (tokens_of f (bag_at others x)) ≡ num v (get_or cur f Nil) = number_is _ _ (ap (λ s. joined s (tokens_of f (bag_at others x)) (record_at x.kept f) (tokens_of f x.kept.stored)) (sym is) ∙ stands.makes.values f lt ∙ ap (λ s. Some (value_in v (sort_of s) (get_or cur f Nil))) is) in
       let nothing : num v (get_or cur f Nil) ≡ pos 0 = ap (num v) (untouched ∙ ap (λ s. blank (sort_of s)) is) in
       let natural : pos 0 ≤ℤ n = subst (λ (k : ℤ). pos 0 ≤ℤ k) (sym number) (int_le-is (pos 0) (num v t) (subst (λ s. IsMet v (amount_is_natural s t)) is r.safe)) in
-      let sound = sound-in fs x.kept tk (bag_of others z) (bag_of others x) part
+      let sound = sound-in fs x.kept tk (bag_at others z) (bag_at others x) part
       (inr (lt, subst (λ s. IsTokenOf s tk) (sym is) (record { tokens = refl; keys = λ k. refl; elements = λ k. absurd (cc) }))) (λ c. natural) stands.makes.sound in
-      let makes = change-one fs v (bag_of others x) (bag_of others z) x.kept x.kept cur f t stands.makes lt
-      (part-own fs x.kept tk (bag_of others z) (bag_of others x) f part (eq-eqb f f refl)
-      ∙ ap (λ s. joined s (tk ∷ tokens_of f (bag_of others x)) (record_at x.kept f) (tokens_of f x.kept.stored)) is
-      ∙ ap (λ k. Some (Number k)) (no_more n (sum_of (tokens_of f (bag_of others x))) (num v t) (before ∙ nothing) number)
+      let makes = change-one fs v (bag_at others x) (bag_at others z) x.kept x.kept cur f t stands.makes lt
+      (part-own fs x.kept tk (bag_at others z) (bag_at others x) f part (eq-eqb f f refl)
+      ∙ ap (λ s. joined s (tk ∷ tokens_of f (bag_at others x)) (record_at x.kept f) (tokens_of f x.kept.stored)) is
+      ∙ ap (λ k. Some (Number k)) (no_more n (sum_of (tokens_of f (bag_at others x))) (num v t) (before ∙ nothing) number)
       ∙ ap (λ s. Some (value_in v (sort_of s) t)) (sym is))
-      (λ g below apart. part-other fs x.kept tk (bag_of others z) (bag_of others x) g part (other-field fs v others q x y cur stands tk f g refl apart)) sound in
+      (λ g below apart. part-other fs x.kept tk (bag_at others z) (bag_at others x) g part (other-field fs v others q x y cur stands tk f g refl apart)) sound in
       to-answer fs v others q x y cur stands (acts.Init f t) z e (record {
         met = met;
         stands = record {
@@ -158,7 +158,7 @@ module _ (fs : List Field) (v : Valuation) (others : List Token) (q : ℕ → Bo
       })
 
   -- the first amount of a persistent count, of which there is no token yet
-  reached : strategy_at fs f ≡ PersistentCount → recording f w (after_giving (token_of f (pos 0) (number_of w)) x) ≡ y → Moves fs v others x y cur (acts.Init f t)
+  reached : strategy_at fs f ≡ PersistentCount → recording f w (after_giving (token_of f (pos 0) (number_of w)) x) ≡ y → GoesAlong fs v others x y cur (acts.Init f t)
   unfolding field_of after sort_of
   reached is e =
       let n = number_of w in
@@ -170,19 +170,19 @@ module _ (fs : List Field) (v : Valuation) (others : List Token) (q : ℕ → Bo
       let part = given-part (next_name x.given) tk x.hand x.entered others in
       let none = free (ap is_variable is) in
       let there : record_at now f ≡ w = record-there fs v others q x y cur stands f w lt in
-      let sound = sound-in fs now tk (bag_of others z) (bag_of others x) part
+      let sound = sound-in fs now tk (bag_at others z) (bag_at others x) part
       (inr (lt, subst (λ s. IsTokenOf s tk) (sym is) (record { tokens = refl; keys = λ k. refl; elements = λ k. absurd (cc) })))
       (λ c. let clash : PersistentCount ≡ Count = sym is ∙ c in absurd (cc))
-      (sound-recorded fs (bag_of others x) x.kept (set x.kept.records f w)
+      (sound-recorded fs (bag_at others x) x.kept (set x.kept.records f w)
       (records-set fs x.kept.records f w stands.makes.sound.shaped.records (subst (IsOf (sort_of (strategy_at fs f))) (sym same) (value-sort (sort_of (strategy_at fs f)) v t))) stands.makes.sound) in
-      let makes = change-one fs v (bag_of others x) (bag_of others z) x.kept now cur f t stands.makes lt
-      (part-own fs now tk (bag_of others z) (bag_of others x) f part (eq-eqb f f refl)
-      ∙ ap (λ s. joined s (tk ∷ tokens_of f (bag_of others x)) (record_at now f) (tokens_of f x.kept.stored)) is
+      let makes = change-one fs v (bag_at others x) (bag_at others z) x.kept now cur f t stands.makes lt
+      (part-own fs now tk (bag_at others z) (bag_at others x) f part (eq-eqb f f refl)
+      ∙ ap (λ s. joined s (tk ∷ tokens_of f (bag_at others x)) (record_at now f) (tokens_of f x.kept.stored)) is
       ∙ ap (λ ts. joined PersistentCount (tk ∷ ts) (record_at now f) (tokens_of f x.kept.stored)) none
       ∙ ap (λ u. joined PersistentCount (tk ∷ []) u (tokens_of f x.kept.stored)) there
       ∙ ap (λ b. borne_out (b && true) w) (le-refl n) ∙ ap Some same)
-      (λ g below apart. part-other fs now tk (bag_of others z) (bag_of others x) g part (other-field fs v others q x y cur stands tk f g refl apart)
-      ∙ kept-value fs (bag_of others x) x.kept now g (get_or-set_other x.kept.records f g w (Number (pos 0)) (λ k. let h = eq-eqb g f k in absurd (cc))) refl) sound in
+      (λ g below apart. part-other fs now tk (bag_at others z) (bag_at others x) g part (other-field fs v others q x y cur stands tk f g refl apart)
+      ∙ kept-value fs (bag_at others x) x.kept now g (get_or-set_other x.kept.records f g w (Number (pos 0)) (λ k. let h = eq-eqb g f k in absurd (cc))) refl) sound in
       to-answer fs v others q x y cur stands (acts.Init f t) z e (record {
         met = met;
         stands = record {
@@ -195,7 +195,7 @@ module _ (fs : List Field) (v : Valuation) (others : List Token) (q : ℕ → Bo
         variables = refl;
       })
 
-  valued : strategy_at fs f ≡ Variable → started Variable f w x ≡ y → Moves fs v others x y cur (acts.Init f t)
+  valued : strategy_at fs f ≡ Variable → started Variable f w x ≡ y → GoesAlong fs v others x y cur (acts.Init f t)
   unfolding field_of after changed_by
   valued is e =
       let used = r.used f refl (ap is_variable is) in
@@ -208,11 +208,11 @@ module _ (fs : List Field) (v : Valuation) (others : List Token) (q : ℕ → Bo
         variables = refl;
       })
 
-  by-strategy : (s : Strategy) → strategy_at fs f ≡ s → started s f w x ≡ y → Moves fs v others x y cur (acts.Init f t)
+  by-strategy : (s : Strategy) → strategy_at fs f ≡ s → started s f w x ≡ y → GoesAlong fs v others x y cur (acts.Init f t)
   unfolding sort_of
   by-strategy Variable is e = valued is e
-  by-strategy Constant is e = records Constant is (gives-none Constant is refl) (ap (λ s. joined s (tokens_of f (bag_of others x)) w (tokens_of f x.kept.stored)) is) e
-  by-strategy NotTokenized is e = records NotTokenized is (gives-none NotTokenized is refl) (ap (λ s. joined s (tokens_of f (bag_of others x)) w (tokens_of f x.kept.stored)) is) e
+  by-strategy Constant is e = records Constant is (gives-none Constant is refl) (ap (λ s. joined s (tokens_of f (bag_at others x)) w (tokens_of f x.kept.stored)) is) e
+  by-strategy NotTokenized is e = records NotTokenized is (gives-none NotTokenized is refl) (ap (λ s. joined s (tokens_of f (bag_at others x)) w (tokens_of f x.kept.stored)) is) e
   by-strategy OptionField is e = keeps OptionField is refl (gives-none OptionField is refl) e
   by-strategy Map is e = keeps Map is refl (gives-none Map is refl) e
   by-strategy Set is e = keeps Set is refl (gives-none Set is refl) e
@@ -227,7 +227,7 @@ module _ (fs : List Field) (v : Valuation) (others : List Token) (q : ℕ → Bo
   by-strategy PersistentSet is e =
       records PersistentSet is (gives-none PersistentSet is refl) (blank-record PersistentSet is refl (λ b h. (borne_is _ (record_at x.kept f) b h).1)) e
 
-  pub doing-init : (fit : Bool) → unless Width fit (Ok (started (strategy_at fs f) f (new_value fs f t x) x)) ≡ Ok y → Moves fs v others x y cur (acts.Init f t)
+  pub doing-init : (fit : Bool) → unless Width fit (Ok (started (strategy_at fs f) f (new_value fs f t x) x)) ≡ Ok y → GoesAlong fs v others x y cur (acts.Init f t)
   doing-init fit e =
       let a = unless-ok Width fit _ y e in
       by-strategy (strategy_at fs f) refl (ok_is (started (strategy_at fs f) f w x) y a.1)

@@ -12,7 +12,8 @@ use Rattle.sync_terms.specs.Maps as maps
 use Rattle.sync_join.specs.declared.tokens.Token.{Token}
 use Rattle.sync_join.proofs.Through.{append-nothing}
 use Rattle.sync_join.specs.Join.{tokens_of, has_key, are_apart, map_of, as_map}
-use Rattle.sync_join.proofs.Maps.{get-put, same, equal}
+use Rattle.sync_entries.proofs.Maps.{get-put, same}
+use Rattle.sync_join.proofs.Maps.{equal}
 use Rattle.sync_join.proofs.Bags.{as_map-front}
 use Rattle.sync_join.proofs.Leaving.{as_map-in}
 use Rattle.sync_exchange.specs.Exchange.{stored_at, withdrawn, token_of}

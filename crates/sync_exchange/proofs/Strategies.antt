@@ -17,7 +17,8 @@ use Rattle.sync_rules.specs.declared.kinds.OpKind.TheVariants as kinds
 use Rattle.sync_rules.specs.Strategies.{has_statement}
 use Rattle.sync_join.specs.declared.tokens.Token.{Token}
 use Rattle.sync_join.specs.Join.{as_map, counts_of, sum_of, entries_of, number_of, is_value, is_entry, is_element, is_reached, borne_out, joined}
-use Rattle.sync_join.proofs.Maps.{get-put, same, equal, bump-put}
+use Rattle.sync_entries.proofs.Maps.{get-put, same}
+use Rattle.sync_join.proofs.Maps.{equal, bump-put}
 use Rattle.sync_join.proofs.Bags.{counts_natural}
 use Rattle.sync_join.proofs.Leaving.{as_map-out, del-put, get-put_same, sum_of-out, amount_within, are_counted}
 use Rattle.sync_exchange.proofs.Terms.{and_left, and_both}

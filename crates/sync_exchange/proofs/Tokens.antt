@@ -8,17 +8,17 @@ use Rattle.sync_exchange.specs.declared.hands.Held.{Held}
 use Rattle.sync_exchange.specs.Exchange.{held_as, without, revalued, tokens_in}
 
 -- how often a name stands in a list
-unfoldable pub times : ℕ → List ℕ → ℕ
-times x [] = 0
-times x (y ∷ ys) = (if nat_eq x y then 1 else 0) + times x ys
+unfoldable pub occurs : ℕ → List ℕ → ℕ
+occurs x [] = 0
+occurs x (y ∷ ys) = (if nat_eq x y then 1 else 0) + occurs x ys
 
 abbrev pub names_in : List Held → List ℕ
 names_in hs = map (λ (h : Held). h.name) hs
 
-pub times-append : (x : ℕ) (ys zs : List ℕ) → times x (ys ++ zs) ≡ times x ys + times x zs
-unfolding times
-times-append x [] zs = omega arith
-times-append x (y ∷ ys) zs = let e = times-append x ys zs in omega (arith, e)
+pub occurs-append : (x : ℕ) (ys zs : List ℕ) → occurs x (ys ++ zs) ≡ occurs x ys + occurs x zs
+unfolding occurs
+occurs-append x [] zs = omega arith
+occurs-append x (y ∷ ys) zs = let e = occurs-append x ys zs in omega (arith, e)
 
 pub names_in-append : (xs ys : List Held) → names_in (xs ++ ys) ≡ names_in xs ++ names_in ys
 names_in-append xs ys = map-append (λ (h : Held). h.name) xs ys
@@ -28,10 +28,10 @@ tokens_in-append xs ys = map-append (λ (h : Held). h.token) xs ys
 
 -- how often a name is held
 abbrev pub holds : ℕ → List Held → ℕ
-holds x hs = times x (names_in hs)
+holds x hs = occurs x (names_in hs)
 
 pub holds-append : (x : ℕ) (xs ys : List Held) → holds x (xs ++ ys) ≡ holds x xs + holds x ys
-holds-append x xs ys = ap (times x) (names_in-append xs ys) ∙ times-append x (names_in xs) (names_in ys)
+holds-append x xs ys = ap (occurs x) (names_in-append xs ys) ∙ occurs-append x (names_in xs) (names_in ys)
 
 abbrev pub under : ℕ → Token → Held
 under name t = record { name = name; token = t }
@@ -50,17 +50,17 @@ same_some x y e = ap (λ o. unwrap_or o x) e
 same_held : (h : Held) (name : ℕ) (t : Token) → name ≡ h.name → h.token ≡ t → h ≡ under name t
 same_held h name t p q = ap (λ n. under n h.token) (sym p) ∙ ap (under name) q
 
-times-other : (x y : ℕ) (ys : List ℕ) → nat_eq x y ≡ false → times x ys ≡ 0 → times x (y ∷ ys) ≡ 0
-unfolding times
-times-other x y ys p q = other (nat_eq x y) p where
-  other : (b : Bool) → b ≡ false → (if b then 1 else 0) + times x ys ≡ 0
+occurs-other : (x y : ℕ) (ys : List ℕ) → nat_eq x y ≡ false → occurs x ys ≡ 0 → occurs x (y ∷ ys) ≡ 0
+unfolding occurs
+occurs-other x y ys p q = other (nat_eq x y) p where
+  other : (b : Bool) → b ≡ false → (if b then 1 else 0) + occurs x ys ≡ 0
   other true e = absurd (cc)
   other false e = omega (arith, q)
 
 found-cons : (name : ℕ) (t : Token) (h : Held) (hs : List Held) (b : Bool) → nat_eq name h.name ≡ b
     → (if b then Some h.token else held_as name hs) ≡ Some t → (if b then 1 else 0) + holds name hs ≤ 1
     → (held_as name hs ≡ Some t → holds name hs ≤ 1 → IsFound name t hs) → IsFound name t (h ∷ hs)
-unfolding times
+unfolding occurs
 found-cons name t h hs true here e few later = record {
   before = [];
   behind = hs;
@@ -74,12 +74,12 @@ found-cons name t h hs false here e few later =
       before = h ∷ found.before;
       behind = found.behind;
       is = ap (λ gs. h ∷ gs) found.is;
-      none_before = times-other name h.name (names_in found.before) here found.none_before;
+      none_before = occurs-other name h.name (names_in found.before) here found.none_before;
       none_behind = found.none_behind;
     }
 
 pub found : (name : ℕ) (t : Token) (hs : List Held) → held_as name hs ≡ Some t → holds name hs ≤ 1 → IsFound name t hs
-unfolding held_as times
+unfolding held_as occurs
 found name t [] e few = absurd (cc)
 found name t (h ∷ hs) e few = found-cons name t h hs (nat_eq name h.name) refl e few (λ d k. found name t hs d k)
 
@@ -90,7 +90,7 @@ filter-kept true h hs e = absurd (cc)
 filter-kept false h hs e = refl
 
 pub no_name : (name : ℕ) (h : Held) (hs : List Held) → holds name (h ∷ hs) ≡ 0 → (nat_eq name h.name ≡ false) × (holds name hs ≡ 0)
-unfolding times
+unfolding occurs
 no_name name h hs e = cases (nat_eq name h.name) e where
   cases : (b : Bool) → (if b then 1 else 0) + holds name hs ≡ 0 → (b ≡ false) × (holds name hs ≡ 0)
   cases true e = absurd (omega arith)
@@ -217,12 +217,12 @@ given-part name t hand entered others = record {
 -- ---- names behind a change
 
 fewer : (b : Bool) (x : ℕ) (h : Held) (hs gs : List Held) → holds x gs ≤ holds x hs → holds x (cond b (h ∷ gs) gs) ≤ holds x (h ∷ hs)
-unfolding times
+unfolding occurs
 fewer true x h hs gs e = omega arith
 fewer false x h hs gs e = omega arith
 
 pub holds-without : (x name : ℕ) (hs : List Held) → holds x (without name hs) ≤ holds x hs
-unfolding times
+unfolding occurs
 holds-without x name [] = omega arith
 holds-without x name (h ∷ hs) = fewer (not (nat_eq name h.name)) x h hs (without name hs) (holds-without x name hs)
 

@@ -26,8 +26,9 @@ use Rattle.sync_exchange.specs.Plain.{is_plain}
 use Rattle.sync_exchange.specs.Projection.{AreNames, LeadsOn, Projects}
 use Rattle.sync_exchange.proofs.Terms.{Same}
 use Rattle.sync_exchange.proofs.Passing.{bind-ok}
-use Rattle.sync_exchange.proofs.Standing.{bag_of, Moves}
+use Rattle.sync_exchange.proofs.Standing.{bag_at, GoesAlong}
 use Rattle.sync_exchange.proofs.Going.{IsSameAt, same-through, is_known_by, AreLawful, AreDone, known-in, names-kept_all, going}
+use Rattle.sync_exchange.proofs.Answering.{Answers, all-answered, used-bind-nothing}
 use Rattle.sync_exchange.proofs.Rules.{IsRegular, regular, are-lawful}
 use Rattle.sync_exchange.proofs.Using.{HasNoInit, AreKnown, using}
 use Rattle.sync_exchange.proofs.Whole.{state-length, first-names, first-name, values-list, AreApart, params-apart, are-given}
@@ -38,12 +39,13 @@ use Rattle.sync_exchange.proofs.Beginning.{valuation, same-outside, at-state, Tr
 pub record IsOutcome (x : Exchanged) (y : Exchanging) : Type 0 where
   pub hand : tokens_in x.hand ≡ tokens_in (y.hand ++ y.entered)
   pub kept : x.kept ≡ y.kept
+  pub bound : x.bound ≡ y.bound
 
 pub outcome-ok : (r : Answer) (x : Exchanged) → outcome r ≡ Ok x → (y : Exchanging) × (r ≡ Ok y) × IsOutcome x y
 outcome-ok (Err stop) x e = absurd (cc)
 outcome-ok (Ok y) x e =
     let is : ◌≡◌ {A = Exchanged} (record { hand = y.hand ++ y.entered; kept = y.kept; bound = y.bound }) x = cc in
-    (y, refl, record { hand = ap (λ (w : Exchanged). tokens_in w.hand) (sym is); kept = ap (λ (w : Exchanged). w.kept) (sym is) })
+    (y, refl, record { hand = ap (λ (w : Exchanged). tokens_in w.hand) (sym is); kept = ap (λ (w : Exchanged). w.kept) (sym is); bound = ap (λ (w : Exchanged). w.bound) (sym is) })
 
 range-below : (n k : ℕ) → AllByRecursion (λ (f : ℕ). f < k + n) (range_with_len k n)
 range-below zero k = tt
@@ -132,15 +134,24 @@ module _ (fit : ℤ → Bool) (m : MachineTree) (o : OperationTree) (args : List
       let many : length y0.given ≡ length given = ap length long in
       let enough = names-enough m.fields o tokens given hand names in
       going fit m.fields rules.few t.test o.params names_of others (λ ss x c. HasNoInit ss)
-      (λ q x z c f tree line ss h r extra e. no-first m.fields f tree line ss (Moves m.fields names_of others x z c (acts.Init f tree)) extra)
+      (λ q x z c f tree line ss h r extra e. no-first m.fields f tree line ss (GoesAlong m.fields names_of others x z c (acts.Init f tree)) extra)
       (λ q s ss x z c h k e extra. extra.1)
       t.outside [] o.steps y0 y cur laws rest known.stands safe same (omega (arith, many, enough))
       (are-used m.fields o.mode o.steps [] o.steps y0.variables refl none rules.rules
       (λ f lt slot. (at-number (λ f. is_some (field_slot m.fields o.steps f) ≡ true → IsSameAt f y0.names names_of × (is_some (token_name f y0.variables) ≡ true)) (length m.fields) f known.learns lt slot).1))
       none
 
+  answers : Answers o.steps y0 y names_of
+  answers = all-answered fit m.fields rules.few t.test o.params names_of [] o.steps y0 y laws rest (λ z out. (same-outside m.fields s y.names z out).number)
+
+  given-bound : AreGiven (bound_names o.steps) y.bound names_of
+  given-bound =
+      let none-yet : start.bound ≡ y0.bound = used-bind-nothing (variable_slots m.fields o) start y0 first in
+      let all : y.bound ≡ answers.values = answers.bound ∙ ap (λ (bs : List ℤ). bs ++ answers.values) (sym none-yet) in
+      subst (λ (bs : List ℤ). AreGiven (bound_names o.steps) bs names_of) (sym all) answers.given
+
   pub leads : Contains m.ops o → length args ≡ length o.params → (IsAt s names_of → AreGiven o.params args names_of → IsKeptSafe m.fields names_of (first_values m.fields o.mode) o.steps)
-      → LeadsOn m s o args (tokens_in (y.hand ++ y.entered) ++ others) y.kept
+      → LeadsOn m s o args y.bound (tokens_in (y.hand ++ y.entered) ++ others) y.kept
   leads has long safe =
       let at = at-state m.fields s y.names (state-length m.fields (tokens_in hand ++ others) kept s joined) in
       let args_are = given-args long in
@@ -150,8 +161,8 @@ module _ (fit : ℤ → Bool) (m : MachineTree) (o : OperationTree) (args : List
       record {
         sound = d.stands.makes.sound;
         state = values_in (valuation m.fields s y.names) m.fields last;
-        joined = joined-state m.fields (bag_of others y) y.kept _ (values-list (valuation m.fields s y.names) (value_at m.fields (bag_of others y) y.kept) 0 m.fields last d.stands.makes.many
-            (λ i lt. let e : 0 + i ≡ i = omega arith in ap (value_at m.fields (bag_of others y) y.kept) e ∙ d.stands.makes.values i lt));
+        joined = joined-state m.fields (bag_at others y) y.kept _ (values-list (valuation m.fields s y.names) (value_at m.fields (bag_at others y) y.kept) 0 m.fields last d.stands.makes.many
+            (λ i lt. let e : 0 + i ≡ i = omega arith in ap (value_at m.fields (bag_at others y) y.kept) e ∙ d.stands.makes.values i lt));
         step = record {
           names = valuation m.fields s y.names;
           declared = has;
@@ -161,6 +172,8 @@ module _ (fit : ℤ → Bool) (m : MachineTree) (o : OperationTree) (args : List
           met = subst (λ c. AreMet m.fields (valuation m.fields s y.names) c o.steps) (sym firsts) d.met;
           leaves = ap (λ c. values_in (valuation m.fields s y.names) m.fields (last_values m.fields c o.steps)) (sym firsts);
         };
+        answered = given-bound;
+        safe = safe at args_are;
       }
 
 -- the theorem for numbers within any bound
@@ -173,5 +186,6 @@ projects-in fit m proved o has other args long tokens given hand names others ke
     let t = trust m.fields o s whole other rules.rules either in
     let l = leads fit m o args tokens given hand others kept s whole joined sound other names rules t a.0 y a.1 a.2 has long
     (λ at gives. proved.holds.safe s reached o has other args _ at gives) in
-    subst (λ k. LeadsOn m s o args (tokens_in x.hand ++ others) k) (sym out.2.kept)
-    (subst (λ ts. LeadsOn m s o args (ts ++ others) y.kept) (sym out.2.hand) l)
+    subst (λ (bs : List ℤ). LeadsOn m s o args bs (tokens_in x.hand ++ others) x.kept) (sym out.2.bound)
+    (subst (λ k. LeadsOn m s o args y.bound (tokens_in x.hand ++ others) k) (sym out.2.kept)
+    (subst (λ ts. LeadsOn m s o args y.bound (ts ++ others) y.kept) (sym out.2.hand) l))

@@ -19,7 +19,7 @@ use Rattle.sync_join.specs.Shards.{perm}
 use Rattle.sync_join.specs.Join.{record_at, number_of}
 use Rattle.sync_exchange.specs.declared.hands.XStop.{XStop}
 use Rattle.sync_exchange.specs.declared.hands.XStop.TheVariants.{Missing, Differs, RequireFalse, StoreEmpty, Width}
-use Rattle.sync_exchange.specs.Exchange.{Exchanging, Answer, outcome, held_as, next_name, unless, named, is_token, stored_at, withdrawn, permission, token_of, token_name, after_reading, after_taking, after_seeing, after_giving, binding, recording, storing, revaluing, key_at, amount_at, place_fits, is_asked, asked_token, asked_object, raised, started, updated, new_value, does}
+use Rattle.sync_exchange.specs.Exchange.{Exchanging, Answer, outcome, held_as, next_name, unless, named, is_at_place, stored_at, withdrawn, permission, token_of, token_name, after_reading, after_taking, after_seeing, after_giving, binding, recording, storing, revaluing, key_at, amount_at, place_fits, is_asked, asked_token, asked_object, raised, started, updated, new_value, does}
 use Rattle.sync_exchange.proofs.Terms.{Same, truth-same, value-same}
 use Rattle.sync_exchange.proofs.Fitting.{two, form_fits-same, place_fits-same, is_asked-same, key_at-same, term_fits-same}
 use Rattle.sync_exchange.proofs.Strategies.{some_is}
@@ -30,7 +30,7 @@ use Rattle.sync_exchange.proofs.Going.{IsSameAt, started-names, updated-names}
 
 -- the same exchange on its way, with other values for symbols
 abbrev pub renamed : Valuation → Exchanging → Exchanging
-renamed w x = record { names = w; slot = x.slot; tokens = x.tokens; given = x.given; variables = x.variables; hand = x.hand; entered = x.entered; kept = x.kept; bound = x.bound }
+renamed w x = record x { names = w }
 
 -- both stop in the same way, or leave the same up to what symbols stand for
 abbrev pub Alike : (Exchanging → Valuation → Type 0) → Answer → Answer → Type 0
@@ -87,7 +87,7 @@ module _ (fit : ℤ → Bool) (q : ℕ → Bool) (x : Exchanging) (w : Valuation
   token-alike P f p g h reads next =
       named-alike P x w _ _ (λ t.
       alike-unless P Width _ _ _ _ (place_fits-same fit q x (renamed w x) same p reads)
-      (alike-unless P (Differs x.slot) _ _ _ _ (two _ _ _ _ (ap (λ k. is_token f k t) (key_at-same fit q x (renamed w x) same p reads)) (is_asked-same fit q x (renamed w x) same p t.value reads)) (next t)))
+      (alike-unless P (Differs x.slot) _ _ _ _ (two _ _ _ _ (ap (λ k. is_at_place f k t) (key_at-same fit q x (renamed w x) same p reads)) (is_asked-same fit q x (renamed w x) same p t.value reads)) (next t)))
 
   pub object-alike : (P : Exchanging → Valuation → Type 0) (f : ℕ) (p : PlaceTree) (g h : ℤ → Exchanging) → place_names_only q p ≡ true → ((n : ℤ) → Alike P (Ok (g n)) (Ok (h n)))
       → Alike P (asked_object fit f p x g) (asked_object fit f p (renamed w x) h)

@@ -23,14 +23,14 @@ use Rattle.sync_rules.specs.declared.slots.Role.{Role}
 use Rattle.sync_rules.specs.declared.slots.Role.TheVariants.{Change, Read, Given}
 use Rattle.sync_rules.specs.Slots.{SlotTree, value_slot, read_slot, only_if, needs, started_at, updated_to, valued, given_by, changed_by, read_by, earliest, variable_slot, field_slot}
 use Rattle.sync_exchange.specs.declared.hands.XStop.TheVariants.{Differs}
-use Rattle.sync_exchange.specs.Exchange.{Exchanging, held_as, tokens_in, without, token_name, next_name, named, is_token, after_reading, knowing, use_variable, use_variables}
+use Rattle.sync_exchange.specs.Exchange.{Exchanging, held_as, tokens_in, without, token_name, next_name, named, is_at_place, after_reading, knowing, use_variable, use_variables}
 use Rattle.sync_exchange.proofs.Terms.{and_left}
 use Rattle.sync_exchange.proofs.Tokens.{held_as-more, taken-part}
 use Rattle.sync_exchange.proofs.Making.{part-own}
 use Rattle.sync_exchange.proofs.Strategies.{some_is}
 use Rattle.sync_exchange.proofs.Storing.{not-true}
 use Rattle.sync_exchange.proofs.Passing.{unless-ok, ok_is, bind-ok, named-ok}
-use Rattle.sync_exchange.proofs.Standing.{bag_of, Stands, few-held}
+use Rattle.sync_exchange.proofs.Standing.{bag_at, IsUnderWay, few-held}
 use Rattle.sync_exchange.proofs.OneStrategy.{variable-only, only-variable}
 use Rattle.sync_exchange.proofs.Going.{IsSameAt, same-through}
 
@@ -126,13 +126,13 @@ pub record Uses (f : ℕ) (x y : Exchanging) : Type 0 where
 pub uses-change : (f : ℕ) (x y : Exchanging) → use_variable f Change x ≡ Ok y → Uses f x y
 uses-change f x y e =
     let a = bind-ok (named x) _ y e in
-    let b = unless-ok (Differs x.slot) (is_token f (pos 0) a.0) _ y a.2 in
+    let b = unless-ok (Differs x.slot) (is_at_place f (pos 0) a.0) _ y a.2 in
     record { token = a.0; held = named-ok x a.0 a.1; field = eqb-true f a.0.field (and_left _ _ b.0); answer = ok_is _ y b.1 }
 
 pub uses-read : (f : ℕ) (x y : Exchanging) → use_variable f Read x ≡ Ok y → Uses f x y
 uses-read f x y e =
     let a = bind-ok (named x) _ y e in
-    let b = unless-ok (Differs x.slot) (is_token f (pos 0) a.0) _ y a.2 in
+    let b = unless-ok (Differs x.slot) (is_at_place f (pos 0) a.0) _ y a.2 in
     record { token = a.0; held = named-ok x a.0 a.1; field = eqb-true f a.0.field (and_left _ _ b.0); answer = ok_is _ y b.1 }
 
 pub uses : (fs : List Field) (ss : List StepTree) (f : ℕ) (sl : SlotTree) (x y : Exchanging) → HasNoInit ss → field_slot fs ss f ≡ Some sl → use_variable sl.field sl.role x ≡ Ok y → Uses f x y
@@ -151,8 +151,8 @@ token-cases g f name other vs P e here later = cases (nat_eq g f) refl e where
 
 module _ (fs : List Field) (v : Valuation) (others : List Token) (ss : List StepTree) (none : HasNoInit ss) (cur : List Tree)
     (names : (f : ℕ) → f < length fs → get_or cur f Nil ≡ Name f) (numbers : (f : ℕ) → f < length fs → is_variable (strategy_at fs f) ≡ true → v.mapping f ≡ maps.nil) where
-  knowing-stands : (f : ℕ) (x y : Exchanging) → f < length fs → is_variable (strategy_at fs f) ≡ true → Uses f x y → Stands fs v others x cur → Stands fs v others y cur
-  knowing-stands f x y lt var u h = subst (λ w. Stands fs v others w cur) u.answer (record {
+  knowing-stands : (f : ℕ) (x y : Exchanging) → f < length fs → is_variable (strategy_at fs f) ≡ true → Uses f x y → IsUnderWay fs v others x cur → IsUnderWay fs v others y cur
+  knowing-stands f x y lt var u h = subst (λ w. IsUnderWay fs v others w cur) u.answer (record {
     makes = h.makes;
     once = h.once;
     named = λ g name e. token-cases g f (next_name x.tokens) name x.variables ((t : Token) × (held_as name (x.hand ++ x.entered) ≡ Some t) × (t.field ≡ g)) e
@@ -164,13 +164,13 @@ module _ (fs : List Field) (v : Valuation) (others : List Token) (ss : List Step
   })
 
   -- the token has the value that the state has
-  token-value : (f : ℕ) (x y : Exchanging) → f < length fs → is_variable (strategy_at fs f) ≡ true → (u : Uses f x y) → Stands fs v others x cur → u.token.value ≡ v.number f
+  token-value : (f : ℕ) (x y : Exchanging) → f < length fs → is_variable (strategy_at fs f) ≡ true → (u : Uses f x y) → IsUnderWay fs v others x cur → u.token.value ≡ v.number f
   token-value f x y lt var u h =
       let t = u.token in
       let rest = tokens_in (without (next_name x.tokens) x.hand ++ x.entered) ++ others in
       let part = taken-part (next_name x.tokens) t x.hand x.entered others u.held (few-held (next_name x.tokens) (x.hand ++ x.entered) x.given (h.once (next_name x.tokens))) in
       let before = only-variable (strategy_at fs f) v (get_or cur f Nil) (t ∷ tokens_of f rest) (record_at x.kept f) (tokens_of f x.kept.stored) (variable-only (strategy_at fs f) var)
-      (sym (part-own fs x.kept t (bag_of others x) rest f part (eq-eqb t.field f (sym u.field))) ∙ h.makes.values f lt) in
+      (sym (part-own fs x.kept t (bag_at others x) rest f part (eq-eqb t.field f (sym u.field))) ∙ h.makes.values f lt) in
       (only_value-out t (tokens_of f rest) (num v (get_or cur f Nil)) before).1 ∙ ap (num v) (names f lt)
 
   with-cases : (f z : ℕ) (n : ℤ) (w : Valuation) → n ≡ v.number f → v.mapping f ≡ maps.nil → IsSameAt z w v → IsSameAt z (with_value f n maps.nil w) v
@@ -186,7 +186,7 @@ module _ (fs : List Field) (v : Valuation) (others : List Token) (ss : List Step
   with-other f z n w e = record { number = rw e refl; mapping = rw e refl }
 
   pub record AreKnown (ns : List ℕ) (x y : Exchanging) : Type 0 where
-    pub stands : Stands fs v others y cur
+    pub stands : IsUnderWay fs v others y cur
     pub given : y.given ≡ x.given
     pub keeps : (z : ℕ) → IsSameAt z x.names v → IsSameAt z y.names v
     pub remembers : (g : ℕ) → is_some (token_name g x.variables) ≡ true → is_some (token_name g y.variables) ≡ true
@@ -211,8 +211,8 @@ module _ (fs : List Field) (v : Valuation) (others : List Token) (ss : List Step
   token-here f name vs = let e : nat_eq f f ≡ true = eq-eqb f f refl in rw e refl
 
   using-next : (f : ℕ) (ns : List ℕ) (x y : Exchanging) (o : Option SlotTree) → field_slot fs ss f ≡ o → AllByRecursion (λ (g : ℕ). g < length fs) (f ∷ ns)
-      → use_variables (cons_option o (filter_map (field_slot fs ss) ns)) x ≡ Ok y → Stands fs v others x cur
-      → ((z : Exchanging) → use_variables (filter_map (field_slot fs ss) ns) z ≡ Ok y → Stands fs v others z cur → AreKnown ns z y) → AreKnown (f ∷ ns) x y
+      → use_variables (cons_option o (filter_map (field_slot fs ss) ns)) x ≡ Ok y → IsUnderWay fs v others x cur
+      → ((z : Exchanging) → use_variables (filter_map (field_slot fs ss) ns) z ≡ Ok y → IsUnderWay fs v others z cur → AreKnown ns z y) → AreKnown (f ∷ ns) x y
   using-next f ns x y None slot lts e h later =
       let r = later x e h in
       record {
@@ -241,7 +241,7 @@ module _ (fs : List Field) (v : Valuation) (others : List Token) (ss : List Step
         beyond = λ n k. same-through n x.names z.names y.names (known (λ w. IsSameAt n x.names w.names) (with-other f n u.token.value x.names (below-apart n f k lts.0))) (r.beyond n k);
       }
 
-  pub using : (ns : List ℕ) (x y : Exchanging) → AllByRecursion (λ (f : ℕ). f < length fs) ns → use_variables (filter_map (field_slot fs ss) ns) x ≡ Ok y → Stands fs v others x cur → AreKnown ns x y
+  pub using : (ns : List ℕ) (x y : Exchanging) → AllByRecursion (λ (f : ℕ). f < length fs) ns → use_variables (filter_map (field_slot fs ss) ns) x ≡ Ok y → IsUnderWay fs v others x cur → AreKnown ns x y
   using [] x y lts e h = subst (AreKnown [] x) (ok_is x y e) (record {
     stands = h;
     given = refl;

@@ -14,7 +14,7 @@ use Rattle.sync_terms.specs.declared.nodes.Sym.{Sym}
 use Rattle.sync_machine.specs.States.{Value}
 use Rattle.sync_machine.specs.Views.{symbols_of}
 use Rattle.sync_join.specs.Shards.{Kept}
-use Rattle.sync_exchange.specs.Exchange.{Exchanging, argument, held_as, stored_at, is_stored_at, token_name, next_name, later_names}
+use Rattle.sync_exchange.specs.Exchange.{Exchanging, argument, held_as, stored_at, is_at_place, token_name, next_name, later_names}
 use Rattle.sync_exchange.specs.Works.{last_known, known_over, variables_of, recorded, changed_at}
 
 -- ---- tokens by their names, objects by their keys
@@ -31,13 +31,13 @@ pub held-none : (name : ℕ) (hs : List Held) (i : ℕ) → length hs ≤ i → 
 unfolding held_as
 held-none name hs i h = at_drop_all (held_as name) hs i h
 
-pub stored-here : (f : ℕ) (k : ℤ) (ts : List Token) (i : ℕ) (d : Token) → i < length ts → is_stored_at f k (get_or ts i d) ≡ true → stored_at f k (drop i ts) ≡ Some (get_or ts i d).value
+pub stored-here : (f : ℕ) (k : ℤ) (ts : List Token) (i : ℕ) (d : Token) → i < length ts → is_at_place f k (get_or ts i d) ≡ true → stored_at f k (drop i ts) ≡ Some (get_or ts i d).value
 unfolding stored_at
-stored-here f k ts i d h e = at_drop_more (stored_at f k) ts i d h ∙ cond-true (is_stored_at f k (get_or ts i d)) (Some (get_or ts i d).value) (stored_at f k (drop (i + 1) ts)) e
+stored-here f k ts i d h e = at_drop_more (stored_at f k) ts i d h ∙ cond-true (is_at_place f k (get_or ts i d)) (Some (get_or ts i d).value) (stored_at f k (drop (i + 1) ts)) e
 
-pub stored-later : (f : ℕ) (k : ℤ) (ts : List Token) (i : ℕ) (d : Token) → i < length ts → is_stored_at f k (get_or ts i d) ≡ false → stored_at f k (drop i ts) ≡ stored_at f k (drop (i + 1) ts)
+pub stored-later : (f : ℕ) (k : ℤ) (ts : List Token) (i : ℕ) (d : Token) → i < length ts → is_at_place f k (get_or ts i d) ≡ false → stored_at f k (drop i ts) ≡ stored_at f k (drop (i + 1) ts)
 unfolding stored_at
-stored-later f k ts i d h e = at_drop_more (stored_at f k) ts i d h ∙ cond-false (is_stored_at f k (get_or ts i d)) (Some (get_or ts i d).value) (stored_at f k (drop (i + 1) ts)) e
+stored-later f k ts i d h e = at_drop_more (stored_at f k) ts i d h ∙ cond-false (is_at_place f k (get_or ts i d)) (Some (get_or ts i d).value) (stored_at f k (drop (i + 1) ts)) e
 
 pub stored-none : (f : ℕ) (k : ℤ) (ts : List Token) (i : ℕ) → length ts ≤ i → stored_at f k (drop i ts) ≡ None
 unfolding stored_at

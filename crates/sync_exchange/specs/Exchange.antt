@@ -42,22 +42,23 @@ without name hs = filter (λ (h : Held). not (nat_eq name h.name)) hs
 
 -- the token of this name with another value
 abbrev pub revalued : ℕ → ℤ → List Held → List Held
-revalued name n hs = map (λ (h : Held). if nat_eq name h.name then record { name = h.name; token = record { field = h.token.field; key = h.token.key; value = n } } else h) hs
+revalued name n hs = map (λ (h : Held). if nat_eq name h.name then record h { token = record h.token { value = n } } else h) hs
 
 abbrev pub tokens_in : List Held → List Token
 tokens_in hs = map (λ (h : Held). h.token) hs
 
 -- ---- stored objects by their keys
 
-abbrev pub is_stored_at : ℕ → ℤ → Token → Bool
-is_stored_at f k t = nat_eq f t.field && int_eq k t.key
+-- of this field, with this key
+abbrev pub is_at_place : ℕ → ℤ → Token → Bool
+is_at_place f k t = nat_eq f t.field && int_eq k t.key
 
 unfoldable pub stored_at : ℕ → ℤ → List Token → Option ℤ
 stored_at f k [] = None
-stored_at f k (t ∷ ts) = if is_stored_at f k t then Some t.value else stored_at f k ts
+stored_at f k (t ∷ ts) = if is_at_place f k t then Some t.value else stored_at f k ts
 
 abbrev pub withdrawn : ℕ → ℤ → List Token → List Token
-withdrawn f k ts = filter (λ (t : Token). not (is_stored_at f k t)) ts
+withdrawn f k ts = filter (λ (t : Token). not (is_at_place f k t)) ts
 
 -- ---- what symbols stand for before the first statement
 
@@ -70,12 +71,7 @@ seen PersistentOption kept whole f = record_at kept f
 seen PersistentMap kept whole f = record_at kept f
 seen PersistentSet kept whole f = record_at kept f
 seen PersistentCount kept whole f = record_at kept f
-seen Variable kept whole f = slice_index_or whole f (Number (pos 0))
-seen OptionField kept whole f = slice_index_or whole f (Number (pos 0))
-seen Map kept whole f = slice_index_or whole f (Number (pos 0))
-seen Set kept whole f = slice_index_or whole f (Number (pos 0))
-seen Multiset kept whole f = slice_index_or whole f (Number (pos 0))
-seen Count kept whole f = slice_index_or whole f (Number (pos 0))
+seen s kept whole f = slice_index_or whole f (Number (pos 0))
 
 unfoldable pub argument : List ℕ → List ℤ → ℕ → ℤ
 argument (p ∷ ps) (n ∷ ns) x = if nat_eq x p then n else argument ps ns x
@@ -83,7 +79,8 @@ argument [] ns x = pos 0
 argument (p ∷ ps) [] x = pos 0
 
 abbrev pub number_at : List Field → OperationTree → List ℤ → Kept → State → ℕ → ℤ
-number_at fs o args kept whole x = if nat_lt x (length fs) then number_of (seen (strategy_at fs x) kept whole x) else argument o.params args x
+number_at fs o args kept whole x =
+    if nat_lt x (length fs) then number_of (seen (strategy_at fs x) kept whole x) else argument o.params args x
 
 abbrev pub mapping_at : List Field → Kept → State → ℕ → maps.Map
 mapping_at fs kept whole x = entries_of (seen (strategy_at fs x) kept whole x)
@@ -134,35 +131,35 @@ named x = found (held_as (next_name x.tokens) x.hand) where
 
 -- the next slot has used a token's name, and left the token where it is
 abbrev pub after_reading : Exchanging → Exchanging
-after_reading x = record { names = x.names; slot = suc x.slot; tokens = later_names x.tokens; given = x.given; variables = x.variables; hand = x.hand; entered = x.entered; kept = x.kept; bound = x.bound }
+after_reading x = record x { slot = suc x.slot; tokens = later_names x.tokens }
 
 -- and has taken the token out of the hand
 abbrev pub after_taking : Exchanging → Exchanging
-after_taking x = record { names = x.names; slot = suc x.slot; tokens = later_names x.tokens; given = x.given; variables = x.variables; hand = without (next_name x.tokens) x.hand; entered = x.entered; kept = x.kept; bound = x.bound }
+after_taking x = record x { slot = suc x.slot; tokens = later_names x.tokens; hand = without (next_name x.tokens) x.hand }
 
 -- the next slot looks at a stored object
 abbrev pub after_seeing : Exchanging → Exchanging
-after_seeing x = record { names = x.names; slot = suc x.slot; tokens = x.tokens; given = x.given; variables = x.variables; hand = x.hand; entered = x.entered; kept = x.kept; bound = x.bound }
+after_seeing x = record x { slot = suc x.slot }
 
 -- the next slot gives a token under its new name
 abbrev pub after_giving : Token → Exchanging → Exchanging
-after_giving t x = record { names = x.names; slot = suc x.slot; tokens = x.tokens; given = later_names x.given; variables = x.variables; hand = x.hand; entered = x.entered ++ record { name = next_name x.given; token = t } ∷ []; kept = x.kept; bound = x.bound }
+after_giving t x = record x { slot = suc x.slot; given = later_names x.given; entered = x.entered ++ record { name = next_name x.given; token = t } ∷ [] }
 
 -- a field's symbol stands for the number of its token, which has this name
 abbrev pub knowing : ℕ → ℕ → ℤ → Exchanging → Exchanging
-knowing f name n x = record { names = with_value f n (entries_of (Number n)) x.names; slot = x.slot; tokens = x.tokens; given = x.given; variables = (f, name) ∷ x.variables; hand = x.hand; entered = x.entered; kept = x.kept; bound = x.bound }
+knowing f name n x = record x { names = with_value f n (entries_of (Number n)) x.names; variables = (f, name) ∷ x.variables }
 
 -- a new name is bound, where a place binds one
 abbrev pub binding : Option ℕ → ℤ → Exchanging → Exchanging
 binding None n x = x
-binding (Some y) n x = record { names = with_value y n maps.nil x.names; slot = x.slot; tokens = x.tokens; given = x.given; variables = x.variables; hand = x.hand; entered = x.entered; kept = x.kept; bound = x.bound ++ n ∷ [] }
+binding (Some y) n x = record x { names = with_value y n maps.nil x.names; bound = x.bound ++ n ∷ [] }
 
 -- a field has another record; something is stored or no longer stored
 abbrev pub recording : ℕ → Value → Exchanging → Exchanging
-recording f v x = record { names = x.names; slot = x.slot; tokens = x.tokens; given = x.given; variables = x.variables; hand = x.hand; entered = x.entered; kept = record { records = slice_set x.kept.records f v; stored = x.kept.stored }; bound = x.bound }
+recording f v x = record x { kept = record x.kept { records = slice_set x.kept.records f v } }
 
 abbrev pub storing : List Token → Exchanging → Exchanging
-storing ts x = record { names = x.names; slot = x.slot; tokens = x.tokens; given = x.given; variables = x.variables; hand = x.hand; entered = x.entered; kept = record { records = x.kept.records; stored = ts }; bound = x.bound }
+storing ts x = record x { kept = record x.kept { stored = ts } }
 
 -- the name of a variable's token
 unfoldable pub token_name : ℕ → List (ℕ × ℕ) → Option ℕ
@@ -174,27 +171,20 @@ abbrev pub revaluing : ℕ → ℤ → Exchanging → Exchanging
 revaluing f n x = set (token_name f x.variables) where
   set : Option ℕ → Exchanging
   set None = x
-  set (Some name) = record { names = x.names; slot = x.slot; tokens = x.tokens; given = x.given; variables = x.variables; hand = revalued name n x.hand; entered = revalued name n x.entered; kept = x.kept; bound = x.bound }
+  set (Some name) = record x { hand = revalued name n x.hand; entered = revalued name n x.entered }
 
 -- ---- the slots of variables
 
-abbrev pub is_token : ℕ → ℤ → Token → Bool
-is_token f k t = nat_eq f t.field && int_eq k t.key
-
 -- a variable's token is used, or a new one is given, whose value its statement sets
 abbrev pub use_variable : ℕ → Role → Exchanging → Answer
-use_variable f role x = if gives role then Ok (knowing f (next_name x.given) (pos 0) (after_giving (record { field = f; key = pos 0; value = pos 0 }) x)) else (named x >>= used) where
-  gives : Role → Bool
-  gives Given = true
-  gives Change = false
-  gives Taken = false
-  gives Read = false
-  gives In = false
-  gives Out = false
-  gives Seen = false
+use_variable f role x =
+    if gives role then Ok (knowing f (next_name x.given) (pos 0) (after_giving (record { field = f; key = pos 0; value = pos 0 }) x)) else (named x >>= used) where
+      gives : Role → Bool
+      gives Given = true
+      gives role = false
 
-  used : Token → Answer
-  used t = unless (Differs x.slot) (is_token f (pos 0) t) (Ok (knowing f (next_name x.tokens) t.value (after_reading x)))
+      used : Token → Answer
+      used t = unless (Differs x.slot) (is_at_place f (pos 0) t) (Ok (knowing f (next_name x.tokens) t.value (after_reading x)))
 
 abbrev pub use_variables : List SlotTree → Exchanging → Answer
 use_variables [] x = Ok x
@@ -225,7 +215,7 @@ is_asked p n x = is (binds p) where
 -- the token that the slot names, of this field, with the place's key and value
 abbrev pub asked_token : (ℤ → Bool) → ℕ → PlaceTree → Exchanging → (Token → Exchanging) → Answer
 asked_token fits f p x next = named x >>= (λ (t : Token). unless Width (place_fits fits p x)
-    (unless (Differs x.slot) (is_token f (key_at p x) t && is_asked p t.value x) (Ok (next t))))
+    (unless (Differs x.slot) (is_at_place f (key_at p x) t && is_asked p t.value x) (Ok (next t))))
 
 -- the object that is stored at the place
 abbrev pub asked_object : (ℤ → Bool) → ℕ → PlaceTree → Exchanging → (ℤ → Exchanging) → Answer
@@ -240,15 +230,11 @@ raised PersistentOption recorded k n = Mapped (maps.put (entries_of recorded) k 
 raised PersistentMap recorded k n = Mapped (maps.put (entries_of recorded) k n)
 raised PersistentSet recorded k n = Mapped (maps.put (entries_of recorded) k (pos 1))
 raised PersistentCount recorded k n = Number n
-raised Constant recorded k n = recorded
-raised NotTokenized recorded k n = recorded
-raised Variable recorded k n = recorded
-raised OptionField recorded k n = recorded
-raised Map recorded k n = recorded
-raised Set recorded k n = recorded
-raised Multiset recorded k n = recorded
-raised Count recorded k n = recorded
-raised StorageMap recorded k n = recorded
+raised s recorded k n = recorded
+
+-- the record of a field behind an addition of this key and value
+abbrev pub raising : List Field → ℕ → ℤ → ℤ → Exchanging → Exchanging
+raising fs f k n x = recording f (raised (strategy_at fs f) (record_at x.kept f) k n) x
 
 -- the first value of a field: of a variable its new token's, of a count the amount of a new token
 abbrev pub started : Strategy → ℕ → Value → Exchanging → Exchanging
@@ -260,27 +246,13 @@ started NotTokenized f v x = recording f v x
 started PersistentOption f v x = recording f v x
 started PersistentMap f v x = recording f v x
 started PersistentSet f v x = recording f v x
-started OptionField f v x = x
-started Map f v x = x
-started Set f v x = x
-started Multiset f v x = x
-started StorageMap f v x = x
+started s f v x = x
 
 -- a new value of a variable or of a field without tokens
 abbrev pub updated : Strategy → ℕ → Value → Exchanging → Exchanging
 updated Variable f v x = revaluing f (number_of v) x
 updated NotTokenized f v x = recording f v x
-updated Constant f v x = x
-updated OptionField f v x = x
-updated Map f v x = x
-updated Set f v x = x
-updated Multiset f v x = x
-updated Count f v x = x
-updated PersistentOption f v x = x
-updated PersistentMap f v x = x
-updated PersistentSet f v x = x
-updated PersistentCount f v x = x
-updated StorageMap f v x = x
+updated s f v x = x
 
 abbrev pub term_fits : (ℤ → Bool) → Sort → Tree → Exchanging → Bool
 term_fits fits Numbers t x = number_fits fits x.names t
@@ -289,8 +261,8 @@ term_fits fits Maps t x = map_fits fits x.names t
 abbrev pub new_value : List Field → ℕ → Tree → Exchanging → Value
 new_value fs f t x = value_in x.names (sort_of (strategy_at fs f)) t
 
-abbrev pub within : (ℤ → Bool) → List Field → ℕ → Tree → Exchanging → Bool
-within fits fs f t x = term_fits fits (sort_of (strategy_at fs f)) t x
+abbrev pub value_fits : (ℤ → Bool) → List Field → ℕ → Tree → Exchanging → Bool
+value_fits fits fs f t x = term_fits fits (sort_of (strategy_at fs f)) t x
 
 -- the permission of a cell, and a stored one
 abbrev pub permission : ℤ → ℤ → Token
@@ -307,13 +279,14 @@ does fits fs s x = act s.act where
   act (acts.Require form) = unless Width (form_fits fits x.names form) (unless (RequireFalse s.line) (truth x.names form) (Ok x))
   act (acts.Assert form) = Ok x
   act (acts.HaveVariable f) = Ok x
-  act (acts.Init f t) = unless Width (within fits fs f t x) (Ok (started (strategy_at fs f) f (new_value fs f t x) x))
-  act (acts.Update f t) = unless Width (within fits fs f t x) (Ok (updated (strategy_at fs f) f (new_value fs f t x) x))
+  act (acts.Init f t) = unless Width (value_fits fits fs f t x) (Ok (started (strategy_at fs f) f (new_value fs f t x) x))
+  act (acts.Update f t) = unless Width (value_fits fits fs f t x) (Ok (updated (strategy_at fs f) f (new_value fs f t x) x))
   act (acts.Remove f p) = asked_token fits f p x (λ (t : Token). binding (binds p) t.value (after_taking x))
   act (acts.Have f p) = asked_token fits f p x (λ (t : Token). binding (binds p) t.value (after_reading x))
   act (acts.Add f p) = unless Width (place_fits fits p x)
-      (Ok (recording f (raised (strategy_at fs f) (record_at x.kept f) (key_at p x) (amount_at p x)) (after_giving (token_of f (key_at p x) (amount_at p x)) x)))
-  act (acts.Deposit f p) = asked_token fits perm p x (λ (t : Token). storing (x.kept.stored ++ token_of f (key_at p x) (amount_at p x) ∷ []) (after_taking x))
+      (Ok (raising fs f (key_at p x) (amount_at p x) (after_giving (token_of f (key_at p x) (amount_at p x)) x)))
+  act (acts.Deposit f p) = asked_token fits perm p x
+      (λ (t : Token). storing (x.kept.stored ++ token_of f (key_at p x) (amount_at p x) ∷ []) (after_taking x))
   act (acts.Withdraw f p) = asked_object fits f p x
       (λ (n : ℤ). binding (binds p) n (storing (withdrawn f (key_at p x) x.kept.stored) (after_giving (permission (key_at p x) n) x)))
   act (acts.Guard f p) = asked_object fits f p x (λ (n : ℤ). binding (binds p) n (after_seeing x))
@@ -336,7 +309,17 @@ outcome (Err stop) = Err stop
 
 -- before the first slot
 abbrev pub beginning : List Field → OperationTree → List ℤ → List ℕ → List ℕ → State → List Held → Kept → Exchanging
-beginning fs o args tokens given whole hand kept = record { names = names_before fs o args kept whole; slot = 0; tokens = tokens; given = given; variables = []; hand = hand; entered = []; kept = kept; bound = [] }
+beginning fs o args tokens given whole hand kept = record {
+  names = names_before fs o args kept whole;
+  slot = 0;
+  tokens = tokens;
+  given = given;
+  variables = [];
+  hand = hand;
+  entered = [];
+  kept = kept;
+  bound = [];
+}
 
 -- the slots of the variables that an operation uses
 abbrev pub variable_slots : List Field → OperationTree → List SlotTree
@@ -344,7 +327,8 @@ variable_slots fs o = filter_map (field_slot fs o.steps) (range_with_len 0 (leng
 
 -- The operation o with these arguments, on the tokens and new names that are named slot by slot. The whole state is
 -- read by updates of fields without tokens alone.
-abbrev pub exchange_in : (ℤ → Bool) → List Field → OperationTree → List ℤ → List ℕ → List ℕ → State → List Held → Kept → Result Exchanged XStop
+abbrev pub exchange_in : (ℤ → Bool) → List Field → OperationTree → List ℤ → List ℕ → List ℕ → State → List Held → Kept
+    → Result Exchanged XStop
 exchange_in fits fs o args tokens given whole hand kept =
     outcome (use_variables (variable_slots fs o) (beginning fs o args tokens given whole hand kept) >>= does_all fits fs o.steps)
 

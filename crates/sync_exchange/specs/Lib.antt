@@ -9,3 +9,4 @@ pub mod Laws
 pub mod Moves
 pub mod Runs
 pub mod MoveLaws
+pub mod Calls

@@ -9,21 +9,21 @@ use Rattle.sync_join.specs.Join.{join_of}
 use Rattle.sync_exchange.specs.declared.hands.Held.{Held}
 use Rattle.sync_exchange.specs.Exchange.{Exchanged, exchange_in, tokens_in}
 use Rattle.sync_exchange.specs.Projection.{AreNames, ArePermissions, AreBlank, IsProved}
-use Rattle.sync_exchange.specs.Moves.{Move, Holders, bag_of, AreApart, IsMove, AreMoves}
+use Rattle.sync_exchange.specs.Moves.{Move, Holders, all_tokens, AreApart, IsMove, AreMoves}
 use Rattle.sync_exchange.specs.Runs.{Call, calls_of, RunsOn}
 
 -- A move leaves the names of each hand apart, whatever the bound of numbers.
 abbrev pub NamesStayApart : Type 0
-NamesStayApart = (fits : ℤ → Bool) (m : MachineTree) (others : List Token) (move : Move) (old new : Holders) → IsMove fits m others old move new
+NamesStayApart = (fits : ℤ → Bool) (m : MachineTree) (move : Move) (old new : Holders) → IsMove fits m old move new
     → AreApart old.hands → AreApart new.hands
 
--- Where all tokens with what is kept are the shards of a reached state of a machine, a list of moves leads to shards of a
--- state that the list's exchanges lead to as declared steps, whatever others hold.
+-- Where all tokens, the loose ones too, with what is kept are the shards of a reached state of a machine, a list of moves
+-- leads to shards of a state that the list's exchanges lead to as declared steps.
 abbrev pub MovesAreStepsOf : (ℤ → Bool) → MachineTree → Type 0
-MovesAreStepsOf fits m = (others : List Token) (moves : List Move) (old new : Holders) → AreMoves fits m others old moves new
-    → AreApart old.hands → AreSoundShards m.fields (bag_of old.hands others) old.kept
-    → (s : State) → join_of m.fields (bag_of old.hands others) old.kept ≡ Some s → IsReached m s
-    → RunsOn m s (calls_of moves) (bag_of new.hands others) new.kept × AreApart new.hands
+MovesAreStepsOf fits m = (moves : List Move) (old new : Holders) → AreMoves fits m old moves new
+    → AreApart old.hands → AreSoundShards m.fields (all_tokens old) old.kept
+    → (s : State) → join_of m.fields (all_tokens old) old.kept ≡ Some s → IsReached m s
+    → RunsOn m s (calls_of moves) (all_tokens new) new.kept × AreApart new.hands
 
 -- so of every proved machine, whatever the bound of numbers
 abbrev pub MovesAreSteps : Type 0
@@ -42,8 +42,8 @@ StartsGoOnOf fits m = (o : OperationTree) → Contains m.ops o → IsInit o → 
     → (tokens given : List ℕ) (hand : List Held) → AreNames m.fields o tokens given hand
     → ArePermissions (tokens_in hand) → (kept : Kept) → AreBlank m.fields kept.records → kept.stored ≡ []
     → (whole : State) (x : Exchanged) → exchange_in fits m.fields o args tokens given whole hand kept ≡ Ok x
-    → (moves : List Move) (new : Holders) → AreMoves fits m [] (record { hands = x.hand ∷ []; kept = x.kept }) moves new
-    → RunsFromStart m o args (calls_of moves) (bag_of new.hands []) new.kept × AreApart new.hands
+    → (moves : List Move) (new : Holders) → AreMoves fits m (record { hands = x.hand ∷ []; loose = []; kept = x.kept }) moves new
+    → RunsFromStart m o args (calls_of moves) (all_tokens new) new.kept × AreApart new.hands
 
 -- so of every proved machine, whatever the bound of numbers
 abbrev pub StartsGoOn : Type 0

@@ -1,13 +1,12 @@
 -- Holders of the tokens of one machine, and the moves that any of them makes.
-use Rattle.std.specs.Prelude.{◌≡◌, ◌≢◌, ℕ, suc, ℤ, pos, ◌≤ℤ◌, List, [], ◌∷◌, ◌++◌, length, map, flat_map, count_by, Bool, true, ◌&&◌, if◌then◌else◌, ◌⊎◌, Some, Ok, nat_eq}
+use Rattle.std.specs.Prelude.{◌≡◌, ◌≢◌, ℕ, ℤ, pos, ◌≤ℤ◌, List, [], ◌∷◌, ◌++◌, length, map, flat_map, count_by, Bool, true, ◌⊎◌, Some, Ok, nat_eq}
 use Rattle.std.specs.List.{AllByRecursion, Contains, IsDistinct}
-use Rattle.std.specs.Ordering.{int_eq}
 use Rattle.sync_machine.specs.declared.fields.Field.{Field}
 use Rattle.sync_base.specs.declared.strategies.Strategy.TheVariants.{Count}
 use Rattle.sync_machine.specs.Machines.{OperationTree, MachineTree}
 use Rattle.sync_machine.specs.States.{State, IsInit, strategy_at}
 use Rattle.sync_join.specs.declared.tokens.Token.{Token}
-use Rattle.sync_join.specs.Shards.{Kept}
+use Rattle.sync_join.specs.Shards.{Kept, often}
 use Rattle.sync_join.specs.Join.{join_of}
 use Rattle.sync_rules.specs.Slots.{SlotTree, slots_of}
 use Rattle.sync_exchange.specs.declared.hands.Held.{Held}
@@ -24,14 +23,19 @@ pub data Move : Type 0 where
   Merge : (a b into : ℕ) → Move
   Copy : (name new : ℕ) → Move
 
--- the hand of each holder, and what is kept beside all tokens
+-- The hand of each holder; loose tokens, which have no names: what no hand has any more or not yet, and what holders have
+-- that are not told of; and what is kept beside all tokens.
 pub record Holders : Type 0 where
   pub hands : List (List Held)
+  pub loose : List Token
   pub kept : Kept
 
--- the tokens of all hands, in order, and then those of others
+-- the tokens of all hands, in order, and then the loose ones
 abbrev pub bag_of : List (List Held) → List Token → List Token
-bag_of hands others = flat_map tokens_in hands ++ others
+bag_of hands loose = flat_map tokens_in hands ++ loose
+
+abbrev pub all_tokens : Holders → List Token
+all_tokens h = bag_of h.hands h.loose
 
 -- no name stands twice in a hand
 abbrev pub IsApart : List Held → Type 0
@@ -104,38 +108,31 @@ Does fits m bag (Copy name new) hand kept left rest = IsCopy m.fields name new h
 
 -- ---- moves of any holder
 
--- One holder makes a move, and all other hands stay as they are. `others` are tokens of holders that are not told of.
-pub record IsMove (fits : ℤ → Bool) (m : MachineTree) (others : List Token) (old : Holders) (move : Move) (new : Holders) : Type 0 where
+-- One holder makes a move, and all other hands and the loose tokens stay as they are.
+pub record IsMove (fits : ℤ → Bool) (m : MachineTree) (old : Holders) (move : Move) (new : Holders) : Type 0 where
   pub before : List (List Held)
   pub hand : List Held
   pub left : List Held
   pub after : List (List Held)
   pub was : old.hands ≡ before ++ hand ∷ after
   pub is : new.hands ≡ before ++ left ∷ after
-  pub does : Does fits m (bag_of old.hands others) move hand old.kept left new.kept
+  pub stay : new.loose ≡ old.loose
+  pub does : Does fits m (all_tokens old) move hand old.kept left new.kept
 
 -- ---- tokens that pass from hand to hand
 
-abbrev pub is_same : Token → Token → Bool
-is_same t u = nat_eq t.field u.field && (int_eq t.key u.key && int_eq t.value u.value)
-
--- how often a token stands in a list
-abbrev pub often : Token → List Token → ℕ
-often t [] = 0
-often t (u ∷ us) = if is_same t u then suc (often t us) else often t us
-
--- Tokens pass from hand to hand, under any names: there may be other hands than before, but all tokens together are the
--- same, each as often. In each hand the names are apart.
-pub record AreDealt (others : List Token) (old new : Holders) : Type 0 where
-  pub same : (t : Token) → often t (bag_of old.hands others) ≡ often t (bag_of new.hands others)
+-- Tokens pass from hand to hand, under any names, and become loose or are taken up again: there may be other hands than
+-- before, but all tokens together are the same, each as often. In each hand the names are apart.
+pub record AreDealt (old new : Holders) : Type 0 where
+  pub same : (t : Token) → often t (all_tokens old) ≡ often t (all_tokens new)
   pub kept : new.kept ≡ old.kept
   pub apart : AreApart new.hands
 
 -- ---- lists of moves
 
 -- one move after another, each by any holder; between them tokens may pass from hand to hand
-pub data AreMoves (fits : ℤ → Bool) (m : MachineTree) (others : List Token) : Holders → List Move → Holders → Type 0 where
-  no_more : {here : Holders} → AreMoves fits m others here [] here
-  one_more : {old next new : Holders} {move : Move} {moves : List Move} → IsMove fits m others old move next → AreMoves fits m others next moves new
-      → AreMoves fits m others old (move ∷ moves) new
-  dealt : {old next new : Holders} {moves : List Move} → AreDealt others old next → AreMoves fits m others next moves new → AreMoves fits m others old moves new
+pub data AreMoves (fits : ℤ → Bool) (m : MachineTree) : Holders → List Move → Holders → Type 0 where
+  no_more : {here : Holders} → AreMoves fits m here [] here
+  one_more : {old next new : Holders} {move : Move} {moves : List Move} → IsMove fits m old move next → AreMoves fits m next moves new
+      → AreMoves fits m old (move ∷ moves) new
+  dealt : {old next new : Holders} {moves : List Move} → AreDealt old next → AreMoves fits m next moves new → AreMoves fits m old moves new

@@ -4,8 +4,8 @@ use Rattle.std.specs.List.{AllByRecursion, Contains, IsDistinct}
 use Rattle.std.specs.Ordering.{int_eq}
 use Rattle.sync_machine.specs.declared.fields.Field.{Field}
 use Rattle.sync_machine.specs.Machines.{OperationTree, MachineTree}
-use Rattle.sync_machine.specs.Naming.{machine_fault, AreTextNames}
-use Rattle.sync_machine.specs.States.{Value, Number, Mapped, State, Sort, Numbers, Maps, sort_of, IsInit, Steps, Starts, IsReached, HoldsAlways}
+use Rattle.sync_machine.specs.Naming.{bound_names, machine_fault, AreTextNames}
+use Rattle.sync_machine.specs.States.{Value, Number, Mapped, State, Sort, Numbers, Maps, sort_of, first_values, AreGiven, IsKeptSafe, IsInit, Steps, Starts, IsReached, HoldsAlways}
 use Rattle.sync_terms.specs.Maps as maps
 use Rattle.sync_rules.specs.Faults.{strategy_fault}
 use Rattle.sync_join.specs.declared.tokens.Token.{Token}
@@ -59,20 +59,26 @@ pub record IsProved (m : MachineTree) : Type 0 where
 
 -- ---- steps
 
--- The hand and the tokens of the others are, with what is kept, the shards of a state that a step leads to from s.
-pub record LeadsOn (m : MachineTree) (s : State) (o : OperationTree) (args : List ℤ) (bag : List Token) (kept : Kept) : Type 0 where
+-- The hand and the tokens of the others are, with what is kept, the shards of a state that a step leads to from s. Under the
+-- valuation of the step the names that the operation binds stand for these values, and its asserts and all other safety
+-- conditions are true.
+pub record LeadsOn (m : MachineTree) (s : State) (o : OperationTree) (args bound : List ℤ) (bag : List Token) (kept : Kept) : Type 0 where
   pub sound : AreSoundShards m.fields bag kept
   pub state : State
   pub joined : join_of m.fields bag kept ≡ Some state
   pub step : Steps m s o args state
+  pub answered : AreGiven (bound_names o.steps) bound step.names
+  pub safe : IsKeptSafe m.fields step.names (first_values m.fields o.mode) o.steps
 
--- An exchange that leaves this hand and these records is a declared step of the whole, whatever the others hold, where the
--- machine is proved, the names are as many as are wanted and apart, and hand, others and records make a reached state.
-abbrev pub IsStep : MachineTree → OperationTree → List ℤ → List ℕ → List ℕ → State → List Held → Kept → List Held → Kept → Type 0
-IsStep m o args tokens given whole hand kept left rest = IsProved m → Contains m.ops o → (IsInit o → ⊥) → length args ≡ length o.params → AreNames m.fields o tokens given hand
+-- An exchange that leaves this hand and these records and answers these values is a declared step of the whole, whatever the
+-- others hold, where the machine is proved, the names are as many as are wanted and apart, and hand, others and records make a
+-- reached state.
+abbrev pub IsStep : MachineTree → OperationTree → List ℤ → List ℕ → List ℕ → State → List Held → Kept → List ℤ → List Held → Kept → Type 0
+IsStep m o args tokens given whole hand kept bound left rest = IsProved m → Contains m.ops o → (IsInit o → ⊥) → length args ≡ length o.params
+    → AreNames m.fields o tokens given hand
     → (others : List Token) → AreSoundShards m.fields (tokens_in hand ++ others) kept
     → (s : State) → join_of m.fields (tokens_in hand ++ others) kept ≡ Some s → IsReached m s → (whole ≡ s) ⊎ (is_plain m.fields o ≡ true)
-    → LeadsOn m s o args (tokens_in left ++ others) rest
+    → LeadsOn m s o args bound (tokens_in left ++ others) rest
 
 -- Whatever the others hold: where the hand with their tokens makes a reached state, an exchange of a transition or
 -- property that does not fail is a declared step of the whole, whatever the bound of numbers.
@@ -84,7 +90,7 @@ ProjectsOf fits m = (o : OperationTree) → Contains m.ops o → (IsInit o → �
     → (s : State) → join_of m.fields (tokens_in hand ++ others) kept ≡ Some s → IsReached m s
     → (whole : State) → (whole ≡ s) ⊎ (is_plain m.fields o ≡ true)
     → (x : Exchanged) → exchange_in fits m.fields o args tokens given whole hand kept ≡ Ok x
-    → LeadsOn m s o args (tokens_in x.hand ++ others) x.kept
+    → LeadsOn m s o args x.bound (tokens_in x.hand ++ others) x.kept
 
 -- so of every proved machine
 abbrev pub Projects : (ℤ → Bool) → Type 0
@@ -108,18 +114,22 @@ AreBlank (f ∷ fs) (v ∷ vs) = IsBlank (sort_of f.strategy) v × AreBlank fs v
 AreBlank [] (v ∷ vs) = ⊥
 AreBlank (f ∷ fs) [] = ⊥
 
-pub record Begins (m : MachineTree) (o : OperationTree) (args : List ℤ) (bag : List Token) (kept : Kept) : Type 0 where
+-- The tokens are, with what is kept, the shards of a state that an init gives, and so of its valuation.
+pub record Begins (m : MachineTree) (o : OperationTree) (args bound : List ℤ) (bag : List Token) (kept : Kept) : Type 0 where
   pub sound : AreSoundShards m.fields bag kept
   pub state : State
   pub joined : join_of m.fields bag kept ≡ Some state
   pub start : Starts m o args state
+  pub answered : AreGiven (bound_names o.steps) bound start.names
+  pub safe : IsKeptSafe m.fields start.names (first_values m.fields o.mode) o.steps
 
 -- The exchange of an init that leaves this hand and these records is a declared start, where the machine is proved, the
 -- names are as many as are wanted and apart, and the hand had permissions alone, and nothing was recorded or stored.
-abbrev pub IsStart : MachineTree → OperationTree → List ℤ → List ℕ → List ℕ → List Held → Kept → List Held → Kept → Type 0
-IsStart m o args tokens given hand kept left rest = IsProved m → Contains m.ops o → IsInit o → length args ≡ length o.params → AreNames m.fields o tokens given hand
+abbrev pub IsStart : MachineTree → OperationTree → List ℤ → List ℕ → List ℕ → List Held → Kept → List ℤ → List Held → Kept → Type 0
+IsStart m o args tokens given hand kept bound left rest = IsProved m → Contains m.ops o → IsInit o → length args ≡ length o.params
+    → AreNames m.fields o tokens given hand
     → ArePermissions (tokens_in hand) → AreBlank m.fields kept.records → kept.stored ≡ []
-    → Begins m o args (tokens_in left) rest
+    → Begins m o args bound (tokens_in left) rest
 
 -- The exchange of an init by a holder of permissions alone, where nothing is recorded or stored, is a declared start.
 abbrev pub InitialisesOf : (ℤ → Bool) → MachineTree → Type 0
@@ -128,7 +138,7 @@ InitialisesOf fits m = (o : OperationTree) → Contains m.ops o → IsInit o
     → (tokens given : List ℕ) (hand : List Held) → AreNames m.fields o tokens given hand
     → ArePermissions (tokens_in hand) → (kept : Kept) → AreBlank m.fields kept.records → kept.stored ≡ []
     → (whole : State) (x : Exchanged) → exchange_in fits m.fields o args tokens given whole hand kept ≡ Ok x
-    → Begins m o args (tokens_in x.hand) x.kept
+    → Begins m o args x.bound (tokens_in x.hand) x.kept
 
 -- so of every proved machine
 abbrev pub Initialises : (ℤ → Bool) → Type 0
@@ -138,6 +148,7 @@ Initialises fits = (m : MachineTree) → IsProved m → InitialisesOf fits m
 
 -- the exchange of a plain operation does not depend on the whole state
 abbrev pub ReadsNoState : (ℤ → Bool) → Type 0
-ReadsNoState fits = (m : MachineTree) → AreTextNames m → machine_fault m ≡ None → strategy_fault m ≡ None → (o : OperationTree) → Contains m.ops o → is_plain m.fields o ≡ true
+ReadsNoState fits = (m : MachineTree) → AreTextNames m → machine_fault m ≡ None → strategy_fault m ≡ None
+    → (o : OperationTree) → Contains m.ops o → is_plain m.fields o ≡ true
     → (args : List ℤ) (tokens given : List ℕ) (hand : List Held) (kept : Kept) (one other : State)
     → exchange_in fits m.fields o args tokens given one hand kept ≡ exchange_in fits m.fields o args tokens given other hand kept

@@ -36,6 +36,13 @@ merged_of a t b u into hs = replaced a (held into t (t.value +ℤ u.value)) (dro
 abbrev pub copied_of : Token → ℕ → List Held → List Held
 copied_of t new hs = hs ++ held new t t.value ∷ []
 
+-- what holds of the token of a name, if there is one, and of those of two names
+abbrev pub OfHeld : List Held → ℕ → (Token → Type 0) → Type 0
+OfHeld hs name P = (t : Token) → held_as name hs ≡ Some t → P t
+
+abbrev pub OfBoth : List Held → ℕ → ℕ → (Token → Token → Type 0) → Type 0
+OfBoth hs a b P = (t u : Token) → held_as a hs ≡ Some t → held_as b hs ≡ Some u → P t u
+
 -- there is a token of this name
 abbrev pub IsHeld : List Held → ℕ → Type 0
 IsHeld hs name = (t : Token) × (held_as name hs ≡ Some t)

@@ -1,23 +1,26 @@
 -- What the parts of an exchange under way stand for.
-use Rattle.std.specs.Prelude.{◌≡◌, ℕ, ℤ, pos, Bool, true, false, List, [], ◌∷◌, ◌++◌, length, map, drop, slice_index_or, slice_set, nat_lt, nat_eq, if◌then◌else◌, Option, Some, None}
+use Rattle.std.specs.Prelude.{◌≡◌, ℕ, ℤ, pos, Bool, true, false, List, [], ◌∷◌, ◌++◌, length, map, drop, slice_index_or, slice_set, nat_lt, nat_eq, if◌then◌else◌, Option, Some, None, Result, filter_map}
+use Rattle.std.specs.List.{range_with_len}
 use Rattle.std.specs.Ordering.{int_eq}
 use Rattle.sync_base.specs.Outcome.{first, ◌>>=◌}
 use Rattle.sync_terms.specs.declared.nodes.Sym.{Sym}
 use Rattle.sync_terms.specs.Maps as maps
-use Rattle.sync_terms.specs.Values.{Valuation, with_value}
+use Rattle.sync_terms.specs.Trees.{Tree, Formula}
+use Rattle.sync_terms.specs.Values.{Valuation, num, mapped, truth, with_value}
 use Rattle.sync_machine.specs.declared.fields.Field.{Field}
 use Rattle.sync_base.specs.declared.strategies.Strategy.{Strategy}
 use Rattle.sync_base.specs.declared.strategies.Strategy.TheVariants.{Variable, Constant, NotTokenized, Option as OptionField, Map, Set, Multiset, Count, PersistentOption, PersistentMap, PersistentSet, PersistentCount, StorageMap}
 use Rattle.sync_machine.specs.States.{Value, Number, Mapped, State, Sort, Numbers, Maps, strategy_at}
-use Rattle.sync_machine.specs.Machines.{PatternTree, Bind, Term, StepTree}
-use Rattle.sync_machine.specs.Statements.{one}
+use Rattle.sync_machine.specs.Machines.{PatternTree, Bind, Term, PlaceTree, ActTree, StepTree}
+use Rattle.sync_machine.specs.Statements.{one, or_one}
 use Rattle.sync_machine.specs.Views.{symbols_of}
-use Rattle.sync_exchange_values.specs.Fitting.{number_fits}
+use Rattle.sync_entries.specs.Narrow.{is_narrow}
+use Rattle.sync_exchange_values.specs.Fitting.{number_fits, map_fits, form_fits}
 use Rattle.sync_join.specs.declared.tokens.Token.{Token}
 use Rattle.sync_join.specs.Shards.{Kept}
 use Rattle.sync_join.specs.Join.{entries_of, number_of, tokens_of, map_of}
 use Rattle.sync_join.specs.Views.{value_tree}
-use Rattle.sync_rules.specs.Slots.{SlotTree}
+use Rattle.sync_rules.specs.Slots.{SlotTree, field_slot}
 use Rattle.sync_exchange.specs.declared.hands.Held.{Held}
 use Rattle.sync_exchange.specs.declared.changes.Change.{Change}
 use Rattle.sync_exchange.specs.declared.changes.Change.TheVariants as change
@@ -27,9 +30,13 @@ use Rattle.sync_exchange.specs.declared.scopes.Outer.{Outer}
 use Rattle.sync_exchange.specs.declared.works.Named.{Named}
 use Rattle.sync_exchange.specs.declared.works.Work.{Work}
 use Rattle.sync_exchange.specs.declared.works.Finished.{Finished}
+use Rattle.sync_exchange.specs.declared.cases.Asked.{Asked}
 use Rattle.sync_exchange.specs.declared.cases.Case.{Case}
+use Rattle.sync_exchange.specs.declared.evaluation.Found.{Found}
+use Rattle.sync_exchange.specs.declared.hands.XStop.{XStop}
 use Rattle.sync_join.specs.declared.values.Value.{Value as StoredValue}
-use Rattle.sync_exchange.specs.Exchange.{Exchanging, Exchanged, Answer, seen, argument, use_variables, does_all}
+use Rattle.sync_exchange.specs.Exchange.{Exchanging, Exchanged, Answer, seen, argument, key_at, amount_at, place_fits, value_fits, new_value, asked_token, asked_object, use_variables, does, does_all}
+use Rattle.sync_exchange.specs.Outcomes.{Gives, Leaves, Measures}
 
 -- ---- records
 
@@ -60,28 +67,18 @@ laid_over (Some w ∷ ns) (v ∷ vs) = w ∷ laid_over ns vs
 
 -- a token, with another value where it has this name
 abbrev pub revalued_as : ℕ → ℤ → Held → Held
-revalued_as name n h = if nat_eq name h.name then record { name = h.name; token = record { field = h.token.field; key = h.token.key; value = n } } else h
+revalued_as name n h = if nat_eq name h.name then record h { token = record h.token { value = n } } else h
 
 -- ---- what symbols stand for
 
 -- a stored field's map is at hand; all else is seen as ever
 abbrev pub seen_with : Strategy → List maps.Map → Kept → State → ℕ → Value
 seen_with StorageMap stores kept whole f = Mapped (slice_index_or stores f maps.nil)
-seen_with Constant stores kept whole f = seen Constant kept whole f
-seen_with NotTokenized stores kept whole f = seen NotTokenized kept whole f
-seen_with PersistentOption stores kept whole f = seen PersistentOption kept whole f
-seen_with PersistentMap stores kept whole f = seen PersistentMap kept whole f
-seen_with PersistentSet stores kept whole f = seen PersistentSet kept whole f
-seen_with PersistentCount stores kept whole f = seen PersistentCount kept whole f
-seen_with Variable stores kept whole f = seen Variable kept whole f
-seen_with OptionField stores kept whole f = seen OptionField kept whole f
-seen_with Map stores kept whole f = seen Map kept whole f
-seen_with Set stores kept whole f = seen Set kept whole f
-seen_with Multiset stores kept whole f = seen Multiset kept whole f
-seen_with Count stores kept whole f = seen Count kept whole f
+seen_with s stores kept whole f = seen s kept whole f
 
 abbrev pub outer_value : Outer → ℕ → Value
-outer_value o x = seen_with (strategy_at o.fields.now x) o.stores.now (record { records = map value_tree o.records.now; stored = [] }) (map value_tree o.whole.now) x
+outer_value o x =
+    seen_with (strategy_at o.fields.now x) o.stores.now (record { records = map value_tree o.records.now; stored = [] }) (map value_tree o.whole.now) x
 
 abbrev pub outer_number : Outer → ℕ → ℤ
 outer_number o x = if nat_lt x (length o.fields.now) then number_of (outer_value o x) else argument (symbols_of o.params.now) o.args.now x
@@ -163,6 +160,82 @@ goes_through fits fs slots steps x = use_variables slots x >>= does_all fits fs 
 -- what symbols stand for before the first slot, from plain lists
 abbrev pub meaning_of : List Field → List Sym → List ℤ → List StoredValue → List maps.Map → List StoredValue → Valuation
 meaning_of fs ps args rs stores whole = record {
-  number = λ x. if nat_lt x (length fs) then number_of (seen_with (strategy_at fs x) stores (record { records = map value_tree rs; stored = [] }) (map value_tree whole) x) else argument (symbols_of ps) args x;
-  mapping = λ x. entries_of (seen_with (strategy_at fs x) stores (record { records = map value_tree rs; stored = [] }) (map value_tree whole) x);
+  number = λ x. if nat_lt x (length fs) then number_of (value x) else argument (symbols_of ps) args x;
+  mapping = λ x. entries_of (value x);
+} where
+  value : ℕ → Value
+  value x = seen_with (strategy_at fs x) stores (record { records = map value_tree rs; stored = [] }) (map value_tree whole) x
+
+-- ---- what the parts of the code say
+
+-- behind a statement the work is as the definition has it, or it stopped as the definition stops
+abbrev pub ActsAt : {A : Type 0} → Result A XStop → Case → StepTree → Work → Work → Type 0
+ActsAt result c step old new = Leaves result (now_of c new) (does is_narrow c.outer.fields.now step (now_of c old))
+
+-- so it is of what a statement does, at whatever line
+abbrev pub ActsAs : {A : Type 0} → Result A XStop → Case → ActTree → Work → Work → Type 0
+ActsAs result c act old new = (line : ℕ) → ActsAt result c (record { act = act; line = line }) old new
+
+-- the number, the map and the truth that the symbols make of a term or a formula here
+abbrev pub MeasuresNumber : Result ℤ XStop → Case → Work → Tree → Type 0
+MeasuresNumber result c w t = Measures (λ (n : ℤ). n) result (number_fits is_narrow (now_of c w).names t) (num (now_of c w).names t)
+
+abbrev pub MeasuresMap : Result maps.Map XStop → Case → Work → Tree → Type 0
+MeasuresMap result c w t = Measures (λ (m : maps.Map). m) result (map_fits is_narrow (now_of c w).names t) (mapped (now_of c w).names t)
+
+abbrev pub MeasuresTruth : Result Bool XStop → Case → Work → Formula → Type 0
+MeasuresTruth result c w f = Measures (λ (b : Bool). b) result (form_fits is_narrow (now_of c w).names f) (truth (now_of c w).names f)
+
+-- the value that a term gives a field
+abbrev pub MeasuresValue : Result StoredValue XStop → Case → Work → ℕ → Tree → Type 0
+MeasuresValue result c w f t =
+    Measures value_tree result (value_fits is_narrow c.outer.fields.now f t (now_of c w)) (new_value c.outer.fields.now f t (now_of c w))
+
+-- the value or the amount that a place asks for
+abbrev pub MeasuresAmount : Result ℤ XStop → Case → Work → Option PatternTree → Type 0
+MeasuresAmount result c w p =
+    Measures (λ (n : ℤ). n) result (amount_fits is_narrow (now_of c w).names p) (num (now_of c w).names (or_one p))
+
+-- the key and the value that a place asks for
+abbrev pub asked_at : Case → Work → PlaceTree → Asked
+asked_at c w p = record { key = key_at p (now_of c w); value = amount_at p (now_of c w) }
+
+abbrev pub MeasuresAsked : Result Asked XStop → Case → Work → PlaceTree → Type 0
+MeasuresAsked result c w p = Measures (λ (a : Asked). a) result (place_fits is_narrow p (now_of c w)) (asked_at c w p)
+
+-- the token or the object that a place asks for
+abbrev pub FindsToken : Result Found XStop → Case → Work → ℕ → PlaceTree → Type 0
+FindsToken result c w f p = (next : ℤ → Exchanging)
+    → Gives (λ (m : Found). next m.token.value) result (asked_token is_narrow f p (now_of c w) (λ (t : Token). next t.value))
+
+abbrev pub FindsObject : Result Found XStop → Case → Work → ℕ → PlaceTree → Type 0
+FindsObject result c w f p = (next : ℤ → Exchanging)
+    → Gives (λ (m : Found). next m.token.value) result (asked_object is_narrow f p (now_of c w) next)
+
+-- before the first slot
+abbrev pub fresh : List Held → List Token → Work
+fresh hand stored = record {
+  known = [];
+  slot = 0;
+  tokens = 0;
+  given = 0;
+  variables = [];
+  hand = hand;
+  entered = [];
+  changes = [];
+  stored = stored;
+  bound = [];
+}
+
+-- the slots of variables and then the statements, from here on
+abbrev pub goes_on : Case → List StepTree → Work → Answer
+goes_on c steps w =
+    goes_through is_narrow c.outer.fields.now (filter_map (field_slot c.m.now.fields steps) (range_with_len 0 (length c.m.now.fields))) steps (now_of c w)
+
+-- what is left of these records and the work
+abbrev pub left_by : Work → List StoredValue → Exchanged
+left_by w vs = record {
+  hand = w.hand ++ w.entered;
+  kept = record { records = recorded w.changes (map value_tree vs); stored = w.stored };
+  bound = w.bound;
 }

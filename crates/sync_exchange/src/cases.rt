@@ -7,12 +7,15 @@ ghost use Rattle.sync_exchange.specs.Works as works;
 
 use crate::changes::Change;
 use crate::scopes::Outer;
+use std::alloc::Global;
 use sync_join::Token;
 use sync_machine::Machine;
 
-/// A machine, what symbols stand for before the first slot, and the names that are said slot by slot.
+/// Where memory comes from, a machine, what symbols stand for before the first slot, and the names that are said slot by
+/// slot.
 #[derive(Clone, Copy)]
 pub(crate) struct Case<'a> {
+    pub alloc: Global,
     pub m: &'a Machine,
     pub outer: Outer<'a>,
     pub tokens: &'a [u32],
@@ -35,17 +38,6 @@ impl Asked {
             field,
             key: self.key,
             value: self.value,
-        }
-    }
-
-    /// A token of a field with this key and the value of another token.
-    pub(crate) fn like(self, field: u32, token: Token) -> Token
-        ensures { result ≡ record { field = field; key = self.key; value = token.value } }
-    {
-        Token {
-            field,
-            key: self.key,
-            value: token.value,
         }
     }
 

@@ -1,18 +1,13 @@
 //! Exchanges: operations of a machine done locally, on the tokens of one holder.
-ghost use Rattle.std.specs.Prelude.{◌≡◌, ◌++◌, [], ◌<◌, List, length, map, filter_map, slice_get, Some, unwrap_or, option_map, IfOk, OnErr};
-ghost use Rattle.std.specs.List.{AllByRecursion, range_with_len};
+ghost use Rattle.std.specs.Prelude.{◌≡◌, ◌<◌, length, map, IfOk, OnErr};
+ghost use Rattle.std.specs.List.{AllByRecursion};
 ghost use Rattle.sync_machine.specs.Machines.{OperationTree};
-ghost use Rattle.sync_machine.specs.States as states;
-ghost use Rattle.sync_machine.specs.Views.{machine_tree, steps_tree, HasActIds, HasOwnIds};
+ghost use Rattle.sync_machine.specs.Views.{steps_tree, HasActIds, HasOwnIds};
 ghost use Rattle.sync_machine.specs.declared.machine.Step.{Step as Statement};
-ghost use Rattle.sync_exchange_values.specs.Narrow.{is_narrow};
-ghost use Rattle.sync_join.specs.Views.{value_tree, state_tree, kept_of};
-ghost use Rattle.sync_rules.specs.Slots.{field_slot};
-ghost use Rattle.sync_exchange.specs.Exchange as exchanges;
-ghost use Rattle.sync_exchange.specs.Exchange.{exchange_in};
-ghost use Rattle.sync_exchange.specs.Projection.{IsStep, IsStart};
+ghost use Rattle.sync_join.specs.Views.{value_tree, kept_of};
+ghost use Rattle.sync_exchange.specs.Calls.{IsOperation, whole_of, exchange_at, IsStepAt, IsStartAt};
 ghost use Rattle.sync_exchange.specs.Outcomes.{Gives, Leaves, Exchanges};
-ghost use Rattle.sync_exchange.specs.Works.{now_of, recorded, finished, goes_through};
+ghost use Rattle.sync_exchange.specs.Works.{now_of, finished, fresh, left_by, goes_on};
 
 use crate::cases::Case;
 use crate::changes::{made, settle};
@@ -49,10 +44,10 @@ pub fn exchange(
 ) -> Result<Bound, XStop>
     requires ids { HasOwnIds m.now }
     requires op { op < length m.now.ops }
-    ensures exact { (o : OperationTree) → slice_get (machine_tree m.now).ops op ≡ Some o → Exchanges result hand.new.held (kept_of rest.new) (exchange_in is_narrow m.now.fields o args.now names.now.tokens names.now.given (unwrap_or (option_map (λ s. state_tree s.now) whole.entry) []) hand.old.held (kept_of rest.old)) }
+    ensures exact { (o : OperationTree) → IsOperation m.now op o → Exchanges result hand.new.held (kept_of rest.new) (exchange_at m.now o args.now names.now (whole_of whole.entry) hand.old rest.old) }
     ensures unchanged { OnErr result ((hand.new ≡ hand.old) × (rest.new ≡ rest.old)) }
-    ensures steps { IfOk result (λ b. (o : OperationTree) → slice_get (machine_tree m.now).ops op ≡ Some o → IsStep (machine_tree m.now) o args.now names.now.tokens names.now.given (unwrap_or (option_map (λ s. state_tree s.now) whole.entry) []) hand.old.held (kept_of rest.old) hand.new.held (kept_of rest.new)) }
-    ensures starts { IfOk result (λ b. (o : OperationTree) → slice_get (machine_tree m.now).ops op ≡ Some o → IsStart (machine_tree m.now) o args.now names.now.tokens names.now.given hand.old.held (kept_of rest.old) hand.new.held (kept_of rest.new)) }
+    ensures steps { IfOk result (λ b. (o : OperationTree) → IsOperation m.now op o → IsStepAt m.now o args.now names.now (whole_of whole.entry) hand.old rest.old b hand.new rest.new) }
+    ensures starts { IfOk result (λ b. (o : OperationTree) → IsOperation m.now op o → IsStartAt m.now o args.now names.now hand.old rest.old b hand.new rest.new) }
 {
     exchange_exactly(alloc, m, op, args, names, whole, hand, rest)
 }
@@ -70,7 +65,7 @@ fn exchange_exactly(
 ) -> Result<Bound, XStop>
     requires ids { HasOwnIds m.now }
     requires op { op < length m.now.ops }
-    ensures exact { (o : OperationTree) → slice_get (machine_tree m.now).ops op ≡ Some o → Exchanges result hand.new.held (kept_of rest.new) (exchange_in is_narrow m.now.fields o args.now names.now.tokens names.now.given (unwrap_or (option_map (λ s. state_tree s.now) whole.entry) []) hand.old.held (kept_of rest.old)) }
+    ensures exact { (o : OperationTree) → IsOperation m.now op o → Exchanges result hand.new.held (kept_of rest.new) (exchange_at m.now o args.now names.now (whole_of whole.entry) hand.old rest.old) }
     ensures unchanged { OnErr result ((hand.new ≡ hand.old) × (rest.new ≡ rest.old)) }
 {
     let done = run(alloc, m, op, args, names, values_of(whole), hand, rest)?;
@@ -88,7 +83,7 @@ fn exchange_exactly(
 
 /// The values of a state, if there is one.
 fn values_of(whole: Option<&State>) -> &[Value]
-    ensures { map value_tree result.now ≡ unwrap_or (option_map (λ s. state_tree s.now) whole.entry) [] }
+    ensures { map value_tree result.now ≡ whole_of whole.entry }
 {
     match whole {
         Some(state) => state.values.as_slice(),
@@ -109,7 +104,7 @@ fn run<'x>(
 ) -> Result<Finished, XStop>
     requires ids { HasOwnIds m.now }
     requires op { op < length m.now.ops }
-    ensures exact { (o : OperationTree) → slice_get (machine_tree m.now).ops op ≡ Some o → Gives (finished rest.now.records) result (exchange_in is_narrow m.now.fields o args.now names.now.tokens names.now.given (map value_tree whole.now) hand.now.held (kept_of rest.now)) }
+    ensures exact { (o : OperationTree) → IsOperation m.now op o → Gives (finished rest.now.records) result (exchange_at m.now o args.now names.now (map value_tree whole.now) hand.now rest.now) }
     ensures len { IfOk result (λ x. length x.records ≡ length rest.now.records) }
 {
     let operation = &m.ops.as_slice()[op as usize];
@@ -125,20 +120,21 @@ fn run<'x>(
         whole,
     };
     let case = Case {
+        alloc,
         m,
         outer,
         tokens: names.tokens.as_slice(),
         given: names.given.as_slice(),
     };
     let mut work = Work::new(alloc, hand, rest)?;
-    work.run(alloc, &case, operation.steps.as_slice())?;
+    work.run(&case, operation.steps.as_slice())?;
     Ok(work.finish(alloc, records)?)
 }
 
 impl Work {
     /// Before the first slot.
     fn new(alloc: Global, hand: &Hand, rest: &Rest) -> Result<Work, NoMemory>
-        ensures { IfOk result (λ w. w ≡ record { known = []; slot = 0; tokens = 0; given = 0; variables = []; hand = hand.now.held; entered = []; changes = []; stored = rest.now.stored; bound = [] }) }
+        ensures { IfOk result (λ w. w ≡ fresh hand.now.held rest.now.stored) }
     {
         Ok(Work {
             known: Items::new(alloc),
@@ -155,18 +151,18 @@ impl Work {
     }
 
     /// The slots of variables, and then the statements.
-    fn run(&mut self, alloc: Global, case: &Case<'_>, steps: &[Step]) -> Result<(), XStop>
+    fn run(&mut self, case: &Case<'_>, steps: &[Step]) -> Result<(), XStop>
         requires { AllByRecursion (λ (s : Statement). HasActIds case.now.m.now.terms s.act) steps.now }
-        ensures { Leaves result (now_of case.now self.new) (goes_through is_narrow case.now.outer.fields.now (filter_map (field_slot case.now.m.now.fields (steps_tree case.now.m.now.terms steps.now)) (range_with_len 0 (length case.now.m.now.fields))) (steps_tree case.now.m.now.terms steps.now) (now_of case.now self.old)) }
+        ensures { Leaves result (now_of case.now self.new) (goes_on case.now (steps_tree case.now.m.now.terms steps.now) self.old) }
     {
-        let slots = variable_slots(alloc, case.m, steps)?;
+        let slots = variable_slots(case.alloc, case.m, steps)?;
         self.use_variables(case, slots.as_slice())?;
-        self.act_all(alloc, case, steps)
+        self.act_all(case, steps)
     }
 
     /// What the exchange leaves behind the last statement.
     fn finish(self, alloc: Global, records: &[Value]) -> Result<Finished, NoMemory>
-        ensures exact { IfOk result (λ x. finished records.now x ≡ record { hand = self.hand ++ self.entered; kept = record { records = recorded self.changes (map value_tree records.now); stored = self.stored }; bound = self.bound }) }
+        ensures exact { IfOk result (λ x. finished records.now x ≡ left_by self records.now) }
         ensures len { IfOk result (λ x. length x.records ≡ length records.now) }
     {
         let news = made(alloc, records, self.changes.as_slice())?;

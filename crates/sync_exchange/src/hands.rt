@@ -161,8 +161,8 @@ pub(crate) fn revalued(
 }
 
 /// Whether an object is stored at a key.
-fn is_stored_at(t: Token, field: u32, key: i128) -> bool
-    ensures { result ≡ exchanges.is_stored_at field key t }
+fn is_at_place(t: Token, field: u32, key: i128) -> bool
+    ensures { result ≡ exchanges.is_at_place field key t }
 {
     field == t.field && key == t.key
 }
@@ -172,7 +172,7 @@ pub(crate) fn stored_at(stored: &[Token], field: u32, key: i128) -> Option<Token
     ensures { option_map (λ (t : Piece). t.value) result ≡ exchanges.stored_at field key stored.now }
 {
     for t in stored {
-        if is_stored_at(*t, field, key) {
+        if is_at_place(*t, field, key) {
             return Some(*t);
         }
     }
@@ -190,7 +190,7 @@ pub(crate) fn withdrawn(
 {
     let mut left = Items::new(alloc);
     for t in stored {
-        if is_stored_at(*t, field, key) {
+        if is_at_place(*t, field, key) {
             continue;
         }
         left.push(*t)?;

@@ -1,12 +1,10 @@
 //! Tokens that are split, merged and copied.
-ghost use Rattle.std.specs.Prelude.{◌≡◌, ◌≢◌, pos, ◌+ℤ◌, ◌-ℤ◌, ◌≤ℤ◌, position, nat_eq, true, Some, OnOk, OnErr, FitsSigned};
+ghost use Rattle.std.specs.Prelude.{◌≡◌, ◌≢◌, pos, ◌+ℤ◌, ◌-ℤ◌, ◌≤ℤ◌, position, nat_eq, true, OnOk, OnErr, FitsSigned};
 ghost use Rattle.std.specs.Int.{w128};
-ghost use Rattle.sync_join.specs.declared.tokens.Token.{Token as Piece};
 ghost use Rattle.sync_exchange.specs.declared.hands.Held.{Held as Owned};
-ghost use Rattle.sync_exchange.specs.Exchange as exchanges;
 ghost use Rattle.sync_base.specs.declared.strategies.Strategy.TheVariants.{Count};
 ghost use Rattle.sync_machine.specs.States.{strategy_at};
-ghost use Rattle.sync_exchange.specs.Splitting.{held, split_of, merged_of, copied_of, is_persistent, IsHeld, KeepsShards};
+ghost use Rattle.sync_exchange.specs.Splitting.{held, split_of, merged_of, copied_of, is_persistent, OfHeld, OfBoth, IsHeld, KeepsShards};
 
 use crate::hands::{Hand, Held};
 use std::alloc::Global;
@@ -60,26 +58,9 @@ pub fn split_token(
 ) -> Result<(), NoMemory>
     requires held { IsHeld hand.old.held name }
     requires natural { pos 0 ≤ℤ amount }
-    requires within { (t : Piece) → exchanges.held_as name hand.old.held ≡ Some t → amount ≤ℤ t.value }
-    ensures split { (t : Piece) → exchanges.held_as name hand.old.held ≡ Some t → OnOk result (hand.new.held ≡ split_of name t amount first second hand.old.held) }
-    ensures keeps { (t : Piece) → exchanges.held_as name hand.old.held ≡ Some t → strategy_at _m.now.fields t.field ≡ Count → OnOk result (KeepsShards _m.now.fields hand.old.held hand.new.held) }
-    ensures unchanged { OnErr result (hand.new ≡ hand.old) }
-{
-    split_exactly(hand, name, amount, first, second)
-}
-
-/// The same, without what it means for the whole.
-fn split_exactly(
-    hand: &mut Hand,
-    name: u32,
-    amount: i128,
-    first: u32,
-    second: u32,
-) -> Result<(), NoMemory>
-    requires held { IsHeld hand.old.held name }
-    requires natural { pos 0 ≤ℤ amount }
-    requires within { (t : Piece) → exchanges.held_as name hand.old.held ≡ Some t → amount ≤ℤ t.value }
-    ensures split { (t : Piece) → exchanges.held_as name hand.old.held ≡ Some t → OnOk result (hand.new.held ≡ split_of name t amount first second hand.old.held) }
+    requires within { OfHeld hand.old.held name (λ t. amount ≤ℤ t.value) }
+    ensures split { OfHeld hand.old.held name (λ t. OnOk result (hand.new.held ≡ split_of name t amount first second hand.old.held)) }
+    ensures keeps { OfHeld hand.old.held name (λ t. strategy_at _m.now.fields t.field ≡ Count → OnOk result (KeepsShards _m.now.fields hand.old.held hand.new.held)) }
     ensures unchanged { OnErr result (hand.new ≡ hand.old) }
 {
     let Some(at) = place_of(hand.held.as_slice(), name) else {
@@ -99,20 +80,9 @@ pub fn merge_tokens(_m: &Machine, hand: &mut Hand, a: u32, b: u32, into: u32)
     requires first { IsHeld hand.old.held a }
     requires second { IsHeld hand.old.held b }
     requires apart { a ≢ b }
-    requires fits { (t u : Piece) → exchanges.held_as a hand.old.held ≡ Some t → exchanges.held_as b hand.old.held ≡ Some u → FitsSigned w128 (t.value +ℤ u.value) }
-    ensures merged { (t u : Piece) → exchanges.held_as a hand.old.held ≡ Some t → exchanges.held_as b hand.old.held ≡ Some u → hand.new.held ≡ merged_of a t b u into hand.old.held }
-    ensures keeps { (t u : Piece) → exchanges.held_as a hand.old.held ≡ Some t → exchanges.held_as b hand.old.held ≡ Some u → u.field ≡ t.field → strategy_at _m.now.fields t.field ≡ Count → KeepsShards _m.now.fields hand.old.held hand.new.held }
-{
-    merge_exactly(hand, a, b, into);
-}
-
-/// The same, without what it means for the whole.
-fn merge_exactly(hand: &mut Hand, a: u32, b: u32, into: u32)
-    requires first { IsHeld hand.old.held a }
-    requires second { IsHeld hand.old.held b }
-    requires apart { a ≢ b }
-    requires fits { (t u : Piece) → exchanges.held_as a hand.old.held ≡ Some t → exchanges.held_as b hand.old.held ≡ Some u → FitsSigned w128 (t.value +ℤ u.value) }
-    ensures { (t u : Piece) → exchanges.held_as a hand.old.held ≡ Some t → exchanges.held_as b hand.old.held ≡ Some u → hand.new.held ≡ merged_of a t b u into hand.old.held }
+    requires fits { OfBoth hand.old.held a b (λ t u. FitsSigned w128 (t.value +ℤ u.value)) }
+    ensures merged { OfBoth hand.old.held a b (λ t u. hand.new.held ≡ merged_of a t b u into hand.old.held) }
+    ensures keeps { OfBoth hand.old.held a b (λ t u. u.field ≡ t.field → strategy_at _m.now.fields t.field ≡ Count → KeepsShards _m.now.fields hand.old.held hand.new.held) }
 {
     let Some(second) = place_of(hand.held.as_slice(), b) else {
         unreachable!()
@@ -137,17 +107,8 @@ pub fn copy_token(
     new: u32,
 ) -> Result<(), NoMemory>
     requires { IsHeld hand.old.held name }
-    ensures copied { (t : Piece) → exchanges.held_as name hand.old.held ≡ Some t → OnOk result (hand.new.held ≡ copied_of t new hand.old.held) }
-    ensures keeps { (t : Piece) → exchanges.held_as name hand.old.held ≡ Some t → is_persistent (strategy_at _m.now.fields t.field) ≡ true → OnOk result (KeepsShards _m.now.fields hand.old.held hand.new.held) }
-    ensures unchanged { OnErr result (hand.new ≡ hand.old) }
-{
-    copy_exactly(hand, name, new)
-}
-
-/// The same, without what it means for the whole.
-fn copy_exactly(hand: &mut Hand, name: u32, new: u32) -> Result<(), NoMemory>
-    requires { IsHeld hand.old.held name }
-    ensures copied { (t : Piece) → exchanges.held_as name hand.old.held ≡ Some t → OnOk result (hand.new.held ≡ copied_of t new hand.old.held) }
+    ensures copied { OfHeld hand.old.held name (λ t. OnOk result (hand.new.held ≡ copied_of t new hand.old.held)) }
+    ensures keeps { OfHeld hand.old.held name (λ t. is_persistent (strategy_at _m.now.fields t.field) ≡ true → OnOk result (KeepsShards _m.now.fields hand.old.held hand.new.held)) }
     ensures unchanged { OnErr result (hand.new ≡ hand.old) }
 {
     let Some(at) = place_of(hand.held.as_slice(), name) else {

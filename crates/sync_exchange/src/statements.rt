@@ -1,26 +1,25 @@
 //! The slots of variables and the statements of an operation, one at a time.
-ghost use Rattle.std.specs.Prelude.{◌≡◌, ℕ, pos, map, OnOk};
+ghost use Rattle.std.specs.Prelude.{◌≡◌, pos, OnOk};
 ghost use Rattle.std.specs.List.{AllByRecursion};
 ghost use Rattle.sync_terms.specs.Stored.{tree, formula, IsTerm, IsForm};
 ghost use Rattle.sync_machine.specs.Machines as acts;
 ghost use Rattle.sync_machine.specs.States as states;
 ghost use Rattle.sync_machine.specs.Views.{step_tree, steps_tree, act_tree, place_tree, HasActIds, HasPlaceIds};
 ghost use Rattle.sync_machine.specs.declared.machine.Step.{Step as Statement};
-ghost use Rattle.sync_exchange_values.specs.Narrow.{is_narrow};
+ghost use Rattle.sync_entries.specs.Narrow.{is_narrow};
 ghost use Rattle.sync_join.specs.Join as shards;
 ghost use Rattle.sync_join.specs.Views.{value_tree};
 ghost use Rattle.sync_rules.specs.Views.{slots_tree};
 ghost use Rattle.sync_exchange.specs.Exchange as exchanges;
-ghost use Rattle.sync_exchange.specs.Exchange.{does, does_all};
+ghost use Rattle.sync_exchange.specs.Exchange.{does_all};
 ghost use Rattle.sync_exchange.specs.Outcomes.{Leaves};
-ghost use Rattle.sync_exchange.specs.Works.{now_of, changed};
+ghost use Rattle.sync_exchange.specs.Works.{now_of, changed, ActsAt, ActsAs};
 
 use crate::cases::{Asked, Case};
 use crate::changes::Change;
-use crate::evaluation::{binds, is_of_variable};
+use crate::evaluation::{Found, binds, is_of_variable};
 use crate::hands::XStop;
 use crate::works::Work;
-use std::alloc::Global;
 use sync_base::NoMemory;
 use sync_join::{PERM, Token, Value};
 use sync_machine::{Act, Place, Step, Strategy, strategy_at};
@@ -45,6 +44,17 @@ fn amount(field: u32, value: &Value) -> Token
         field,
         key: 0,
         value: number(value),
+    }
+}
+
+/// The permission of an object that was found.
+fn permission(found: Found) -> Token
+    ensures { result ≡ exchanges.permission found.asked.key found.token.value }
+{
+    Token {
+        field: PERM,
+        key: found.asked.key,
+        value: found.token.value,
     }
 }
 
@@ -111,34 +121,22 @@ impl Work {
     }
 
     /// A require: it has to be true.
-    fn require(
-        &mut self,
-        alloc: Global,
-        case: &Case<'_>,
-        form: FormId,
-        line: u32,
-    ) -> Result<(), XStop>
+    fn require(&mut self, case: &Case<'_>, form: FormId, line: u32) -> Result<(), XStop>
         requires { IsForm case.now.m.now.terms form }
-        ensures { Leaves result (now_of case.now self.new) (does is_narrow case.now.outer.fields.now (record { act = acts.Require (formula case.now.m.now.terms form); line = line }) (now_of case.now self.old)) }
+        ensures { ActsAt result case.now (record { act = acts.Require (formula case.now.m.now.terms form); line = line }) self.old self.new }
     {
-        if !self.truth(alloc, case, form)? {
+        if !self.truth(case, form)? {
             return Err(XStop::RequireFalse(line));
         }
         Ok(())
     }
 
     /// A field has its first value.
-    fn start(
-        &mut self,
-        alloc: Global,
-        case: &Case<'_>,
-        field: u32,
-        value: Value,
-    ) -> Result<(), NoMemory>
+    fn start(&mut self, case: &Case<'_>, field: u32, value: Value) -> Result<(), NoMemory>
         ensures { OnOk result (now_of case.now self.new ≡ exchanges.started (states.strategy_at case.now.outer.fields.now field) field (value_tree value) (now_of case.now self.old)) }
     {
         match strategy_at(case.outer.fields, field) {
-            Strategy::Variable => self.revalue(alloc, field, number(&value)),
+            Strategy::Variable => self.revalue(case, field, number(&value)),
             Strategy::Count => self.give(case, amount(field, &value)),
             Strategy::PersistentCount => {
                 self.give(case, amount(field, &value))?;
@@ -158,17 +156,11 @@ impl Work {
     }
 
     /// A variable or a field without tokens has a new value.
-    fn change(
-        &mut self,
-        alloc: Global,
-        case: &Case<'_>,
-        field: u32,
-        value: Value,
-    ) -> Result<(), NoMemory>
+    fn change(&mut self, case: &Case<'_>, field: u32, value: Value) -> Result<(), NoMemory>
         ensures { OnOk result (now_of case.now self.new ≡ exchanges.updated (states.strategy_at case.now.outer.fields.now field) field (value_tree value) (now_of case.now self.old)) }
     {
         match strategy_at(case.outer.fields, field) {
-            Strategy::Variable => self.revalue(alloc, field, number(&value)),
+            Strategy::Variable => self.revalue(case, field, number(&value)),
             Strategy::NotTokenized => self.record(field, becomes(value)),
             Strategy::Constant
             | Strategy::Option
@@ -185,54 +177,42 @@ impl Work {
     }
 
     /// The first value of a field.
-    fn init(&mut self, alloc: Global, case: &Case<'_>, field: u32, t: TermId) -> Result<(), XStop>
+    fn init(&mut self, case: &Case<'_>, field: u32, t: TermId) -> Result<(), XStop>
         requires { IsTerm case.now.m.now.terms t }
-        ensures { (line : ℕ) → Leaves result (now_of case.now self.new) (does is_narrow case.now.outer.fields.now (record { act = acts.Init field (tree case.now.m.now.terms t); line = line }) (now_of case.now self.old)) }
+        ensures { ActsAs result case.now (acts.Init field (tree case.now.m.now.terms t)) self.old self.new }
     {
-        let value = self.value(alloc, case, field, t)?;
-        self.start(alloc, case, field, value)?;
+        let value = self.value(case, field, t)?;
+        self.start(case, field, value)?;
         Ok(())
     }
 
     /// A new value of a variable or of a field without tokens.
-    fn update(&mut self, alloc: Global, case: &Case<'_>, field: u32, t: TermId) -> Result<(), XStop>
+    fn update(&mut self, case: &Case<'_>, field: u32, t: TermId) -> Result<(), XStop>
         requires { IsTerm case.now.m.now.terms t }
-        ensures { (line : ℕ) → Leaves result (now_of case.now self.new) (does is_narrow case.now.outer.fields.now (record { act = acts.Update field (tree case.now.m.now.terms t); line = line }) (now_of case.now self.old)) }
+        ensures { ActsAs result case.now (acts.Update field (tree case.now.m.now.terms t)) self.old self.new }
     {
-        let value = self.value(alloc, case, field, t)?;
-        self.change(alloc, case, field, value)?;
+        let value = self.value(case, field, t)?;
+        self.change(case, field, value)?;
         Ok(())
     }
 
     /// A token is taken.
-    fn remove(
-        &mut self,
-        alloc: Global,
-        case: &Case<'_>,
-        field: u32,
-        place: Place,
-    ) -> Result<(), XStop>
+    fn remove(&mut self, case: &Case<'_>, field: u32, place: Place) -> Result<(), XStop>
         requires { HasPlaceIds case.now.m.now.terms place }
-        ensures { (line : ℕ) → Leaves result (now_of case.now self.new) (does is_narrow case.now.outer.fields.now (record { act = acts.Remove field (place_tree case.now.m.now.terms place); line = line }) (now_of case.now self.old)) }
+        ensures { ActsAs result case.now (acts.Remove field (place_tree case.now.m.now.terms place)) self.old self.new }
     {
-        let found = self.asked_token(alloc, case, field, place)?;
-        self.take(alloc, case)?;
+        let found = self.asked_token(case, field, place)?;
+        self.take(case)?;
         self.bind(binds(place), found.token)?;
         Ok(())
     }
 
     /// A token is shown.
-    fn have(
-        &mut self,
-        alloc: Global,
-        case: &Case<'_>,
-        field: u32,
-        place: Place,
-    ) -> Result<(), XStop>
+    fn have(&mut self, case: &Case<'_>, field: u32, place: Place) -> Result<(), XStop>
         requires { HasPlaceIds case.now.m.now.terms place }
-        ensures { (line : ℕ) → Leaves result (now_of case.now self.new) (does is_narrow case.now.outer.fields.now (record { act = acts.Have field (place_tree case.now.m.now.terms place); line = line }) (now_of case.now self.old)) }
+        ensures { ActsAs result case.now (acts.Have field (place_tree case.now.m.now.terms place)) self.old self.new }
     {
-        let found = self.asked_token(alloc, case, field, place)?;
+        let found = self.asked_token(case, field, place)?;
         self.read()?;
         self.bind(binds(place), found.token)?;
         Ok(())
@@ -240,7 +220,7 @@ impl Work {
 
     /// The record of a field behind an addition.
     fn raise(&mut self, case: &Case<'_>, field: u32, asked: Asked) -> Result<(), NoMemory>
-        ensures { OnOk result (now_of case.now self.new ≡ exchanges.recording field (exchanges.raised (states.strategy_at case.now.outer.fields.now field) (shards.record_at (now_of case.now self.old).kept field) asked.key asked.value) (now_of case.now self.old)) }
+        ensures { OnOk result (now_of case.now self.new ≡ exchanges.raising case.now.outer.fields.now field asked.key asked.value (now_of case.now self.old)) }
     {
         match strategy_at(case.outer.fields, field) {
             Strategy::PersistentOption | Strategy::PersistentMap => {
@@ -261,63 +241,45 @@ impl Work {
     }
 
     /// A token is given.
-    fn add(&mut self, alloc: Global, case: &Case<'_>, field: u32, place: Place) -> Result<(), XStop>
+    fn add(&mut self, case: &Case<'_>, field: u32, place: Place) -> Result<(), XStop>
         requires { HasPlaceIds case.now.m.now.terms place }
-        ensures { (line : ℕ) → Leaves result (now_of case.now self.new) (does is_narrow case.now.outer.fields.now (record { act = acts.Add field (place_tree case.now.m.now.terms place); line = line }) (now_of case.now self.old)) }
+        ensures { ActsAs result case.now (acts.Add field (place_tree case.now.m.now.terms place)) self.old self.new }
     {
-        let asked = self.asked(alloc, case, place)?;
+        let asked = self.asked(case, place)?;
         self.give(case, asked.token(field))?;
         self.raise(case, field, asked)?;
         Ok(())
     }
 
     /// A permission is taken, and its object is stored.
-    fn deposit(
-        &mut self,
-        alloc: Global,
-        case: &Case<'_>,
-        field: u32,
-        place: Place,
-    ) -> Result<(), XStop>
+    fn deposit(&mut self, case: &Case<'_>, field: u32, place: Place) -> Result<(), XStop>
         requires { HasPlaceIds case.now.m.now.terms place }
-        ensures { (line : ℕ) → Leaves result (now_of case.now self.new) (does is_narrow case.now.outer.fields.now (record { act = acts.Deposit field (place_tree case.now.m.now.terms place); line = line }) (now_of case.now self.old)) }
+        ensures { ActsAs result case.now (acts.Deposit field (place_tree case.now.m.now.terms place)) self.old self.new }
     {
-        let found = self.asked_token(alloc, case, PERM, place)?;
-        self.take(alloc, case)?;
+        let found = self.asked_token(case, PERM, place)?;
+        self.take(case)?;
         self.store(found.asked.token(field))?;
         Ok(())
     }
 
     /// An object is no longer stored, and its permission is given.
-    fn take_out(
-        &mut self,
-        alloc: Global,
-        case: &Case<'_>,
-        field: u32,
-        place: Place,
-    ) -> Result<(), XStop>
+    fn take_out(&mut self, case: &Case<'_>, field: u32, place: Place) -> Result<(), XStop>
         requires { HasPlaceIds case.now.m.now.terms place }
-        ensures { (line : ℕ) → Leaves result (now_of case.now self.new) (does is_narrow case.now.outer.fields.now (record { act = acts.Withdraw field (place_tree case.now.m.now.terms place); line = line }) (now_of case.now self.old)) }
+        ensures { ActsAs result case.now (acts.Withdraw field (place_tree case.now.m.now.terms place)) self.old self.new }
     {
-        let found = self.asked_object(alloc, case, field, place)?;
-        self.give(case, found.asked.like(PERM, found.token))?;
-        self.withdraw(alloc, field, found.asked)?;
+        let found = self.asked_object(case, field, place)?;
+        self.give(case, permission(found))?;
+        self.withdraw(case, field, found.asked)?;
         self.bind(binds(place), found.token)?;
         Ok(())
     }
 
     /// A stored object is shown.
-    fn guard(
-        &mut self,
-        alloc: Global,
-        case: &Case<'_>,
-        field: u32,
-        place: Place,
-    ) -> Result<(), XStop>
+    fn guard(&mut self, case: &Case<'_>, field: u32, place: Place) -> Result<(), XStop>
         requires { HasPlaceIds case.now.m.now.terms place }
-        ensures { (line : ℕ) → Leaves result (now_of case.now self.new) (does is_narrow case.now.outer.fields.now (record { act = acts.Guard field (place_tree case.now.m.now.terms place); line = line }) (now_of case.now self.old)) }
+        ensures { ActsAs result case.now (acts.Guard field (place_tree case.now.m.now.terms place)) self.old self.new }
     {
-        let found = self.asked_object(alloc, case, field, place)?;
+        let found = self.asked_object(case, field, place)?;
         self.see()?;
         self.bind(binds(place), found.token)?;
         Ok(())
@@ -325,36 +287,31 @@ impl Work {
 
     /// A statement.
     #[tactic(auto, unfolding(crate::specs::Exchange::does))]
-    fn act(&mut self, alloc: Global, case: &Case<'_>, step: &Step) -> Result<(), XStop>
+    fn act(&mut self, case: &Case<'_>, step: &Step) -> Result<(), XStop>
         requires { HasActIds case.now.m.now.terms step.now.act }
-        ensures { Leaves result (now_of case.now self.new) (does is_narrow case.now.outer.fields.now (step_tree case.now.m.now.terms step.now) (now_of case.now self.old)) }
+        ensures { ActsAt result case.now (step_tree case.now.m.now.terms step.now) self.old self.new }
     {
         match step.act {
-            Act::Require(form) => self.require(alloc, case, form, step.line),
+            Act::Require(form) => self.require(case, form, step.line),
             Act::Assert(_) | Act::HaveVariable(_) => Ok(()),
-            Act::Init(field, t) => self.init(alloc, case, field, t),
-            Act::Update(field, t) => self.update(alloc, case, field, t),
-            Act::Remove(field, place) => self.remove(alloc, case, field, place),
-            Act::Have(field, place) => self.have(alloc, case, field, place),
-            Act::Add(field, place) => self.add(alloc, case, field, place),
-            Act::Deposit(field, place) => self.deposit(alloc, case, field, place),
-            Act::Withdraw(field, place) => self.take_out(alloc, case, field, place),
-            Act::Guard(field, place) => self.guard(alloc, case, field, place),
+            Act::Init(field, t) => self.init(case, field, t),
+            Act::Update(field, t) => self.update(case, field, t),
+            Act::Remove(field, place) => self.remove(case, field, place),
+            Act::Have(field, place) => self.have(case, field, place),
+            Act::Add(field, place) => self.add(case, field, place),
+            Act::Deposit(field, place) => self.deposit(case, field, place),
+            Act::Withdraw(field, place) => self.take_out(case, field, place),
+            Act::Guard(field, place) => self.guard(case, field, place),
         }
     }
 
     /// The statements of an operation, one after another.
-    pub(crate) fn act_all(
-        &mut self,
-        alloc: Global,
-        case: &Case<'_>,
-        steps: &[Step],
-    ) -> Result<(), XStop>
+    pub(crate) fn act_all(&mut self, case: &Case<'_>, steps: &[Step]) -> Result<(), XStop>
         requires { AllByRecursion (λ (s : Statement). HasActIds case.now.m.now.terms s.act) steps.now }
         ensures { Leaves result (now_of case.now self.new) (does_all is_narrow case.now.outer.fields.now (steps_tree case.now.m.now.terms steps.now) (now_of case.now self.old)) }
     {
         for step in steps {
-            self.act(alloc, case, step)?;
+            self.act(case, step)?;
         }
         Ok(())
     }

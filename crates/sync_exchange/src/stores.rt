@@ -8,7 +8,7 @@ ghost use Rattle.sync_exchange.specs.Works.{AreStores};
 use sqlite_items::Items;
 use std::alloc::Global;
 use sync_base::NoMemory;
-use sync_join::{Entries, Token};
+use sync_join::{Entries, Token, map_of_tokens};
 use sync_machine::{Field, Strategy, strategy_at};
 
 /// The stored objects of each field as a map; an empty one for other fields than those of a store.
@@ -37,24 +37,8 @@ fn store_of(
     ensures { IfOk result (λ m. states.strategy_at fields.now field ≡ StorageMap → m ≡ shards.map_of (shards.tokens_of field stored.now)) }
 {
     if strategy_at(fields, field) == Strategy::StorageMap {
-        map_of(alloc, stored, field)
+        map_of_tokens(alloc, stored, field)
     } else {
         Ok(Entries::new(alloc))
     }
-}
-
-/// The tokens of a field as a map. Of two tokens with one key the first counts.
-fn map_of(alloc: Global, tokens: &[Token], field: u32) -> Result<Entries, NoMemory>
-    ensures { IfOk result (λ m. m ≡ shards.map_of (shards.tokens_of field tokens.now)) }
-{
-    let mut map = Entries::new(alloc);
-    let mut left = tokens.len();
-    while left > 0 {
-        left -= 1;
-        let token = tokens[left];
-        if token.field == field {
-            map.put(token.key, token.value)?;
-        }
-    }
-    Ok(map)
 }

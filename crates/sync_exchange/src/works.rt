@@ -122,11 +122,11 @@ impl Work {
     }
 
     /// The next slot has taken its token out of the hand.
-    pub(crate) fn take(&mut self, alloc: Global, case: &Case<'_>) -> Result<(), NoMemory>
+    pub(crate) fn take(&mut self, case: &Case<'_>) -> Result<(), NoMemory>
         ensures { OnOk result (under_way (base_of case.now) self.new ≡ after_taking (under_way (base_of case.now) self.old)) }
     {
         let name = self.token_name(case);
-        self.hand = without(alloc, self.hand.as_slice(), name)?;
+        self.hand = without(case.alloc, self.hand.as_slice(), name)?;
         self.slot = more(self.slot)?;
         self.tokens = more(self.tokens)?;
         Ok(())
@@ -196,28 +196,28 @@ impl Work {
     /// The object at a key is no longer stored.
     pub(crate) fn withdraw(
         &mut self,
-        alloc: Global,
+        case: &Case<'_>,
         field: u32,
         asked: Asked,
     ) -> Result<(), NoMemory>
         ensures { (b : Base) → OnOk result (under_way b self.new ≡ storing (exchanges.withdrawn field asked.key (under_way b self.old).kept.stored) (under_way b self.old)) }
     {
-        self.stored = withdrawn(alloc, self.stored.as_slice(), field, asked.key)?;
+        self.stored = withdrawn(case.alloc, self.stored.as_slice(), field, asked.key)?;
         Ok(())
     }
 
     /// A variable's token has another value, be it held or new.
     pub(crate) fn revalue(
         &mut self,
-        alloc: Global,
+        case: &Case<'_>,
         field: u32,
         number: i128,
     ) -> Result<(), NoMemory>
         ensures { (b : Base) → OnOk result (under_way b self.new ≡ revaluing field number (under_way b self.old)) }
     {
         if let Some(name) = token_name(self.variables.as_slice(), field) {
-            self.hand = revalued(alloc, self.hand.as_slice(), name, number)?;
-            self.entered = revalued(alloc, self.entered.as_slice(), name, number)?;
+            self.hand = revalued(case.alloc, self.hand.as_slice(), name, number)?;
+            self.entered = revalued(case.alloc, self.entered.as_slice(), name, number)?;
         }
         Ok(())
     }

@@ -1,19 +1,19 @@
 -- Maps that are built: what they are, and that their values fit.
-use Rattle.std.proofs.Common.{◌≡◌, ℤ, pos, ◌+ℤ◌, ◌≤ℤ◌, ◌<ℤ◌, Bool, true, false, ◌&&◌, Some, Result, Ok, Err, refl, sym, ap, subst, ◌∙◌, arith, if◌then◌else◌, int_lt}
+use Rattle.std.proofs.Common.{◌≡◌, ℤ, pos, ◌+ℤ◌, ◌≤ℤ◌, ◌<ℤ◌, Bool, true, false, ◌&&◌, List, [], ◌∷◌, Some, Result, Ok, Err, refl, sym, ap, subst, ◌∙◌, arith, if◌then◌else◌, int_lt}
 use Rattle.std.specs.Prelude.{FitsSigned}
 use Rattle.std.specs.Int.{w128}
+use Rattle.std.specs.List.{fold}
 use Rattle.std.specs.Ordering.{int_eq, int_cmp}
 use Rattle.std.proofs.lemmas.Bool.Decides.{Decides-int_eq}
 use Rattle.std.proofs.lemmas.Int.{ints, by_lt_z}
 use Rattle.std.specs.FinMap as finmap
 use Rattle.sync_terms.specs.Maps.{Map, put, del, bump}
 use Rattle.sync_terms.specs.Maps as maps
-use Rattle.sync_join.specs.Narrow.{HasNarrowValues}
-use Rattle.sync_join.proofs.Maps.{get-put}
-use Rattle.sync_join.proofs.Narrowing.{narrow-put, narrow-del}
+use Rattle.sync_entries.proofs.Maps.{get-put}
+use Rattle.sync_entries.proofs.Narrowing.{narrow-put, narrow-del}
 use Rattle.sync_exchange_values.specs.declared.stops.EvalStop.{EvalStop}
 use Rattle.sync_exchange_values.specs.Fitting.{values_fit}
-use Rattle.sync_exchange_values.specs.Narrow.{is_narrow}
+use Rattle.sync_entries.specs.Narrow.{HasNarrowValues, is_narrow, sum_of}
 use Rattle.sync_exchange_values.specs.Steps.{Evaluates}
 use Rattle.sync_exchange_values.proofs.Narrowness.{values_narrow, values_wide, wide_of, and_true}
 
@@ -68,3 +68,12 @@ bump_parts r c m l n k w f g h a b d e =
     let same : bump c l n ≡ bump m k w = ap (λ (q : Map). bump q l n) a.0 ∙ ap (λ (q : ℤ). bump m q n) b.0 ∙ ap (λ (q : ℤ). bump m k q) d.0 in
     subst (λ (p : Bool). Evaluates r (bump m k w) (p && values_fit is_narrow (bump m k w))) (sym (and_true (f && g) h (and_true f g a.1 b.1) d.1))
     (subst (λ (q : Map). Evaluates r q (values_fit is_narrow q)) same e)
+
+-- ---- the sum of a map's values, added up from the front
+
+added-from : (n : ℤ) (ns : List ℤ) → fold (λ (sum k : ℤ). sum +ℤ k) n ns ≡ n +ℤ maps.added_up ns
+added-from n [] = omega (arith, ints)
+added-from n (k ∷ ks) = let e = added-from (n +ℤ k) ks in omega (arith, ints)
+
+pub sum-values : (m : Map) → sum_of m ≡ maps.sum m
+sum-values m = let e = added-from (pos 0) (finmap.values m) in omega (arith, ints)

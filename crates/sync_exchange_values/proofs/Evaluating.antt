@@ -9,7 +9,7 @@ use Rattle.sync_exchange_values.specs.declared.questions.Question.{Question}
 use Rattle.sync_exchange_values.specs.declared.operators.Operator.{Operator}
 use Rattle.sync_exchange_values.specs.declared.operators.Relation.{Relation}
 use Rattle.sync_exchange_values.specs.declared.operators.Connective.{Connective}
-use Rattle.sync_exchange_values.specs.Narrow.{is_narrow}
+use Rattle.sync_entries.specs.Narrow.{is_narrow}
 use Rattle.sync_exchange_values.specs.Steps.{Evaluates, answer, operated, related, connected}
 use Rattle.sync_exchange_values.proofs.Narrowness.{narrow_of, wide_of, and_true, left_false, right_false}
 

@@ -10,7 +10,7 @@ use Rattle.sync_exchange_values.specs.declared.stops.EvalStop.{EvalStop}
 use Rattle.sync_exchange_values.specs.declared.operators.Relation.TheVariants as relation
 use Rattle.sync_exchange_values.specs.declared.operators.Connective.TheVariants as connective
 use Rattle.sync_exchange_values.specs.Fitting.{number_fits, form_fits}
-use Rattle.sync_exchange_values.specs.Narrow.{is_narrow}
+use Rattle.sync_entries.specs.Narrow.{is_narrow}
 use Rattle.sync_exchange_values.specs.Steps.{Evaluates, related, connected}
 use Rattle.sync_exchange_values.proofs.Nodes.{NumberAt}
 

@@ -11,9 +11,9 @@ use Rattle.std.specs.FinMap.{find, is_sorted, entries_sorted, get-entries}
 use Rattle.std.specs.FinMap.Entries.{below_all}
 use Rattle.std.specs.FinMap as finmap
 use Rattle.sync_terms.specs.Maps.{Map}
-use Rattle.sync_join.specs.Narrow.{HasNarrowValues}
+use Rattle.sync_entries.specs.Narrow.{HasNarrowValues}
 use Rattle.sync_exchange_values.specs.Fitting.{values_fit}
-use Rattle.sync_exchange_values.specs.Narrow.{is_narrow}
+use Rattle.sync_entries.specs.Narrow.{is_narrow}
 
 pub narrow_of : (n : ℤ) → FitsSigned w128 n → is_narrow n ≡ true
 narrow_of (pos n) f = let h : n < 2 ^ 127 = f.sfits in grind arith

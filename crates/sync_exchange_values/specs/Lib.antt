@@ -1,4 +1,3 @@
 -- Values of terms within a bound.
 pub mod Fitting
-pub mod Narrow
 pub mod Steps

@@ -2,11 +2,11 @@
 ghost use Rattle.std.specs.Prelude.{◌≡◌, ℤ, Bool, true, ◌&&◌};
 ghost use Rattle.sync_terms.specs.Maps as maps;
 ghost use Rattle.sync_exchange_values.specs.Fitting.{values_fit};
-ghost use Rattle.sync_exchange_values.specs.Narrow.{is_narrow};
+ghost use Rattle.sync_entries.specs.Narrow.{is_narrow};
 ghost use Rattle.sync_exchange_values.specs.Steps.{Evaluates};
 
 use crate::stops::EvalStop;
-use sync_join::Entries;
+use sync_entries::Entries;
 
 /// The same map once more.
 pub(crate) fn copied(map: &Entries) -> Result<Entries, EvalStop>

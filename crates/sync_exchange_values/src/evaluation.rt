@@ -3,7 +3,7 @@ ghost use Rattle.std.specs.Prelude.{◌≡◌, ◌<◌, ◌&&◌, length};
 ghost use Rattle.sync_terms.specs.Stored.{tree, formula, IsTerm, IsForm};
 ghost use Rattle.sync_terms.specs.Values.{num, mapped, truth};
 ghost use Rattle.sync_exchange_values.specs.Fitting.{number_fits, map_fits, form_fits};
-ghost use Rattle.sync_exchange_values.specs.Narrow.{is_narrow};
+ghost use Rattle.sync_entries.specs.Narrow.{is_narrow};
 ghost use Rattle.sync_exchange_values.specs.Steps.{Evaluates, answer};
 
 use crate::changes::{bumped, copied, put, removed};
@@ -12,7 +12,7 @@ use crate::operators::{Connective, Operator, Relation, negated};
 use crate::questions::Question;
 use crate::stops::EvalStop;
 use std::alloc::Global;
-use sync_join::Entries;
+use sync_entries::Entries;
 use sync_terms::{FormId, FormNode, Node, TermId, Terms};
 
 /// A store, and what its symbols stand for.

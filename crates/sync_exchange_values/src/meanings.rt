@@ -3,7 +3,7 @@ ghost use Rattle.std.specs.Prelude.{◌≡◌, IfSome, IfNone};
 ghost use Rattle.sync_terms.specs.Maps as maps;
 ghost use Rattle.sync_terms.specs.Values.{Valuation};
 
-use sync_join::Entries;
+use sync_entries::Entries;
 use sync_terms::Sym;
 
 /// What each symbol stands for: a number where a number is wanted, and a finite map where a map is.

@@ -1,7 +1,7 @@
 //! What terms and formulas make of the values of their parts.
 ghost use Rattle.std.specs.Prelude.{◌≡◌, ℤ, Bool, ◌&&◌, not, SomeIff, FitsSigned};
 ghost use Rattle.std.specs.Int.{w128};
-ghost use Rattle.sync_exchange_values.specs.Narrow.{is_narrow};
+ghost use Rattle.sync_entries.specs.Narrow.{is_narrow};
 ghost use Rattle.sync_exchange_values.specs.Steps.{Evaluates, operated, related, connected};
 
 use crate::stops::EvalStop;

@@ -1,11 +1,11 @@
 //! What a term asks of a map.
 ghost use Rattle.std.specs.Prelude.{◌≡◌, true};
 ghost use Rattle.sync_exchange_values.specs.Fitting.{values_fit};
-ghost use Rattle.sync_exchange_values.specs.Narrow.{is_narrow};
+ghost use Rattle.sync_entries.specs.Narrow.{is_narrow};
 ghost use Rattle.sync_exchange_values.specs.Steps.{Evaluates, answer};
 
 use crate::stops::EvalStop;
-use sync_join::Entries;
+use sync_entries::Entries;
 
 /// The value at a key, whether a key is there, the number of keys, or the sum of the values.
 #[derive(Clone, Copy, Debug)]

@@ -4,13 +4,13 @@ ghost use Rattle.sync_terms.specs.Stored.{tree, formula, IsTerm, IsForm};
 ghost use Rattle.sync_terms.specs.Values.{num, mapped, truth};
 ghost use Rattle.sync_exchange_values.specs.declared.stops.EvalStop.TheVariants.{Width};
 ghost use Rattle.sync_exchange_values.specs.Fitting.{number_fits, map_fits, form_fits};
-ghost use Rattle.sync_exchange_values.specs.Narrow.{is_narrow};
+ghost use Rattle.sync_entries.specs.Narrow.{is_narrow};
 
 use crate::evaluation::Evaluation;
 use crate::meanings::Meanings;
 use crate::stops::EvalStop;
 use std::alloc::Global;
-use sync_join::Entries;
+use sync_entries::Entries;
 use sync_terms::{FormId, TermId, Terms};
 
 /// The number that a stored term is.

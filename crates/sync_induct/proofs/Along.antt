@@ -9,7 +9,8 @@ use Rattle.sync_machine.specs.declared.fields.Field.{Field}
 use Rattle.sync_machine.specs.Machines.{ActTree, Init, Require, Assert, Update, HaveVariable, Add, Remove, Have, Deposit, Withdraw, Guard, StepTree, OperationTree, InvariantTree, MachineTree}
 use Rattle.sync_machine.specs.Statements.{safety, condition, after, field_of, changed_by}
 use Rattle.sync_machine.specs.States.{State, Value, Number, Mapped, sort_of, value_in, StandsFor, IsAtFrom, strategy_at, strategy_of, current_of, advanced, last_values, IsMet, AreMet, IsKeptSafe, values_in}
-use Rattle.sync_machine.specs.Scope.{Known, IsConditionIn, AreConditionsIn}
+use Rattle.sync_machine.specs.Scope.{Known}
+use Rattle.sync_induct.proofs.Scoped.{IsConditionIn, AreConditionsIn}
 use Rattle.sync_rules.specs.Obligations.{form_names, touches, is_touched, has_to_keep}
 use Rattle.sync_kernel.specs.Facts.{Fact}
 use Rattle.sync_induct.specs.Duties.{Duty, condition_facts, step_facts, safety_duties, step_duties, facts_behind, closing, keeps_duties, operation_duties, duties_from, givens_of, IsProved, AreProved}

@@ -16,7 +16,7 @@ use Rattle.sync_machine.specs.declared.machine.Operation.{Operation}
 use Rattle.sync_machine.specs.declared.machine.Machine.{Machine}
 use Rattle.sync_machine.specs.Machines.{MachineTree}
 use Rattle.sync_machine.specs.Views.{operation_tree, invariant_tree, machine_tree, HasActIds, HasOwnIds}
-use Rattle.sync_machine.specs.Scope.{IsNamed}
+use Rattle.sync_machine.specs.Named.{IsNamed}
 use Rattle.sync_terms.specs.declared.proofs.Obligation.{Obligation}
 use Rattle.sync_rules.specs.Obligations.{obligations_of}
 use Rattle.sync_induct.specs.declared.index.Title.{Title}

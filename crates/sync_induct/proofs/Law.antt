@@ -1,7 +1,8 @@
 -- The law of induction: whatever machine has all its duties proved holds always.
 use Rattle.std.specs.List.{AllByRecursion}
 use Rattle.sync_machine.specs.Machines.{OperationTree, MachineTree}
-use Rattle.sync_machine.specs.Scope.{IsNamed, ChangesNothing}
+use Rattle.sync_machine.specs.Scope.{ChangesNothing}
+use Rattle.sync_machine.specs.Named.{IsNamed}
 use Rattle.sync_machine.specs.States.{HoldsAlways}
 use Rattle.sync_rules.specs.Strategies.{AreAllowed}
 use Rattle.sync_induct.specs.Duties.{duties_of, AreProved}

@@ -1,3 +1,4 @@
+pub mod Scoped
 pub mod Agreement
 pub mod Along
 pub mod Soundness

@@ -14,7 +14,9 @@ use Rattle.sync_machine.specs.Machines.{PatternTree, Bind, Term, PlaceTree, ActT
 use Rattle.sync_machine.specs.Machines as acts
 use Rattle.sync_machine.specs.Statements.{or_zero, key_of, or_one, value_of, presence, amount_is_natural, freshness, enabling, safety, both, condition, added, removed, after, field_of, is_there_with}
 use Rattle.sync_machine.specs.States.{Sort, Numbers, Maps, sort_of, strategy_at, strategy_of, current_of, advanced, last_values, first_values, blank}
-use Rattle.sync_machine.specs.Scope.{Known, IsNumber, IsMap, IsFormula, HasSort, knows, IsConditionIn, AreConditionsIn, IsKeyIn, IsPatternIn, IsPlaceIn, IsStatementIn, KnowsItsNames, IsNamed, IsScopedOperation, ChangesNothing, IsScoped}
+use Rattle.sync_machine.specs.Scope.{Known, IsNumber, IsMap, IsFormula, HasSort, knows, ChangesNothing}
+use Rattle.sync_machine.specs.Named.{own_names, IsKeyIn, IsPatternIn, IsPlaceIn, IsStatementIn, KnowsItsNames, IsNamed}
+use Rattle.sync_induct.proofs.Scoped.{IsConditionIn, AreConditionsIn, IsScopedOperation, IsScoped}
 use Rattle.sync_rules.specs.Strategies.{kind_of, HasKind, AreAllowed}
 use Rattle.sync_rules.specs.declared.kinds.OpKind.TheVariants as kinds
 
@@ -280,8 +282,8 @@ first-in fs given mode.Transition = record { length_is = length-map-range_with_l
 first-in fs given mode.Property = record { length_is = length-map-range_with_len Name 0 (length fs); sorted = names-in fs given }
 
 operation-in : (fs : List Field) (o : OperationTree) → KnowsItsNames fs o → AreAllowed fs o.steps → IsScopedOperation fs o
-operation-in fs o h a = let k = knows fs h.given in let s = first-in fs h.given o.mode in record {
-  given = h.given;
+operation-in fs o h a = let k = knows fs (own_names o) in let s = first-in fs (own_names o) o.mode in record {
+  given = own_names o;
   are_names = h.are_names;
   conditions = conditions-in k fs (first_values fs o.mode) o.steps s h.statements a;
   values = (last-in k fs (first_values fs o.mode) o.steps s h.statements a).sorted;

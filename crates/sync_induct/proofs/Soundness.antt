@@ -13,7 +13,8 @@ use Rattle.sync_base.specs.declared.strategies.OpMode.{OpMode}
 use Rattle.sync_base.specs.declared.strategies.OpMode.TheVariants as mode
 use Rattle.sync_machine.specs.Machines.{OperationTree, InvariantTree, MachineTree}
 use Rattle.sync_machine.specs.States.{State, Sort, Numbers, Maps, sort_of, value_in, StandsFor, IsAt, strategy_at, last_values, first_values, blank, AreMet, values_in, IsInit, Steps, Starts, IsReached, starts, steps, MeetsInvariants, HoldsAlways}
-use Rattle.sync_machine.specs.Scope.{Known, IsNumber, IsMap, IsFormula, HasSort, knows, IsNameSymbol, IsScopedOperation, IsScopedInvariant, ChangesNothing, IsScoped}
+use Rattle.sync_machine.specs.Scope.{Known, IsNumber, IsMap, IsFormula, HasSort, knows, IsNameSymbol, IsScopedInvariant, ChangesNothing}
+use Rattle.sync_induct.proofs.Scoped.{IsScopedOperation, IsScoped}
 use Rattle.sync_rules.specs.Obligations.{names, form_names, is_kept_by}
 use Rattle.sync_kernel.specs.Facts.{Fact}
 use Rattle.sync_induct.specs.Duties.{invariant_facts, facts_behind, step_duties, keeps_duties, closing, base_facts, duties_of, givens_of, IsProved, AreProved}

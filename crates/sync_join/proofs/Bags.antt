@@ -17,7 +17,8 @@ use Rattle.sync_machine.specs.States.{Value, Number, Mapped, strategy_at}
 use Rattle.sync_join.specs.declared.tokens.Token.{Token}
 use Rattle.sync_join.specs.Shards.{Kept}
 use Rattle.sync_join.specs.Join.{tokens_of, only_value, has_key, are_apart, map_of, as_map, counts_of, sum_of, is_entry, is_element, is_reached, borne_out, joined, record_at, value_at, all_of, join_of}
-use Rattle.sync_join.proofs.Maps.{get-put, put-put, AreNatural, natural-nil, natural-bump, bump-bump}
+use Rattle.sync_entries.proofs.Maps.{get-put}
+use Rattle.sync_join.proofs.Maps.{put-put, AreNatural, natural-nil, natural-bump, bump-bump}
 
 -- what does not depend on the order of the first two tokens does not depend on where a token stands
 pub front : {B : Type 0} (f : List Token → B) (swap : (t u : Token) (ts : List Token) → f (t ∷ u ∷ ts) ≡ f (u ∷ t ∷ ts)) (onto : (t : Token) (xs ys : List Token) → f xs ≡ f ys → f (t ∷ xs) ≡ f (t ∷ ys)) (xs : List Token) (t : Token) (ys : List Token) → f (xs ++ t ∷ ys) ≡ f (t ∷ (xs ++ ys))

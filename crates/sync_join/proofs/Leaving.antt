@@ -10,7 +10,8 @@ use Rattle.sync_terms.specs.Maps.{Map, nil, put, del}
 use Rattle.sync_terms.specs.Maps as maps
 use Rattle.sync_join.specs.declared.tokens.Token.{Token}
 use Rattle.sync_join.specs.Join.{only_value, as_map, counts_of, sum_of}
-use Rattle.sync_join.proofs.Maps.{same, get-put, equal, bump-put}
+use Rattle.sync_entries.proofs.Maps.{same, get-put}
+use Rattle.sync_join.proofs.Maps.{equal, bump-put}
 use Rattle.sync_join.proofs.Bags.{unless, with_token, as_map-cons, counts_natural}
 
 -- ---- variables

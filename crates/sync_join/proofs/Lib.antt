@@ -1,10 +1,6 @@
 pub mod Maps
-pub mod Lookups
 pub mod Bags
 pub mod Through
 pub mod Leaving
 pub mod States
 pub mod Rearranged
-pub mod Strategies
-pub mod Narrowing
-pub mod Ordered

@@ -1,19 +1,15 @@
 -- Finite maps of numbers: what is at a key behind a change, and changes at two keys in either order.
-use Rattle.std.proofs.Common.{◌≡◌, ℤ, pos, ◌+ℤ◌, ◌≤ℤ◌, ◌<ℤ◌, Bool, true, false, Option, Some, None, unwrap_or, refl, sym, ap, subst, ◌∙◌, arith, if◌then◌else◌, int_lt}
+use Rattle.std.proofs.Common.{◌≡◌, ℤ, pos, ◌+ℤ◌, ◌≤ℤ◌, ◌<ℤ◌, Bool, true, false, Option, Some, None, is_some, unwrap_or, refl, sym, ap, subst, ◌∙◌, arith, if◌then◌else◌, int_lt}
 use Rattle.std.specs.Ordering.{int_eq, int_cmp}
-use Rattle.std.specs.Cmp.{int_cmp_total, int_eq_equiv}
-use Rattle.std.specs.FinMap.{int_cmp-IsAntisymmetric, same_map, get-insert, get-empty}
+use Rattle.std.specs.Cmp.{int_eq_equiv}
+use Rattle.std.specs.FinMap.{get-empty}
 use Rattle.std.specs.FinMap as finmap
 use Rattle.std.proofs.lemmas.Bool.Decides.{Decides-int_eq}
 use Rattle.std.proofs.lemmas.Int.{ints}
 use Rattle.sync_terms.specs.Maps.{Map, nil, put, bump}
 use Rattle.sync_terms.specs.Maps as maps
-
-pub same : (m n : Map) → ((q : ℤ) → finmap.get m q ≡ finmap.get n q) → m ≡ n
-same m n is = same_map int_cmp_total int_cmp-IsAntisymmetric m n is
-
-pub get-put : (m : Map) (k v q : ℤ) → finmap.get (put m k v) q ≡ (if int_eq q k then Some v else finmap.get m q)
-get-put m k v q = get-insert int_cmp_total m k v q
+use Rattle.sync_join.specs.Join.{is_value}
+use Rattle.sync_entries.proofs.Maps.{same, get-put}
 
 pub equal : (a b : ℤ) → int_eq a b ≡ true → a ≡ b
 equal a b e = (Decides-int_eq a b).0 e
@@ -99,3 +95,10 @@ bump-bump m a b h =
       | true ↦ λ e. subst (λ (c : ℤ). bump (bump m a (pos 1)) c (pos 1) ≡ bump (bump m c (pos 1)) a (pos 1)) (equal a b e) refl
       | false ↦ λ e. bump_apart m a b h e
     ] refl
+
+-- nothing is in the empty map
+pub nil-entry : (k v : ℤ) → is_value (finmap.get nil k) v ≡ false
+nil-entry k v = let none : finmap.get nil k ≡ None = get-empty int_cmp k in ap (λ o. is_value o v) none
+
+pub nil-element : (k : ℤ) → is_some (finmap.get nil k) ≡ false
+nil-element k = let none : finmap.get nil k ≡ None = get-empty int_cmp k in ap is_some none

@@ -1,5 +1,5 @@
 -- Bags with the same tokens in another order: what does not depend on where a token stands is the same of both.
-use Rattle.std.proofs.Common.{◌≡◌, ℕ, suc, ◌+◌, ℤ, pos, ◌≤ℤ◌, Bool, true, false, ◌&&◌, List, [], ◌∷◌, ◌++◌, refl, sym, ap, subst, ◌∙◌, arith, nat_eq, append_assoc}
+use Rattle.std.proofs.Common.{◌≡◌, ℕ, suc, ◌+◌, ℤ, pos, ◌≤ℤ◌, Bool, true, false, ◌&&◌, List, [], ◌∷◌, ◌++◌, refl, sym, ap, subst, ◌∙◌, arith, nat_eq, append_assoc, if◌then◌else◌}
 use Rattle.std.specs.List.{AllByRecursion}
 use Rattle.std.specs.Ordering.{int_eq}
 use Rattle.std.specs.Cmp.{int_eq_equiv}
@@ -9,27 +9,19 @@ use Rattle.sync_base.specs.declared.strategies.Strategy.{Strategy}
 use Rattle.sync_base.specs.declared.strategies.Strategy.TheVariants.{Count}
 use Rattle.sync_machine.specs.States.{Value, strategy_at}
 use Rattle.sync_join.specs.declared.tokens.Token.{Token}
-use Rattle.sync_join.specs.Shards.{Kept, IsToken, AreSoundShards}
+use Rattle.sync_join.specs.Shards.{Kept, is_same_token, often, IsToken, AreSoundShards}
 use Rattle.sync_join.specs.Join.{tokens_of, joined, record_at, value_at, join_of}
 use Rattle.sync_join.proofs.Maps.{equal}
 use Rattle.sync_join.proofs.Bags.{joined-front, stored-front, join_of-front}
 
 -- ---- tokens and how often they stand in a bag
 
-abbrev pub is_same_token : Token → Token → Bool
-is_same_token t u = nat_eq t.field u.field && (int_eq t.key u.key && int_eq t.value u.value)
-
-abbrev pub one_more : Bool → ℕ → ℕ
-one_more true n = suc n
-one_more false n = n
-
-abbrev pub times : Token → List Token → ℕ
-times t [] = 0
-times t (u ∷ us) = one_more (is_same_token t u) (times t us)
+abbrev one_more : Bool → ℕ → ℕ
+one_more b n = if b then suc n else n
 
 -- every token stands in both as often
 pub record IsRearranged (xs ys : List Token) : Type 0 where
-  pub times : (t : Token) → times t xs ≡ times t ys
+  pub often : (t : Token) → often t xs ≡ often t ys
 
 and-both : (a b : Bool) → (a && b) ≡ true → (a ≡ true) × (b ≡ true)
 and-both true b e = (refl, e)
@@ -62,33 +54,33 @@ more-append : (b : Bool) (n m : ℕ) → one_more b (n + m) ≡ one_more b n + m
 more-append true n m = omega arith
 more-append false n m = refl
 
-pub times-append : (t : Token) (xs ys : List Token) → times t (xs ++ ys) ≡ times t xs + times t ys
-times-append t [] ys = omega arith
-times-append t (x ∷ xs) ys =
-    ap (one_more (is_same_token t x)) (times-append t xs ys)
-    ∙ more-append (is_same_token t x) (times t xs) (times t ys)
+pub often-append : (t : Token) (xs ys : List Token) → often t (xs ++ ys) ≡ often t xs + often t ys
+often-append t [] ys = omega arith
+often-append t (x ∷ xs) ys =
+    ap (one_more (is_same_token t x)) (often-append t xs ys)
+    ∙ more-append (is_same_token t x) (often t xs) (often t ys)
 
 -- ---- the same tokens in another order
 
 pub rearranged-refl : (xs : List Token) → IsRearranged xs xs
-rearranged-refl xs = record { times = λ t. refl }
+rearranged-refl xs = record { often = λ t. refl }
 
 pub rearranged-sym : (xs ys : List Token) → IsRearranged xs ys → IsRearranged ys xs
-rearranged-sym xs ys h = record { times = λ t. sym (h.times t) }
+rearranged-sym xs ys h = record { often = λ t. sym (h.often t) }
 
 pub rearranged-trans : (xs ys zs : List Token) → IsRearranged xs ys → IsRearranged ys zs → IsRearranged xs zs
-rearranged-trans xs ys zs h k = record { times = λ t. h.times t ∙ k.times t }
+rearranged-trans xs ys zs h k = record { often = λ t. h.often t ∙ k.often t }
 
 -- two parts of a bag, each in another order
 pub rearranged-append : (xs ys us vs : List Token) → IsRearranged xs ys → IsRearranged us vs → IsRearranged (xs ++ us) (ys ++ vs)
 rearranged-append xs ys us vs h k = record {
-  times = λ t.
-      times-append t xs us ∙ ap (λ n. n + times t us) (h.times t) ∙ ap (λ n. times t ys + n) (k.times t)
-      ∙ sym (times-append t ys vs);
+  often = λ t.
+      often-append t xs us ∙ ap (λ n. n + often t us) (h.often t) ∙ ap (λ n. often t ys + n) (k.often t)
+      ∙ sym (often-append t ys vs);
 }
 
 pub rearranged-swap : (xs ys : List Token) → IsRearranged (xs ++ ys) (ys ++ xs)
-rearranged-swap xs ys = record { times = λ t. times-append t xs ys ∙ turned (times t xs) (times t ys) ∙ sym (times-append t ys xs) } where
+rearranged-swap xs ys = record { often = λ t. often-append t xs ys ∙ turned (often t xs) (often t ys) ∙ sym (often-append t ys xs) } where
   turned : (n m : ℕ) → n + m ≡ m + n
   turned n m = omega arith
 
@@ -99,9 +91,9 @@ more-turned false n m = refl
 -- a token is taken to the front
 pub rearranged-front : (xs : List Token) (t : Token) (ys : List Token) → IsRearranged (xs ++ t ∷ ys) (t ∷ (xs ++ ys))
 rearranged-front xs t ys = record {
-  times = λ u.
-      times-append u xs (t ∷ ys) ∙ more-turned (is_same_token u t) (times u xs) (times u ys)
-      ∙ ap (one_more (is_same_token u t)) (sym (times-append u xs ys));
+  often = λ u.
+      often-append u xs (t ∷ ys) ∙ more-turned (is_same_token u t) (often u xs) (often u ys)
+      ∙ ap (one_more (is_same_token u t)) (sym (often-append u xs ys));
 }
 
 -- ---- a token that stands in a bag
@@ -114,19 +106,19 @@ pub record StandsIn (t : Token) (ys : List Token) : Type 0 where
 later : (t u : Token) (us : List Token) → StandsIn t us → StandsIn t (u ∷ us)
 later t u us s = record { before = u ∷ s.before; behind = s.behind; is = ap (λ xs. u ∷ xs) s.is }
 
-stands-or : (t u : Token) (us : List Token) (n : ℕ) (b : Bool) → is_same_token t u ≡ b → (times t us ≡ suc n → StandsIn t us) → one_more b (times t us) ≡ suc n → StandsIn t (u ∷ us)
+stands-or : (t u : Token) (us : List Token) (n : ℕ) (b : Bool) → is_same_token t u ≡ b → (often t us ≡ suc n → StandsIn t us) → one_more b (often t us) ≡ suc n → StandsIn t (u ∷ us)
 stands-or t u us n true same ih e = record { before = []; behind = us; is = ap (λ x. x ∷ us) (sym (same-token t u same)) }
 stands-or t u us n false same ih e = later t u us (ih e)
 
-pub stands : (t : Token) (ys : List Token) (n : ℕ) → times t ys ≡ suc n → StandsIn t ys
+pub stands : (t : Token) (ys : List Token) (n : ℕ) → often t ys ≡ suc n → StandsIn t ys
 stands t [] n e = absurd (omega arith)
 stands t (u ∷ us) n e = stands-or t u us n (is_same_token t u) refl (λ h. stands t us n h) e
 
-its_times : (t : Token) (us : List Token) → times t (t ∷ us) ≡ suc (times t us)
-its_times t us = ap (λ b. one_more b (times t us)) (its-own t)
+its-often : (t : Token) (us : List Token) → often t (t ∷ us) ≡ suc (often t us)
+its-often t us = ap (λ b. one_more b (often t us)) (its-own t)
 
 nothing-more : (y : Token) (ys : List Token) → IsRearranged [] (y ∷ ys) → ⊥
-nothing-more y ys h = let e = h.times y ∙ its_times y ys in never (times y ys) e where
+nothing-more y ys h = let e = h.often y ∙ its-often y ys in never (often y ys) e where
   never : (n : ℕ) → 0 ≡ suc n → ⊥
   never n e = omega arith
 
@@ -137,8 +129,8 @@ cancel false n m e = e
 -- without the token that both have
 rearranged-rest : (t : Token) (xs ls rs : List Token) → IsRearranged (t ∷ xs) (ls ++ t ∷ rs) → IsRearranged xs (ls ++ rs)
 rearranged-rest t xs ls rs h = record {
-  times = λ u.
-      cancel (is_same_token u t) (times u xs) (times u (ls ++ rs)) (h.times u ∙ (rearranged-front ls t rs).times u);
+  often = λ u.
+      cancel (is_same_token u t) (often u xs) (often u (ls ++ rs)) (h.often u ∙ (rearranged-front ls t rs).often u);
 }
 
 -- ---- what does not depend on where a token stands does not depend on the order
@@ -156,7 +148,7 @@ module _ (P : List Token → Type 0) (out : (xs : List Token) (t : Token) (ys : 
   along ps [] [] h p = p
   along ps [] (y ∷ ys) h p = absurd (nothing-more y ys h)
   along ps (t ∷ xs) ys h p =
-      let s = stands t ys (times t xs) (sym (h.times t) ∙ its_times t xs) in
+      let s = stands t ys (often t xs) (sym (h.often t) ∙ its-often t xs) in
       let moved = subst (IsRearranged (t ∷ xs)) s.is h in
       let rest = rearranged-rest t xs s.before s.behind moved in
       let next = along (ps ++ t ∷ []) xs (s.before ++ s.behind) rest (subst P (sym (behind ps t xs)) p) in

@@ -3,5 +3,3 @@ pub mod Join
 pub mod Widths
 pub mod Views
 pub mod Laws
-pub mod Totals
-pub mod Narrow

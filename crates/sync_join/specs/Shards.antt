@@ -1,6 +1,7 @@
 -- The shards of a state: a bag of tokens, and what is kept beside them.
-use Rattle.std.specs.Prelude.{◌≡◌, ℕ, pos, ◌<◌, ◌≤ℤ◌, List, [], ◌∷◌, length, Bool, true, false, ◌⊎◌}
+use Rattle.std.specs.Prelude.{◌≡◌, ℕ, suc, pos, ◌<◌, ◌≤ℤ◌, List, [], ◌∷◌, length, Bool, true, false, ◌&&◌, nat_eq, if◌then◌else◌, ◌⊎◌}
 use Rattle.std.specs.List.{AllByRecursion}
+use Rattle.std.specs.Ordering.{int_eq}
 use Rattle.sync_machine.specs.declared.fields.Field.{Field}
 use Rattle.sync_base.specs.declared.strategies.Strategy.{Strategy}
 use Rattle.sync_base.specs.declared.strategies.Strategy.TheVariants.{Variable, Constant, NotTokenized, Option as OptionField, Map, Set, Multiset, Count, PersistentOption, PersistentMap, PersistentSet, PersistentCount, StorageMap}
@@ -16,6 +17,14 @@ perm = 4294967295
 pub record Kept : Type 0 where
   pub records : List Value
   pub stored : List Token
+
+-- the same token, and how often a token stands in a list
+abbrev pub is_same_token : Token → Token → Bool
+is_same_token t u = nat_eq t.field u.field && (int_eq t.key u.key && int_eq t.value u.value)
+
+abbrev pub often : Token → List Token → ℕ
+often t [] = 0
+often t (u ∷ us) = if is_same_token t u then suc (often t us) else often t us
 
 -- the strategies whose fields have tokens; the values of the others are kept
 abbrev pub has_tokens : Strategy → Bool

@@ -4,11 +4,11 @@ ghost use Rattle.std.specs.List.{list_all};
 ghost use Rattle.sync_join.specs.Join as shards;
 ghost use Rattle.sync_join.specs.Views.{value_tree};
 
-use crate::entries::Entries;
 use crate::tokens::Token;
 use crate::values::Value;
 use std::alloc::Global;
 use sync_base::NoMemory;
+use sync_entries::Entries;
 
 /// The value of a field's one token, none where there is not exactly one.
 pub(crate) fn only_value(tokens: &[Token], field: u32) -> Option<i128>
@@ -44,6 +44,22 @@ pub(crate) fn as_map(
         }
     }
     Ok(Some(map))
+}
+
+/// The tokens of a field as a map. Of two tokens with one key the first counts.
+pub fn map_of_tokens(alloc: Global, tokens: &[Token], field: u32) -> Result<Entries, NoMemory>
+    ensures { IfOk result (λ m. m ≡ shards.map_of (shards.tokens_of field tokens.now)) }
+{
+    let mut map = Entries::new(alloc);
+    let mut left = tokens.len();
+    while left > 0 {
+        left -= 1;
+        let token = tokens[left];
+        if token.field == field {
+            map.put(token.key, token.value)?;
+        }
+    }
+    Ok(map)
 }
 
 /// How many tokens of a field have each key.

@@ -1,9 +1,9 @@
 //! Values of fields, and states.
 ghost use Rattle.std.specs.Prelude.{◌≡◌, IfOk};
 
-use crate::entries::Entries;
 use sqlite_items::Items;
 use sync_base::NoMemory;
+use sync_entries::Entries;
 
 /// The value of a field: a number, or a finite map from numbers to numbers.
 #[derive(Drop)]

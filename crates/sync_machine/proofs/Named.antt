@@ -15,7 +15,8 @@ use Rattle.sync_machine.specs.Machines.{PatternTree, Bind, Term, PlaceTree, ActT
 use Rattle.sync_machine.specs.Machines as acts
 use Rattle.sync_machine.specs.Statements.{binds, bound_in}
 use Rattle.sync_machine.specs.States.{Sort, Numbers, Maps, sort_of, strategy_at}
-use Rattle.sync_machine.specs.Scope.{Known, knows, IsNumber, IsMap, IsFormula, HasSort, IsKeyIn, IsPatternIn, IsPlaceIn, IsStatementIn, IsNameSymbol, KnowsItsNames, IsScopedInvariant, IsNamed}
+use Rattle.sync_machine.specs.Scope.{Known, knows, IsNumber, IsMap, IsFormula, HasSort, IsNameSymbol, IsScopedInvariant}
+use Rattle.sync_machine.specs.Named.{IsKeyIn, IsPatternIn, IsPlaceIn, IsStatementIn, KnowsItsNames, IsNamed}
 use Rattle.sync_machine.specs.Naming.{Tells, broken, at_line, first_fault, sort_fault, number_fault, map_fault, formula_fault, value_fault, bound_by, bound_names, is_in, repeated, unknown_field, key_fault, pattern_fault, on_place, on_value, act_fault, step_fault, field_fault, head_fault, operation_fault, invariant_rule, invariant_fault, machine_fault, IsTextName, BindsTextName, HasTextNames, AreTextNames}
 use Rattle.sync_machine.proofs.Checks.{first_both}
 
@@ -215,7 +216,6 @@ operations_ok fs before (o ∷ os) few texts e =
     let a = first_both (operation_fault fs before o) (first_fault (operation_fault fs) (before ++ o ∷ []) os) e in
     let b = first_both (at_line o.line (head_fault fs before o)) (first_fault (step_fault fs o.params) [] o.steps) a.0 in (
       record {
-        given = o.params ++ bound_names o.steps;
         are_names = all_append IsNameSymbol o.params (bound_names o.steps) (symbols_ok o.params texts.0.params) (bound_ok o.steps texts.0.bound);
         statements = steps_ok fs o.params [] o.steps few texts.0.bound b.1;
       },

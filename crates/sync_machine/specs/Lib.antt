@@ -4,4 +4,6 @@ pub mod States
 pub mod Scope
 pub mod Views
 pub mod Naming
+pub mod Named
 pub mod Scoped
+pub mod Tests

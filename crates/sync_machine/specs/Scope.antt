@@ -1,13 +1,12 @@
 -- Which symbols stand for what in a term, so that its value depends on these alone.
-use Rattle.std.specs.Prelude.{◌≡◌, ℕ, ◌+◌, ◌*◌, ◌<◌, ◌≤◌, List, [], ◌∷◌, length, slice_index_or, nat_lt, nat_eq, if◌then◌else◌, Option, Some, None}
+use Rattle.std.specs.Prelude.{◌≡◌, ℕ, ◌+◌, ◌*◌, List, length, nat_lt, nat_eq, if◌then◌else◌, Option, Some, None}
 use Rattle.std.specs.List.{list_any, AllByRecursion}
 use Rattle.sync_terms.specs.Trees.{Tree, Lit, Name, Add, Sub, Scale, Get, Has, Size, Sum, Nil, Put, Del, Bump, Formula, Le, Lt, Eq, Not, And, Or, Imp}
 use Rattle.sync_machine.specs.declared.fields.Field.{Field}
 use Rattle.sync_base.specs.declared.strategies.OpMode.TheVariants as mode
-use Rattle.sync_machine.specs.Machines.{PatternTree, Bind, Term, PlaceTree, ActTree, StepTree, OperationTree, InvariantTree, MachineTree}
-use Rattle.sync_machine.specs.Machines as acts
-use Rattle.sync_machine.specs.Statements.{condition, changed_by}
-use Rattle.sync_machine.specs.States.{Sort, Numbers, Maps, sort_of, strategy_at, strategy_of, current_of, advanced, last_values, first_values}
+use Rattle.sync_machine.specs.Machines.{StepTree, OperationTree, InvariantTree}
+use Rattle.sync_machine.specs.Statements.{changed_by}
+use Rattle.sync_machine.specs.States.{Sort, Numbers, Maps, sort_of, strategy_at}
 
 -- the sort of each known symbol
 abbrev pub Known : Type 0
@@ -67,22 +66,6 @@ knows fs names x = if nat_lt x (length fs) then Some (sort_of (strategy_at fs x)
 abbrev pub IsNameSymbol : ℕ → Type 0
 IsNameSymbol x = (n : ℕ) × (x ≡ 64 + 4 * n)
 
-abbrev pub IsConditionIn : Known → Option Formula → Type 0
-IsConditionIn k None = Unit {0}
-IsConditionIn k (Some f) = IsFormula k f
-
--- the conditions of an operation's statements name known symbols alone
-unfoldable pub AreConditionsIn : List Field → Known → List Tree → List StepTree → Type 0
-AreConditionsIn fs k cur [] = Unit {0}
-AreConditionsIn fs k cur (s ∷ ss) = IsConditionIn k (condition (strategy_of fs s.act) (current_of cur s.act) s.act) × AreConditionsIn fs k (advanced fs cur s.act) ss
-
--- An operation speaks of the fields, its parameters and the names that it binds alone, each as its sort.
-pub record IsScopedOperation (fs : List Field) (o : OperationTree) : Type 0 where
-  pub given : List ℕ
-  pub are_names : AllByRecursion IsNameSymbol given
-  pub conditions : AreConditionsIn fs (knows fs given) (first_values fs o.mode) o.steps
-  pub values : (x : ℕ) → x < length fs → HasSort (knows fs given) (sort_of (strategy_at fs x)) (slice_index_or (last_values fs (first_values fs o.mode) o.steps) x Nil)
-
 -- an invariant speaks of the fields and its parameters alone
 pub record IsScopedInvariant (fs : List Field) (i : InvariantTree) : Type 0 where
   pub are_names : AllByRecursion IsNameSymbol i.params
@@ -91,50 +74,3 @@ pub record IsScopedInvariant (fs : List Field) (i : InvariantTree) : Type 0 wher
 -- a property changes nothing
 abbrev pub ChangesNothing : OperationTree → Type 0
 ChangesNothing o = o.mode ≡ mode.Property → AllByRecursion (λ (s : StepTree). changed_by s.act ≡ None) o.steps
-
--- every condition and value speaks of known symbols alone
-pub record IsScoped (m : MachineTree) : Type 0 where
-  pub few_fields : length m.fields ≤ 32
-  pub operations : AllByRecursion (IsScopedOperation m.fields) m.ops
-  pub properties : AllByRecursion ChangesNothing m.ops
-  pub invariants : AllByRecursion (IsScopedInvariant m.fields) m.invariants
-
--- ---- the statements themselves
-
-abbrev pub IsKeyIn : Known → Option Tree → Type 0
-IsKeyIn k None = Unit {0}
-IsKeyIn k (Some t) = IsNumber k t
-
-abbrev pub IsPatternIn : Known → Option PatternTree → Type 0
-IsPatternIn k None = Unit {0}
-IsPatternIn k (Some (Bind x)) = k x ≡ Some Numbers
-IsPatternIn k (Some (Term t)) = IsNumber k t
-
-abbrev pub IsPlaceIn : Known → PlaceTree → Type 0
-IsPlaceIn k p = IsKeyIn k p.key × IsPatternIn k p.value
-
--- a statement is about a declared field and speaks of known symbols alone, each as its sort
-abbrev pub IsStatementIn : List Field → Known → ActTree → Type 0
-IsStatementIn fs k (acts.Init f t) = (f < length fs) × HasSort k (sort_of (strategy_at fs f)) t
-IsStatementIn fs k (acts.Update f t) = (f < length fs) × HasSort k (sort_of (strategy_at fs f)) t
-IsStatementIn fs k (acts.Require form) = IsFormula k form
-IsStatementIn fs k (acts.Assert form) = IsFormula k form
-IsStatementIn fs k (acts.HaveVariable f) = f < length fs
-IsStatementIn fs k (acts.Add f p) = (f < length fs) × IsPlaceIn k p
-IsStatementIn fs k (acts.Remove f p) = (f < length fs) × IsPlaceIn k p
-IsStatementIn fs k (acts.Have f p) = (f < length fs) × IsPlaceIn k p
-IsStatementIn fs k (acts.Deposit f p) = (f < length fs) × IsPlaceIn k p
-IsStatementIn fs k (acts.Withdraw f p) = (f < length fs) × IsPlaceIn k p
-IsStatementIn fs k (acts.Guard f p) = (f < length fs) × IsPlaceIn k p
-
--- the statements of an operation speak of the fields, its parameters and the names that it binds alone
-pub record KnowsItsNames (fs : List Field) (o : OperationTree) : Type 0 where
-  pub given : List ℕ
-  pub are_names : AllByRecursion IsNameSymbol given
-  pub statements : AllByRecursion (λ (s : StepTree). IsStatementIn fs (knows fs given) s.act) o.steps
-
--- all names of a machine are known, each as its sort
-pub record IsNamed (m : MachineTree) : Type 0 where
-  pub few_fields : length m.fields ≤ 32
-  pub operations : AllByRecursion (KnowsItsNames m.fields) m.ops
-  pub invariants : AllByRecursion (IsScopedInvariant m.fields) m.invariants

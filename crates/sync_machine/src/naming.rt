@@ -3,7 +3,7 @@ ghost use Rattle.std.specs.Prelude.{◌≡◌, ℕ, [], List, ◌||◌, map, len
 ghost use Rattle.std.specs.List.{list_any, AllByRecursion};
 ghost use Rattle.sync_terms.specs.Stored.{IsForm};
 ghost use Rattle.sync_machine.specs.Views.{symbols_of, step_tree, steps_tree, operation_tree, invariant_tree, machine_tree, HasActIds, HasOwnIds};
-ghost use Rattle.sync_machine.specs.Scope.{IsNamed};
+ghost use Rattle.sync_machine.specs.Named.{IsNamed};
 ghost use Rattle.sync_machine.specs.Scoped.{starts, starts_each, HaveIds};
 ghost use Rattle.sync_machine.specs.Naming.{Tells, at_line, first_fault, is_field_name, is_taken, is_invariant_name, repeated, parameter_fault, step_fault, start_fault, field_fault, head_fault, operation_fault, invariant_rule, invariant_fault, machine_fault, AreTextNames};
 

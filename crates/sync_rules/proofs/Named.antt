@@ -5,7 +5,8 @@ use Rattle.sync_machine.specs.declared.fields.Field.{Field}
 use Rattle.sync_machine.specs.Machines.{ActTree, StepTree, OperationTree, MachineTree}
 use Rattle.sync_machine.specs.Machines as acts
 use Rattle.sync_machine.specs.Statements.{changed_by}
-use Rattle.sync_machine.specs.Scope.{Known, knows, IsStatementIn, KnowsItsNames, IsNamed}
+use Rattle.sync_machine.specs.Scope.{Known, knows}
+use Rattle.sync_machine.specs.Named.{own_names, IsStatementIn, KnowsItsNames, IsNamed}
 use Rattle.sync_rules.specs.FieldSets.{IsSmall, ChangesFields, HasFewFields}
 
 below : (f n : ℕ) → f < n → n ≤ 32 → f < 32
@@ -32,7 +33,7 @@ all-small fs k (s ∷ ss) few h = (small fs k s.act few h.0, all-small fs k ss f
 operations-small : (fs : List Field) (os : List OperationTree) → length fs ≤ 32 → AllByRecursion (KnowsItsNames fs) os → AllByRecursion (λ (o : OperationTree). ChangesFields o.steps) os
 operations-small fs [] few h = tt
 operations-small fs (o ∷ os) few h =
-    (all-small fs (knows fs h.0.given) o.steps few h.0.statements, operations-small fs os few h.1)
+    (all-small fs (knows fs (own_names o)) o.steps few h.0.statements, operations-small fs os few h.1)
 
 pub HasFewFields-from_IsNamed : (m : MachineTree) → IsNamed m → HasFewFields m
 HasFewFields-from_IsNamed m h = operations-small m.fields m.ops h.few_fields h.operations

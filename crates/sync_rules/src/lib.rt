@@ -20,7 +20,7 @@ pub use acts::{field_of, strategy_of};
 pub use checking::check_ops;
 pub use kinds::OpKind;
 pub use listing::obligations;
-pub use matrix::{MATRIX, allowed};
+pub use matrix::{MATRIX, allowed, matrix_is_exact};
 pub use signing::{signature, variable_slots};
 pub use slots::{Role, Slot};
 pub use sync_terms::{Claim, Obligation};

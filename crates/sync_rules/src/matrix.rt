@@ -1,7 +1,7 @@
 //! The table of the statements that each strategy has.
 ghost use Rattle.std.specs.Prelude.{◌≡◌, ◌<◌};
 ghost use Rattle.sync_rules.specs.Strategies.{has_statement};
-ghost use Rattle.sync_rules.specs.Matrix.{row_of, column_of};
+ghost use Rattle.sync_rules.specs.Matrix.{row_of, column_of, IsMatrix};
 
 use crate::kinds::OpKind;
 use sync_base::Table;
@@ -23,6 +23,11 @@ pub const MATRIX: Table<9, 13> = Table {
         [0, 0, 0, 0, 0, 0, 0, 0, 0, 0, 0, 0, 1],
     ],
 };
+
+/// Each entry of the table says whether the strategy has the statement. It does nothing, and its clause is proved.
+pub fn matrix_is_exact()
+    ensures { IsMatrix MATRIX.rows }
+{}
 
 /// Whether fields of a strategy have a kind of statement.
 pub fn allowed(s: Strategy, o: OpKind) -> bool

@@ -17,7 +17,7 @@ pub(crate) fn is_variable(strategy: Strategy) -> bool
 }
 
 /// Whether a term names a symbol. Takes time in the size of its tree.
-#[tactic(auto, unfolding(sync_terms::specs::Stored::shape, sync_terms::specs::Stored::tree, sync_rules::specs::Obligations::names))]
+#[tactic(auto, unfolding(sync_terms::specs::Stored::shape, sync_terms::specs::Stored::tree, crate::specs::Obligations::names))]
 fn term_names(terms: &Terms, symbol: u32, id: TermId) -> bool
     requires { IsTerm terms.now id }
     ensures { result ≡ obligations.names symbol (tree terms.now id) }
@@ -37,7 +37,7 @@ fn term_names(terms: &Terms, symbol: u32, id: TermId) -> bool
 }
 
 /// Whether a formula names a symbol.
-#[tactic(auto, unfolding(sync_terms::specs::Stored::form_shape, sync_terms::specs::Stored::tree, sync_terms::specs::Stored::formula, sync_rules::specs::Obligations::form_names))]
+#[tactic(auto, unfolding(sync_terms::specs::Stored::form_shape, sync_terms::specs::Stored::tree, sync_terms::specs::Stored::formula, crate::specs::Obligations::form_names))]
 fn form_names(terms: &Terms, symbol: u32, id: FormId) -> bool
     requires { IsForm terms.now id }
     ensures { result ≡ obligations.form_names symbol (formula terms.now id) }

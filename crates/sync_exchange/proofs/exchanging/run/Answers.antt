@@ -2,7 +2,7 @@ use Rattle.std.proofs.Common.{◌≡◌, List, slice_index_or, sym, ap, ◌∙�
 use Rattle.std.proofs.lemmas.Result.{err_from_is_err_and}
 use Rattle.sync_machine.specs.declared.machine.Operation.{Operation}
 use Rattle.sync_machine.specs.Views.{operation_tree}
-use Rattle.sync_exchange_values.specs.Narrow.{is_narrow}
+use Rattle.sync_entries.specs.Narrow.{is_narrow}
 use Rattle.sync_join.specs.declared.values.Value.{Value}
 use Rattle.sync_exchange.specs.Works.{finished}
 use Rattle.sync_exchange.proofs.Finishing.{get-map}

@@ -4,7 +4,7 @@ use Rattle.std.specs.Int.{w128}
 use Rattle.std.proofs.lemmas.Int.{ints, to_z-of_z, to_z_pos}
 use Rattle.sync_terms.specs.Maps as maps
 use Rattle.sync_exchange_values.specs.Fitting.{values_fit}
-use Rattle.sync_exchange_values.specs.Narrow.{is_narrow}
+use Rattle.sync_entries.specs.Narrow.{is_narrow}
 use Rattle.sync_exchange_values.proofs.Narrowness.{left_false, right_false}
 use Rattle.sync_exchange_values.proofs.Evaluating.{stop_at, got}
 use Rattle.sync_exchange_values.proofs.Building.{bump_parts}

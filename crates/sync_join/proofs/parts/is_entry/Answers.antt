@@ -2,7 +2,7 @@ use Rattle.std.proofs.Common.{sym, ap, ◌∙◌}
 use Rattle.sync_join.specs.declared.values.Value.{Value}
 use Rattle.sync_join.specs.Join.{is_entry}
 use Rattle.sync_join.specs.Views.{value_tree}
-use Rattle.sync_join.proofs.Lookups.{nil-entry}
+use Rattle.sync_join.proofs.Maps.{nil-entry}
 use Rattle.sync_join.proofs.parts.is_entry.Goals as goal
 
 pub returns-in-Number : goal.returns-in-Number

@@ -1,6 +1,6 @@
 use Rattle.std.proofs.Common.{◌≡◌, drop}
 use Rattle.sync_machine.specs.Views.{steps_tree}
-use Rattle.sync_exchange_values.specs.Narrow.{is_narrow}
+use Rattle.sync_entries.specs.Narrow.{is_narrow}
 use Rattle.sync_exchange.specs.Exchange.{does_all}
 use Rattle.sync_exchange.specs.Works.{now_of}
 use Rattle.sync_exchange.proofs.works.Work.act_all.Given as goal

@@ -1,6 +1,6 @@
 use Rattle.std.proofs.lemmas.Result.{err_from_is_err_and}
 use Rattle.sync_terms.specs.Stored.{tree}
-use Rattle.sync_exchange_values.specs.Narrow.{is_narrow}
+use Rattle.sync_entries.specs.Narrow.{is_narrow}
 use Rattle.sync_join.specs.Views.{value_tree}
 use Rattle.sync_exchange.specs.Works.{now_of}
 use Rattle.sync_exchange.proofs.Acting.{init-stop, init-done}

@@ -1,7 +1,7 @@
 use Rattle.std.proofs.lemmas.Result.{err_from_is_err_and}
 use Rattle.std.proofs.Common.{sym, ◌∙◌}
 use Rattle.sync_terms.specs.Stored.{formula}
-use Rattle.sync_exchange_values.specs.Narrow.{is_narrow}
+use Rattle.sync_entries.specs.Narrow.{is_narrow}
 use Rattle.sync_exchange.specs.Works.{now_of}
 use Rattle.sync_exchange.proofs.Acting.{require-stop, require-false, require-true}
 use Rattle.sync_exchange.proofs.works.Work.require.Goals as goal

@@ -1,7 +1,7 @@
 use Rattle.std.proofs.Common.{ℕ, Option, ap, ◌∙◌}
 use Rattle.std.proofs.lemmas.Result.{err_from_is_err_and}
 use Rattle.sync_machine.specs.Views.{place_tree}
-use Rattle.sync_exchange_values.specs.Narrow.{is_narrow}
+use Rattle.sync_entries.specs.Narrow.{is_narrow}
 use Rattle.sync_join.specs.declared.tokens.Token.{Token}
 use Rattle.sync_exchange.specs.Exchange.{after_giving, binding}
 use Rattle.sync_exchange.specs.Works.{base_of, now_of}
@@ -24,6 +24,6 @@ returns c = λ line.
     let n = c.in_ok-found.found.token.value in
     withdraw-done is_narrow case.outer.fields.now line x c.args.field (place_tree s c.args.place) n c.in_ok-found.found.asked _ u z
     c.in_ok-found.ensures.exact c.in_ok-found.ensures.asked
-    (c.in_ok-give.ensures ∙ ap (λ (t : Token). after_giving t x) c.like.ensures)
+    (c.in_ok-give.ensures ∙ ap (λ (t : Token). after_giving t x) c.permission.ensures)
     (c.in_ok-withdraw.ensures (base_of case))
     (c.in_ok-bind.ensures (base_of case) ∙ ap (λ (o : Option ℕ). binding o n u) (c.binds.ensures s))

@@ -2,7 +2,7 @@ use Rattle.std.proofs.Common.{rules, ◌≡◌, ◌<ℤ◌, ◌≤ℤ◌, ℤ, p
 use Rattle.std.specs.Prelude.{FitsSigned}
 use Rattle.std.specs.Int.{w128}
 use Rattle.std.proofs.lemmas.Int.{ints, to_z-of_z, to_z_pos}
-use Rattle.sync_exchange_values.specs.Narrow.{is_narrow}
+use Rattle.sync_entries.specs.Narrow.{is_narrow}
 use Rattle.sync_exchange_values.specs.Steps.{operated}
 use Rattle.sync_exchange_values.proofs.Narrowness.{left_false, right_false}
 use Rattle.sync_exchange_values.proofs.Evaluating.{stop_at, got, operated_some, operated_none}

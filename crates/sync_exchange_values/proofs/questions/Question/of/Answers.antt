@@ -6,9 +6,10 @@ use Rattle.sync_terms.specs.Maps as maps
 use Rattle.std.specs.FinMap as finmap
 use Rattle.sync_exchange_values.specs.declared.questions.Question.TheVariants as question
 use Rattle.sync_exchange_values.specs.declared.questions.Question.{Question}
-use Rattle.sync_exchange_values.specs.Narrow.{is_narrow}
+use Rattle.sync_entries.specs.Narrow.{is_narrow}
 use Rattle.sync_exchange_values.specs.Steps.{answer}
 use Rattle.sync_exchange_values.proofs.Narrowness.{values_narrow, wide_of}
+use Rattle.sync_exchange_values.proofs.Building.{sum-values}
 use Rattle.sync_exchange_values.proofs.Evaluating.{at_question}
 use Rattle.sync_exchange_values.proofs.questions.Question.of.Goals as goal
 
@@ -60,13 +61,13 @@ pub returns-in-Some-clause-answer : goal.returns-in-Some-clause-answer
 returns-in-Some-clause-answer c =
     let sum : FitsSigned w128 c.in-Some.sum = search rules in
     let same = to_z-of_z w128 c.in-Some.sum sum in
-    at_question c.args.self question.Sum c.args.map.now (to_z w128 (of_z w128 c.in-Some.sum)) c.in-Sum.is (subst (FitsSigned w128) (sym same) sum) (same ∙ c.in-Some.ensures.sum.1)
+    at_question c.args.self question.Sum c.args.map.now (to_z w128 (of_z w128 c.in-Some.sum)) c.in-Sum.is (subst (FitsSigned w128) (sym same) sum) (same ∙ c.in-Some.ensures.sum.1 ∙ sum-values c.args.map.now)
 
 pub returns-in-Some-clause-narrow : goal.returns-in-Some-clause-narrow
 returns-in-Some-clause-narrow c = values_narrow c.args.map.now c.sum.ensures.narrow
 
 pub returns-in-None-clause-answer : goal.returns-in-None-clause-answer
-returns-in-None-clause-answer c = ap (λ (q : Question). is_narrow (answer q c.args.map.now)) c.in-Sum.is ∙ wide_of (maps.sum c.args.map.now) c.in-None.ensures.sum
+returns-in-None-clause-answer c = ap (λ (q : Question). is_narrow (answer q c.args.map.now)) c.in-Sum.is ∙ wide_of (maps.sum c.args.map.now) (subst (λ (n : ℤ). FitsSigned w128 n → ⊥) (sum-values c.args.map.now) c.in-None.ensures.sum)
 
 pub returns-in-None-clause-narrow : goal.returns-in-None-clause-narrow
 returns-in-None-clause-narrow c = values_narrow c.args.map.now c.sum.ensures.narrow

@@ -1,0 +1,4 @@
+pub mod Maps
+pub mod Lookups
+pub mod Narrowing
+pub mod Ordered
