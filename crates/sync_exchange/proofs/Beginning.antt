@@ -27,7 +27,7 @@ use Rattle.sync_rules.specs.Slots.{only_if, given_by, read_by, updated_to, value
 use Rattle.sync_rules.specs.Slots as slots
 use Rattle.sync_exchange.specs.declared.hands.Held.{Held}
 use Rattle.sync_exchange.specs.Exchange.{tokens_in, token_name, names_before, beginning}
-use Rattle.sync_exchange.specs.Plain.{is_kept, is_at_hand, is_plain}
+use Rattle.sync_rules.specs.Plain.{is_kept, is_at_hand, is_plain}
 use Rattle.sync_exchange.specs.Projection.{AreNames}
 use Rattle.sync_exchange.proofs.Making.{records-at}
 use Rattle.sync_exchange.proofs.Strategies.{some_is}
@@ -88,7 +88,7 @@ trust fs o s whole other rules (inl same) = record {
   knows = λ z lt e. inl (inr (ap (λ u. get_or u z nothing) same));
 }
 trust fs o s whole other rules (inr plain) = record {
-  test = is_at_hand fs o;
+  test = is_at_hand fs o.steps;
   outside = λ z e. or-one (not (nat_lt z (length fs))) _ _ (ap not e);
   reading = plain-reading fs o o.mode other [] o.steps refl (no-inits fs o.mode [] o.steps other rules) rules plain;
   knows = λ z lt e. by-hand (at-hand-cases (nat_lt z (length fs)) (is_kept (strategy_at fs z)) (is_some (field_slot fs o.steps z)) (lt-ltb z (length fs) lt) e);

@@ -183,10 +183,31 @@ total_gives fs (s ∷ ss) = gives fs s.act + total_gives fs ss
 abbrev pub AreUsed : List Field → List (ℕ × ℕ) → List StepTree → Type 0
 AreUsed fs vars ss = AllByRecursion (λ (s : StepTree). (f : ℕ) → changed_by s.act ≡ Some f → is_variable (strategy_at fs f) ≡ true → (name : ℕ) × (token_name f vars ≡ Some name)) ss
 
+-- what is known of a statement that has been done
+pub record IsStepDone (fit : ℤ → Bool) (fs : List Field) (v : Valuation) (others : List Token) (cur : List Tree) (s : StepTree) (x y : Exchanging) : Type 0 where
+  pub stands : IsUnderWay fs v others x cur
+  -- the symbols that the statement may read
+  pub reads : ℕ → Bool
+  pub ready : IsReady fs v reads x y cur s.act
+  pub did : does fit fs s x ≡ Ok y
+  pub goes : GoesAlong fs v others x y cur s.act
+
+-- statement by statement from one point of an exchange to another
+unfoldable pub Walk : (ℤ → Bool) → List Field → Valuation → List Token → List Tree → List StepTree → Exchanging → Exchanging → Type 0
+Walk fit fs v others cur [] x y = IsUnderWay fs v others x cur × (x ≡ y)
+Walk fit fs v others cur (s ∷ ss) x y = (u : Exchanging) × IsStepDone fit fs v others cur s x u × Walk fit fs v others (advanced fs cur s.act) ss u y
+
 -- the statements have been done
 pub record AreDone (fs : List Field) (v : Valuation) (others : List Token) (y : Exchanging) (cur : List Tree) (ss : List StepTree) : Type 0 where
   pub met : AreMet fs v cur ss
   pub stands : IsUnderWay fs v others y (last_values fs cur ss)
+
+pub walked : (fit : ℤ → Bool) (fs : List Field) (v : Valuation) (others : List Token) (ss : List StepTree) (x y : Exchanging) (cur : List Tree)
+    → Walk fit fs v others cur ss x y → AreDone fs v others y cur ss
+unfolding Walk AreMet last_values
+walked fit fs v others [] x y cur w = record { met = tt; stands = subst (λ u. IsUnderWay fs v others u cur) w.1 w.0 }
+walked fit fs v others (s ∷ ss) x y cur w =
+    let rest = walked fit fs v others ss w.0 y (advanced fs cur s.act) w.2 in record { met = (w.1.goes.met, rest.met); stands = rest.stands }
 
 module _ (fit : ℤ → Bool) (fs : List Field) (few : length fs ≤ 32) (trusted : ℕ → Bool) (params : List ℕ) where
   pub names-kept_all : (before ss : List StepTree) (x y : Exchanging) → AreLawful fs trusted params before ss → does_all fit fs ss x ≡ Ok y
@@ -220,9 +241,9 @@ module _ (fit : ℤ → Bool) (fs : List Field) (few : length fs ≤ 32) (truste
       doing q x y cur line (acts.Guard f p) ss h r extra e = doing-guard fs v others q x y cur h fit f p e r
 
       pub going : (before ss : List StepTree) (x y : Exchanging) (cur : List Tree) → AreLawful fs trusted params before ss → does_all fit fs ss x ≡ Ok y → IsUnderWay fs v others x cur
-          → IsKeptSafe fs v cur ss → Same trusted y.names v → total_gives fs ss ≤ length x.given → AreUsed fs x.variables ss → Extra ss x cur → AreDone fs v others y cur ss
-      unfolding AreMet IsKeptSafe last_values total_gives
-      going before [] x y cur laws e h safe same enough used extra = record { met = tt; stands = subst (λ w. IsUnderWay fs v others w cur) (ok_is x y e) h }
+          → IsKeptSafe fs v cur ss → Same trusted y.names v → total_gives fs ss ≤ length x.given → AreUsed fs x.variables ss → Extra ss x cur → Walk fit fs v others cur ss x y
+      unfolding Walk IsKeptSafe total_gives
+      going before [] x y cur laws e h safe same enough used extra = (h, ok_is x y e)
       going before (s ∷ ss) x y cur laws e h safe same enough used extra =
           let a = bind-ok (does fit fs s x) (does_all fit fs ss) y e in
           let q = λ (z : ℕ). trusted z && is_known_by fs (params ++ bound_names before) z in
@@ -242,4 +263,4 @@ module _ (fit : ℤ → Bool) (fs : List Field) (few : length fs ≤ 32) (truste
           (let g = moves.given in omega (arith, g, enough))
           (subst (λ vars. AreUsed fs vars ss) (sym moves.variables) used.1)
           (next q s ss x a.0 cur laws.0 h a.1 extra) in
-          record { met = (moves.met, rest.met); stands = rest.stands }
+          (a.0, record { stands = h; reads = q; ready = ready; did = a.1; goes = moves }, rest)

@@ -35,7 +35,7 @@ use Rattle.sync_exchange.proofs.Passing.{bind-ok}
 use Rattle.sync_exchange.proofs.Lawful.{reads_only}
 use Rattle.sync_exchange.proofs.Standing.{bag_at, IsUnderWay, IsReady}
 use Rattle.sync_exchange.proofs.Doing.{no-permission}
-use Rattle.sync_exchange.proofs.Going.{IsSameAt, AreLawful, AreUsed, AreDone, total_gives, known-in, names-kept_all, going}
+use Rattle.sync_exchange.proofs.Going.{IsSameAt, AreLawful, AreUsed, AreDone, total_gives, known-in, names-kept_all, going, Walk, walked}
 use Rattle.sync_exchange.proofs.Rules.{broken-none, IsRegular, AreRuled, AreReading, regular, are-lawful}
 use Rattle.sync_exchange.proofs.Whole.{values-list, params-apart, are-given}
 use Rattle.sync_exchange.proofs.Trusting.{past-end}
@@ -264,8 +264,8 @@ module _ (fit : ℤ → Bool) (m : MachineTree) (o : OperationTree) (args : List
   used : AreUsed m.fields y0.variables o.steps
   used = all-used m.fields y0.variables o.steps (λ f var. some-name (token_name f y0.variables) (opened.all.used f (variable-inside m.fields f var) var))
 
-  done : IsKeptSafe m.fields y.names (first_values m.fields mode.Init) o.steps → AreDone m.fields y.names [] y (first_values m.fields mode.Init) o.steps
-  done safe =
+  pub walk : IsKeptSafe m.fields y.names (first_values m.fields mode.Init) o.steps → Walk fit m.fields y.names [] (first_values m.fields mode.Init) o.steps y0 y
+  walk safe =
       going fit m.fields rules.few (is_outside m.fields) o.params y.names [] (λ ss x c. AreWaiting m.fields [] ss x c)
       (λ q x z c f t line ss h r extra e.
       let lt = init-inside m.fields y.names q x z c f t r in
@@ -273,6 +273,9 @@ module _ (fit : ℤ → Bool) (m : MachineTree) (o : OperationTree) (args : List
       (λ q s ss x z c k h e extra. waiting-next fit m.fields rules.few y.names [] s ss x z c h e extra)
       (λ z e. ap not e) [] o.steps y0 y (first_values m.fields mode.Init) laws rest (open-stands m.fields y.names start.names y0 opened.all) safe
       (record { number = λ z e. refl; mapping = λ z e. refl }) opened.enough used waiting
+
+  done : IsKeptSafe m.fields y.names (first_values m.fields mode.Init) o.steps → AreDone m.fields y.names [] y (first_values m.fields mode.Init) o.steps
+  done safe = walked fit m.fields y.names [] o.steps y0 y (first_values m.fields mode.Init) (walk safe)
 
   param-value : (z : ℕ) → IsTextName z → is_in z o.params ≡ true → y.names.number z ≡ argument o.params args z
   param-value z text has =
@@ -283,7 +286,7 @@ module _ (fit : ℤ → Bool) (m : MachineTree) (o : OperationTree) (args : List
       let is : start.names.number z ≡ argument o.params args z = rw out refl in
       sym kept_to.number ∙ sym from.number ∙ is
 
-  given-args : length args ≡ length o.params → AreGiven o.params args y.names
+  pub given-args : length args ≡ length o.params → AreGiven o.params args y.names
   given-args long = are-given y.names o.params args long (params-apart m.fields [] o.params rules.params).1
       (all-both IsTextName (λ z. is_in z o.params ≡ true) (λ z. y.names.number z ≡ argument o.params args z) o.params param-value rules.texts.params (all-in o.params))
 

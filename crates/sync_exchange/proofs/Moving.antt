@@ -10,7 +10,7 @@ use Rattle.sync_join.specs.Join.{join_of}
 use Rattle.sync_join.proofs.Rearranged.{IsRearranged, often-append, rearranged-sym, shards-rearranged, join_of-rearranged}
 use Rattle.sync_exchange.specs.declared.hands.Held.{Held}
 use Rattle.sync_exchange.specs.Exchange.{tokens_in}
-use Rattle.sync_exchange.specs.Plain.{is_plain}
+use Rattle.sync_rules.specs.Plain.{is_plain}
 use Rattle.sync_exchange.specs.Splitting.{KeepsShards}
 use Rattle.sync_exchange.specs.Projection.{IsProved}
 use Rattle.sync_exchange.proofs.Keeping.{split-keeps, merge-keeps, copy-keeps}

@@ -23,7 +23,7 @@ use Rattle.sync_rules.specs.Slots.{SlotTree, field_slot}
 use Rattle.sync_exchange.specs.declared.hands.XStop.TheVariants.{Differs}
 use Rattle.sync_exchange.specs.Exchange.{Exchanging, Answer, unless, is_at_place, knowing, next_name, after_reading, seen, names_before, beginning, use_variable, use_variables, does, does_all}
 use Rattle.sync_exchange.specs.Projection.{ReadsNoState}
-use Rattle.sync_exchange.specs.Plain.{is_kept, is_at_hand, is_plain}
+use Rattle.sync_rules.specs.Plain.{is_kept, is_at_hand, is_plain}
 use Rattle.sync_exchange.proofs.Terms.{Same, and_left, and_right, and_both}
 use Rattle.sync_exchange.proofs.Doing.{beyond}
 use Rattle.sync_exchange.proofs.Going.{IsSameAt, is_known_by, AreLawful, known-in}
@@ -189,7 +189,7 @@ reads-kept fs o plain rules = mode-cases o.mode (ReadsKept fs o)
       knows = λ z lt e. let inside : is_outside fs z ≡ false = ap not (lt-ltb z (length fs) lt) in absurd (cc);
     })
     (λ other. record {
-      test = is_at_hand fs o;
+      test = is_at_hand fs o.steps;
       reading = plain-reading fs o o.mode other [] o.steps refl (no-inits fs o.mode [] o.steps other rules) rules plain;
       knows = λ z lt e. at-hand-cases (nat_lt z (length fs)) (is_kept (strategy_at fs z)) (is_some (field_slot fs o.steps z)) (lt-ltb z (length fs) lt) e;
     })

@@ -22,12 +22,12 @@ use Rattle.sync_join.proofs.States.{joined-state}
 use Rattle.sync_rules.specs.Slots.{field_slot}
 use Rattle.sync_exchange.specs.declared.hands.Held.{Held}
 use Rattle.sync_exchange.specs.Exchange.{Exchanging, Exchanged, Answer, outcome, tokens_in, token_name, argument, beginning, variable_slots, use_variables, does_all}
-use Rattle.sync_exchange.specs.Plain.{is_plain}
+use Rattle.sync_rules.specs.Plain.{is_plain}
 use Rattle.sync_exchange.specs.Projection.{AreNames, LeadsOn, Projects}
 use Rattle.sync_exchange.proofs.Terms.{Same}
 use Rattle.sync_exchange.proofs.Passing.{bind-ok}
 use Rattle.sync_exchange.proofs.Standing.{bag_at, GoesAlong}
-use Rattle.sync_exchange.proofs.Going.{IsSameAt, same-through, is_known_by, AreLawful, AreDone, known-in, names-kept_all, going}
+use Rattle.sync_exchange.proofs.Going.{IsSameAt, same-through, is_known_by, AreLawful, AreDone, Walk, walked, known-in, names-kept_all, going}
 use Rattle.sync_exchange.proofs.Answering.{Answers, all-answered, used-bind-nothing}
 use Rattle.sync_exchange.proofs.Rules.{IsRegular, regular, are-lawful}
 use Rattle.sync_exchange.proofs.Using.{HasNoInit, AreKnown, using}
@@ -61,12 +61,12 @@ at-number P n f h lt =
     let is : get_or (range_with_len 0 n) f f ≡ f = get_or-range_with_len 0 n f f lt ∙ (let e : 0 + f ≡ f = omega arith in e) in
     subst P is (at_place P (range_with_len 0 n) f f h (omega (arith, lt, long)))
 
-field-known : (fs : List Field) (names : List ℕ) (z : ℕ) → z < length fs → is_known_by fs names z ≡ true
+pub field-known : (fs : List Field) (names : List ℕ) (z : ℕ) → z < length fs → is_known_by fs names z ≡ true
 field-known fs names z lt = let e : nat_lt z (length fs) ≡ true = lt-ltb z (length fs) lt in rw e refl
 
 -- ---- the steps of a transition
 
-no-first : (fs : List Field) (f : ℕ) (t : Tree) (line : ℕ) (ss : List StepTree) (P : Type 0) → HasNoInit (record { act = acts.Init f t; line = line } ∷ ss) → P
+pub no-first : (fs : List Field) (f : ℕ) (t : Tree) (line : ℕ) (ss : List StepTree) (P : Type 0) → HasNoInit (record { act = acts.Init f t; line = line } ∷ ss) → P
 unfolding kind_of
 no-first fs f t line ss P h = let e = h.0 in absurd (cc)
 
@@ -97,7 +97,7 @@ module _ (fit : ℤ → Bool) (m : MachineTree) (o : OperationTree) (args : List
 
   field-first : (z : ℕ) → z < length m.fields → t.test z ≡ true → IsSameAt z y0.names names_of
   field-first z lt e = cases (t.knows z lt e) where
-    cases : ((Rattle.sync_exchange.specs.Plain.is_kept (strategy_at m.fields z) ≡ true) ⊎ (get_or whole z Rattle.sync_exchange.proofs.Whole.nothing ≡ get_or s z Rattle.sync_exchange.proofs.Whole.nothing)) ⊎ (is_some (field_slot m.fields o.steps z) ≡ true) → IsSameAt z y0.names names_of
+    cases : ((Rattle.sync_rules.specs.Plain.is_kept (strategy_at m.fields z) ≡ true) ⊎ (get_or whole z Rattle.sync_exchange.proofs.Whole.nothing ≡ get_or s z Rattle.sync_exchange.proofs.Whole.nothing)) ⊎ (is_some (field_slot m.fields o.steps z) ≡ true) → IsSameAt z y0.names names_of
     cases (inl h) = known.keeps z (start-same m.fields o args tokens given hand others kept s whole joined sound y.names z lt h)
     cases (inr h) = (at-number (λ f. is_some (field_slot m.fields o.steps f) ≡ true → IsSameAt f y0.names names_of × (is_some (token_name f y0.variables) ≡ true)) (length m.fields) z known.learns lt h).0
 
@@ -128,8 +128,8 @@ module _ (fit : ℤ → Bool) (m : MachineTree) (o : OperationTree) (args : List
   given-args long = are-given names_of o.params args long (params-apart m.fields [] o.params rules.params).1
       (all-both IsTextName (λ z. is_in z o.params ≡ true) (λ z. names_of.number z ≡ argument o.params args z) o.params param-value rules.texts.params (all-in o.params))
 
-  pub done : IsKeptSafe m.fields names_of cur o.steps → AreDone m.fields names_of others y cur o.steps
-  done safe =
+  pub walk : IsKeptSafe m.fields names_of cur o.steps → Walk fit m.fields names_of others cur o.steps y0 y
+  walk safe =
       let long : y0.given ≡ given = known.given in
       let many : length y0.given ≡ length given = ap length long in
       let enough = names-enough m.fields o tokens given hand names in
@@ -140,6 +140,9 @@ module _ (fit : ℤ → Bool) (m : MachineTree) (o : OperationTree) (args : List
       (are-used m.fields o.mode o.steps [] o.steps y0.variables refl none rules.rules
       (λ f lt slot. (at-number (λ f. is_some (field_slot m.fields o.steps f) ≡ true → IsSameAt f y0.names names_of × (is_some (token_name f y0.variables) ≡ true)) (length m.fields) f known.learns lt slot).1))
       none
+
+  pub done : IsKeptSafe m.fields names_of cur o.steps → AreDone m.fields names_of others y cur o.steps
+  done safe = walked fit m.fields names_of others o.steps y0 y cur (walk safe)
 
   answers : Answers o.steps y0 y names_of
   answers = all-answered fit m.fields rules.few t.test o.params names_of [] o.steps y0 y laws rest (λ z out. (same-outside m.fields s y.names z out).number)

@@ -17,7 +17,7 @@ use Rattle.sync_rules.specs.Locality.{names_only, form_names_only, key_names_onl
 use Rattle.sync_rules.specs.Strategies.{kind_of}
 use Rattle.sync_rules.specs.Order.{is_first_value}
 use Rattle.sync_rules.specs.Slots.{read_slot, only_if, needs, key_names, pattern_names, place_names, given_by, changed_by, read_by, earliest, variable_slot, field_slot}
-use Rattle.sync_exchange.specs.Plain.{is_kept, is_at_hand, reads_at_hand}
+use Rattle.sync_rules.specs.Plain.{is_kept, is_at_hand, reads_at_hand}
 use Rattle.sync_exchange.proofs.Terms.{and_left, and_right, and_both, or_left, or_right, only-more, form-only-more}
 use Rattle.sync_exchange.proofs.Lawful.{reads_only}
 use Rattle.sync_exchange.proofs.Rules.{AreRuled, AreReading}
@@ -121,11 +121,11 @@ or-one true b c e = refl
 or-one false b c e = absurd (cc)
 
 module _ (fs : List Field) (o : OperationTree) where
-  local-cases : (x : ℕ) (g : Option Field) → slice_get fs x ≡ g → is_known_field g ≡ true → (is_variable (strategy_at fs x) ≡ true → is_some (field_slot fs o.steps x) ≡ true) → is_at_hand fs o x ≡ true
+  local-cases : (x : ℕ) (g : Option Field) → slice_get fs x ≡ g → is_known_field g ≡ true → (is_variable (strategy_at fs x) ≡ true → is_some (field_slot fs o.steps x) ≡ true) → is_at_hand fs o.steps x ≡ true
   local-cases x None is e h = let past : nat_lt x (length fs) ≡ false = le-ltb x (length fs) (past-end fs x is) in or-one (not (nat_lt x (length fs))) _ _ (ap not past)
   local-cases x (Some f) is e h = or-three (not (nat_lt x (length fs))) _ _ (known-cases (strategy_at fs x) (is_some (field_slot fs o.steps x)) (ap is_known (strategy-of fs x f is) ∙ e) h)
 
-  pub local-at-hand : (m : OpMode) (x : ℕ) → (m ≡ mode.Init → ⊥) → is_local fs m x ≡ true → (is_variable (strategy_at fs x) ≡ true → is_some (field_slot fs o.steps x) ≡ true) → is_at_hand fs o x ≡ true
+  pub local-at-hand : (m : OpMode) (x : ℕ) → (m ≡ mode.Init → ⊥) → is_local fs m x ≡ true → (is_variable (strategy_at fs x) ≡ true → is_some (field_slot fs o.steps x) ≡ true) → is_at_hand fs o.steps x ≡ true
   local-at-hand mode.Init x other e h = absurd (other refl)
   local-at-hand mode.Transition x other e h = local-cases x (slice_get fs x) refl e h
   local-at-hand mode.Property x other e h = local-cases x (slice_get fs x) refl e h
@@ -162,32 +162,32 @@ module _ (fs : List Field) (o : OperationTree) (m : OpMode) (other : m ≡ mode.
   abbrev pub Needed : (ℕ → Bool) → Type 0
   Needed named = (x : ℕ) → named x ≡ true → is_variable (strategy_at fs x) ≡ true → is_some (field_slot fs o.steps x) ≡ true
 
-  tree-at-hand : (t : Tree) → ((x : ℕ) → names x t ≡ true → is_variable (strategy_at fs x) ≡ true → is_some (field_slot fs o.steps x) ≡ true) → names_only (is_local fs m) t ≡ true → names_only (is_at_hand fs o) t ≡ true
-  tree-at-hand t need e = only-more (is_local fs m) (is_at_hand fs o) t (λ x named known. local-at-hand fs o m x other known (need x named)) e
+  tree-at-hand : (t : Tree) → ((x : ℕ) → names x t ≡ true → is_variable (strategy_at fs x) ≡ true → is_some (field_slot fs o.steps x) ≡ true) → names_only (is_local fs m) t ≡ true → names_only (is_at_hand fs o.steps) t ≡ true
+  tree-at-hand t need e = only-more (is_local fs m) (is_at_hand fs o.steps) t (λ x named known. local-at-hand fs o m x other known (need x named)) e
 
-  key-at-hand : (k : Option Tree) → ((x : ℕ) → key_names x k ≡ true → is_variable (strategy_at fs x) ≡ true → is_some (field_slot fs o.steps x) ≡ true) → key_names_only (is_local fs m) k ≡ true → key_names_only (is_at_hand fs o) k ≡ true
+  key-at-hand : (k : Option Tree) → ((x : ℕ) → key_names x k ≡ true → is_variable (strategy_at fs x) ≡ true → is_some (field_slot fs o.steps x) ≡ true) → key_names_only (is_local fs m) k ≡ true → key_names_only (is_at_hand fs o.steps) k ≡ true
   key-at-hand None need e = refl
   key-at-hand (Some t) need e = tree-at-hand t need e
 
-  pattern-at-hand : (k : Option PatternTree) → ((x : ℕ) → pattern_names x k ≡ true → is_variable (strategy_at fs x) ≡ true → is_some (field_slot fs o.steps x) ≡ true) → pattern_names_only (is_local fs m) k ≡ true → pattern_names_only (is_at_hand fs o) k ≡ true
+  pattern-at-hand : (k : Option PatternTree) → ((x : ℕ) → pattern_names x k ≡ true → is_variable (strategy_at fs x) ≡ true → is_some (field_slot fs o.steps x) ≡ true) → pattern_names_only (is_local fs m) k ≡ true → pattern_names_only (is_at_hand fs o.steps) k ≡ true
   pattern-at-hand None need e = refl
   pattern-at-hand (Some (Bind z)) need e = refl
   pattern-at-hand (Some (Term t)) need e = tree-at-hand t need e
 
-  place-at-hand : (p : PlaceTree) → ((x : ℕ) → place_names x p ≡ true → is_variable (strategy_at fs x) ≡ true → is_some (field_slot fs o.steps x) ≡ true) → place_names_only (is_local fs m) p ≡ true → place_names_only (is_at_hand fs o) p ≡ true
+  place-at-hand : (p : PlaceTree) → ((x : ℕ) → place_names x p ≡ true → is_variable (strategy_at fs x) ≡ true → is_some (field_slot fs o.steps x) ≡ true) → place_names_only (is_local fs m) p ≡ true → place_names_only (is_at_hand fs o.steps) p ≡ true
   place-at-hand p need e =
       and_both _ _ (key-at-hand p.key (λ x n. need x (or_left _ _ n)) (and_left _ _ e)) (pattern-at-hand p.value (λ x n. need x (or_right (key_names x p.key) _ n)) (and_right (key_names_only (is_local fs m) p.key) _ e))
 
   update-cases : (f : ℕ) (t : Tree) (b : Bool) → is_variable (strategy_at fs f) ≡ b → ((x : ℕ) → (b && names x t) ≡ true → is_variable (strategy_at fs x) ≡ true → is_some (field_slot fs o.steps x) ≡ true)
-      → (if b then names_only (is_local fs m) t else true) ≡ true → (b || names_only (is_at_hand fs o) t) ≡ true → names_only (is_at_hand fs o) t ≡ true
+      → (if b then names_only (is_local fs m) t else true) ≡ true → (b || names_only (is_at_hand fs o.steps) t) ≡ true → names_only (is_at_hand fs o.steps) t ≡ true
   update-cases f t true is need e h = tree-at-hand t need e
   update-cases f t false is need e h = h
 
   act-at-hand : (line : ℕ) (a : ActTree) → is_first_value (kind_of a) ≡ false → ((x : ℕ) → needs fs x a ≡ true → is_variable (strategy_at fs x) ≡ true → is_some (field_slot fs o.steps x) ≡ true)
-      → has_local_terms fs m a ≡ true → reads_at_hand fs o (record { act = a; line = line }) ≡ true → reads_only (is_at_hand fs o) a ≡ true
+      → has_local_terms fs m a ≡ true → reads_at_hand fs o.steps (record { act = a; line = line }) ≡ true → reads_only (is_at_hand fs o.steps) a ≡ true
   unfolding reads_only has_local_terms needs kind_of
   act-at-hand line (acts.Init f t) first need e h = absurd (cc)
-  act-at-hand line (acts.Require form) first need e h = form-only-more (is_local fs m) (is_at_hand fs o) form (λ x named known. local-at-hand fs o m x other known (need x named)) e
+  act-at-hand line (acts.Require form) first need e h = form-only-more (is_local fs m) (is_at_hand fs o.steps) form (λ x named known. local-at-hand fs o m x other known (need x named)) e
   act-at-hand line (acts.Assert form) first need e h = refl
   act-at-hand line (acts.Update f t) first need e h = update-cases f t (is_variable (strategy_at fs f)) refl need e h
   act-at-hand line (acts.HaveVariable f) first need e h = refl
@@ -198,10 +198,10 @@ module _ (fs : List Field) (o : OperationTree) (m : OpMode) (other : m ≡ mode.
   act-at-hand line (acts.Withdraw f p) first need e h = place-at-hand p need e
   act-at-hand line (acts.Guard f p) first need e h = place-at-hand p need e
 
-  pub plain-reading : (before ss : List StepTree) → before ++ ss ≡ o.steps → HasNoInit ss → AreRuled fs m before ss → list_all (reads_at_hand fs o) ss ≡ true → AreReading (is_at_hand fs o) ss
+  pub plain-reading : (before ss : List StepTree) → before ++ ss ≡ o.steps → HasNoInit ss → AreRuled fs m before ss → list_all (reads_at_hand fs o.steps) ss ≡ true → AreReading (is_at_hand fs o.steps) ss
   plain-reading before [] is none rules h = tt
   plain-reading before (s ∷ ss) is none rules h = (
     act-at-hand s.line s.act none.0
         (λ x need var. subst (λ steps. is_some (field_slot fs steps x) ≡ true) is (needed-slot fs before s ss x need var)) rules.0.local (and_left _ _ h),
-    plain-reading (before ++ s ∷ []) ss (append_assoc before (s ∷ []) ss ∙ is) none.1 rules.1 (and_right (reads_at_hand fs o s) _ h),
+    plain-reading (before ++ s ∷ []) ss (append_assoc before (s ∷ []) ss ∙ is) none.1 rules.1 (and_right (reads_at_hand fs o.steps s) _ h),
   )

@@ -22,7 +22,7 @@ use Rattle.sync_join.specs.Shards.{Kept, IsOf}
 use Rattle.sync_join.specs.Join.{tokens_of, joined, value_at, join_of, record_at, map_of, entries_of, number_of, only_value, as_map, counts_of, sum_of, borne_out}
 use Rattle.sync_join.proofs.States.{state-joined}
 use Rattle.sync_exchange.specs.Exchange.{seen, argument}
-use Rattle.sync_exchange.specs.Plain.{is_kept}
+use Rattle.sync_rules.specs.Plain.{is_kept}
 use Rattle.sync_exchange.proofs.Rules.{broken-none}
 use Rattle.sync_exchange.proofs.Strategies.{some_is, borne_is}
 use Rattle.sync_exchange.proofs.Storing.{as_map-parts}

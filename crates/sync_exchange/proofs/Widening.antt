@@ -18,62 +18,61 @@ use Rattle.sync_exchange.specs.Exchange.{Exchanging, Answer, unless, outcome, be
 use Rattle.sync_exchange.specs.Laws.{BoundAlone}
 use Rattle.sync_exchange.proofs.Asking.{both-true}
 
-free : ℤ → Bool
-free n = true
+abbrev pub unbounded : ℤ → Bool
+unbounded n = true
 
 -- ---- with no bound everything fits
 
-all-free : (ns : List ℤ) → list_all free ns ≡ true
-unfolding free
+all-free : (ns : List ℤ) → list_all unbounded ns ≡ true
 all-free [] = refl
 all-free (n ∷ ns) = all-free ns
 
-values-free : (m : maps.Map) → values_fit free m ≡ true
+values-free : (m : maps.Map) → values_fit unbounded m ≡ true
 values-free m = all-free (finmap.values m)
 
 three : (a b : Bool) → a ≡ true → b ≡ true → ((a && b) && true) ≡ true
 three a b p q = both-true (a && b) true (both-true a b p q) refl
 
-both-fit : (v : Valuation) (t : Tree) → (number_fits free v t ≡ true) × (map_fits free v t ≡ true)
-unfolding free number_fits map_fits
+both-fit : (v : Valuation) (t : Tree) → (number_fits unbounded v t ≡ true) × (map_fits unbounded v t ≡ true)
+unfolding number_fits map_fits
 both-fit v (Lit n) = (refl, refl)
 both-fit v (Name x) = (refl, values-free (v.mapping x))
-both-fit v (Add a b) = (three (number_fits free v a) (number_fits free v b) (both-fit v a).0 (both-fit v b).0, refl)
-both-fit v (Sub a b) = (three (number_fits free v a) (number_fits free v b) (both-fit v a).0 (both-fit v b).0, refl)
-both-fit v (Scale n a) = (both-true (number_fits free v a) true (both-fit v a).0 refl, refl)
-both-fit v (Get m k) = (three (map_fits free v m) (number_fits free v k) (both-fit v m).1 (both-fit v k).0, refl)
-both-fit v (Has m k) = (three (map_fits free v m) (number_fits free v k) (both-fit v m).1 (both-fit v k).0, refl)
-both-fit v (Size m) = (both-true (map_fits free v m) true (both-fit v m).1 refl, refl)
-both-fit v (Sum m) = (both-true (map_fits free v m) true (both-fit v m).1 refl, refl)
+both-fit v (Add a b) = (three (number_fits unbounded v a) (number_fits unbounded v b) (both-fit v a).0 (both-fit v b).0, refl)
+both-fit v (Sub a b) = (three (number_fits unbounded v a) (number_fits unbounded v b) (both-fit v a).0 (both-fit v b).0, refl)
+both-fit v (Scale n a) = (both-true (number_fits unbounded v a) true (both-fit v a).0 refl, refl)
+both-fit v (Get m k) = (three (map_fits unbounded v m) (number_fits unbounded v k) (both-fit v m).1 (both-fit v k).0, refl)
+both-fit v (Has m k) = (three (map_fits unbounded v m) (number_fits unbounded v k) (both-fit v m).1 (both-fit v k).0, refl)
+both-fit v (Size m) = (both-true (map_fits unbounded v m) true (both-fit v m).1 refl, refl)
+both-fit v (Sum m) = (both-true (map_fits unbounded v m) true (both-fit v m).1 refl, refl)
 both-fit v Nil = (refl, refl)
-both-fit v (Put m k w) = (refl, both-true (map_fits free v m && number_fits free v k) (number_fits free v w) (both-true (map_fits free v m) (number_fits free v k) (both-fit v m).1 (both-fit v k).0) (both-fit v w).0)
-both-fit v (Del m k) = (refl, both-true (map_fits free v m) (number_fits free v k) (both-fit v m).1 (both-fit v k).0)
+both-fit v (Put m k w) = (refl, both-true (map_fits unbounded v m && number_fits unbounded v k) (number_fits unbounded v w) (both-true (map_fits unbounded v m) (number_fits unbounded v k) (both-fit v m).1 (both-fit v k).0) (both-fit v w).0)
+both-fit v (Del m k) = (refl, both-true (map_fits unbounded v m) (number_fits unbounded v k) (both-fit v m).1 (both-fit v k).0)
 both-fit v (Bump m k n) = (
   refl,
-  both-true ((map_fits free v m && number_fits free v k) && number_fits free v n) (values_fit free (mapped v (Bump m k n)))
-      (both-true (map_fits free v m && number_fits free v k) (number_fits free v n) (both-true (map_fits free v m) (number_fits free v k) (both-fit v m).1 (both-fit v k).0) (both-fit v n).0)
+  both-true ((map_fits unbounded v m && number_fits unbounded v k) && number_fits unbounded v n) (values_fit unbounded (mapped v (Bump m k n)))
+      (both-true (map_fits unbounded v m && number_fits unbounded v k) (number_fits unbounded v n) (both-true (map_fits unbounded v m) (number_fits unbounded v k) (both-fit v m).1 (both-fit v k).0) (both-fit v n).0)
       (values-free (mapped v (Bump m k n))),
 )
 
-form-fit : (v : Valuation) (f : Formula) → form_fits free v f ≡ true
+pub form-fit : (v : Valuation) (f : Formula) → form_fits unbounded v f ≡ true
 unfolding form_fits
-form-fit v (Le a b) = both-true (number_fits free v a) (number_fits free v b) (both-fit v a).0 (both-fit v b).0
-form-fit v (Lt a b) = both-true (number_fits free v a) (number_fits free v b) (both-fit v a).0 (both-fit v b).0
-form-fit v (Eq a b) = both-true (number_fits free v a) (number_fits free v b) (both-fit v a).0 (both-fit v b).0
+form-fit v (Le a b) = both-true (number_fits unbounded v a) (number_fits unbounded v b) (both-fit v a).0 (both-fit v b).0
+form-fit v (Lt a b) = both-true (number_fits unbounded v a) (number_fits unbounded v b) (both-fit v a).0 (both-fit v b).0
+form-fit v (Eq a b) = both-true (number_fits unbounded v a) (number_fits unbounded v b) (both-fit v a).0 (both-fit v b).0
 form-fit v (Not f) = form-fit v f
-form-fit v (And f g) = both-true (form_fits free v f) (form_fits free v g) (form-fit v f) (form-fit v g)
-form-fit v (Or f g) = both-true (form_fits free v f) (form_fits free v g) (form-fit v f) (form-fit v g)
-form-fit v (Imp f g) = both-true (form_fits free v f) (form_fits free v g) (form-fit v f) (form-fit v g)
+form-fit v (And f g) = both-true (form_fits unbounded v f) (form_fits unbounded v g) (form-fit v f) (form-fit v g)
+form-fit v (Or f g) = both-true (form_fits unbounded v f) (form_fits unbounded v g) (form-fit v f) (form-fit v g)
+form-fit v (Imp f g) = both-true (form_fits unbounded v f) (form_fits unbounded v g) (form-fit v f) (form-fit v g)
 
-amount-fit : (k : Option Tree) (w : Option PatternTree) (x : Exchanging) → place_fits free (record { key = k; value = w }) x ≡ true
-amount-fit k None x = both-true (number_fits free x.names (key_of (record { key = k; value = None }))) (number_fits free x.names one) (both-fit x.names (key_of (record { key = k; value = None }))).0 (both-fit x.names one).0
-amount-fit k (Some (Bind y)) x = both-true (number_fits free x.names (key_of (record { key = k; value = Some (Bind y) }))) true (both-fit x.names (key_of (record { key = k; value = Some (Bind y) }))).0 refl
-amount-fit k (Some (Term t)) x = both-true (number_fits free x.names (key_of (record { key = k; value = Some (Term t) }))) (number_fits free x.names t) (both-fit x.names (key_of (record { key = k; value = Some (Term t) }))).0 (both-fit x.names t).0
+amount-fit : (k : Option Tree) (w : Option PatternTree) (x : Exchanging) → place_fits unbounded (record { key = k; value = w }) x ≡ true
+amount-fit k None x = both-true (number_fits unbounded x.names (key_of (record { key = k; value = None }))) (number_fits unbounded x.names one) (both-fit x.names (key_of (record { key = k; value = None }))).0 (both-fit x.names one).0
+amount-fit k (Some (Bind y)) x = both-true (number_fits unbounded x.names (key_of (record { key = k; value = Some (Bind y) }))) true (both-fit x.names (key_of (record { key = k; value = Some (Bind y) }))).0 refl
+amount-fit k (Some (Term t)) x = both-true (number_fits unbounded x.names (key_of (record { key = k; value = Some (Term t) }))) (number_fits unbounded x.names t) (both-fit x.names (key_of (record { key = k; value = Some (Term t) }))).0 (both-fit x.names t).0
 
-place-fit : (p : PlaceTree) (x : Exchanging) → place_fits free p x ≡ true
+pub place-fit : (p : PlaceTree) (x : Exchanging) → place_fits unbounded p x ≡ true
 place-fit p x = amount-fit p.key p.value x
 
-term-fit : (s : Sort) (t : Tree) (x : Exchanging) → term_fits free s t x ≡ true
+pub term-fit : (s : Sort) (t : Tree) (x : Exchanging) → term_fits unbounded s t x ≡ true
 term-fit Numbers t x = (both-fit x.names t).0
 term-fit Maps t x = (both-fit x.names t).1
 
@@ -97,30 +96,29 @@ same-steps r w f g (inr e) h = onto (same-bind r f g h) where
   onto (inl k) = inl k
   onto (inr k) = inr (k ∙ ap (λ q. q >>= g) e)
 
-does-same : (fits : ℤ → Bool) (fs : List Field) (a : ActTree) (line : ℕ) (x : Exchanging) → SameButWide (does fits fs (record { act = a; line = line }) x) (does free fs (record { act = a; line = line }) x)
+does-same : (fits : ℤ → Bool) (fs : List Field) (a : ActTree) (line : ℕ) (x : Exchanging) → SameButWide (does fits fs (record { act = a; line = line }) x) (does unbounded fs (record { act = a; line = line }) x)
 unfolding does
-does-same fits fs (acts.Require form) line x = same-unless (form_fits fits x.names form) (form_fits free x.names form) (unless (RequireFalse line) (truth x.names form) (Ok x)) (form-fit x.names form)
+does-same fits fs (acts.Require form) line x = same-unless (form_fits fits x.names form) (form_fits unbounded x.names form) (unless (RequireFalse line) (truth x.names form) (Ok x)) (form-fit x.names form)
 does-same fits fs (acts.Assert form) line x = inr refl
 does-same fits fs (acts.HaveVariable f) line x = inr refl
 does-same fits fs (acts.Init f t) line x = same-unless _ _ _ (term-fit (sort_of (strategy_at fs f)) t x)
 does-same fits fs (acts.Update f t) line x = same-unless _ _ _ (term-fit (sort_of (strategy_at fs f)) t x)
-does-same fits fs (acts.Remove f p) line x = same-bind _ _ _ (λ t. same-unless (place_fits fits p x) (place_fits free p x) _ (place-fit p x))
-does-same fits fs (acts.Have f p) line x = same-bind _ _ _ (λ t. same-unless (place_fits fits p x) (place_fits free p x) _ (place-fit p x))
-does-same fits fs (acts.Add f p) line x = same-unless (place_fits fits p x) (place_fits free p x) _ (place-fit p x)
-does-same fits fs (acts.Deposit f p) line x = same-bind _ _ _ (λ t. same-unless (place_fits fits p x) (place_fits free p x) _ (place-fit p x))
-does-same fits fs (acts.Withdraw f p) line x = same-unless (place_fits fits p x) (place_fits free p x) _ (place-fit p x)
-does-same fits fs (acts.Guard f p) line x = same-unless (place_fits fits p x) (place_fits free p x) _ (place-fit p x)
+does-same fits fs (acts.Remove f p) line x = same-bind _ _ _ (λ t. same-unless (place_fits fits p x) (place_fits unbounded p x) _ (place-fit p x))
+does-same fits fs (acts.Have f p) line x = same-bind _ _ _ (λ t. same-unless (place_fits fits p x) (place_fits unbounded p x) _ (place-fit p x))
+does-same fits fs (acts.Add f p) line x = same-unless (place_fits fits p x) (place_fits unbounded p x) _ (place-fit p x)
+does-same fits fs (acts.Deposit f p) line x = same-bind _ _ _ (λ t. same-unless (place_fits fits p x) (place_fits unbounded p x) _ (place-fit p x))
+does-same fits fs (acts.Withdraw f p) line x = same-unless (place_fits fits p x) (place_fits unbounded p x) _ (place-fit p x)
+does-same fits fs (acts.Guard f p) line x = same-unless (place_fits fits p x) (place_fits unbounded p x) _ (place-fit p x)
 
-all-same : (fits : ℤ → Bool) (fs : List Field) (ss : List StepTree) (x : Exchanging) → SameButWide (does_all fits fs ss x) (does_all free fs ss x)
+all-same : (fits : ℤ → Bool) (fs : List Field) (ss : List StepTree) (x : Exchanging) → SameButWide (does_all fits fs ss x) (does_all unbounded fs ss x)
 all-same fits fs [] x = inr refl
-all-same fits fs (s ∷ ss) x = same-steps (does fits fs s x) (does free fs s x) (does_all fits fs ss) (does_all free fs ss) (does-same fits fs s.act s.line x) (all-same fits fs ss)
+all-same fits fs (s ∷ ss) x = same-steps (does fits fs s x) (does unbounded fs s x) (does_all fits fs ss) (does_all unbounded fs ss) (does-same fits fs s.act s.line x) (all-same fits fs ss)
 
 ended : (r w : Answer) → SameButWide r w → (outcome r ≡ Err Width → ⊥) → outcome r ≡ outcome w
 ended r w (inl e) h = absurd (h (ap outcome e))
 ended r w (inr e) h = ap outcome e
 
 pub bound-alone : BoundAlone
-unfolding free
 bound-alone fits fs o args tokens given whole hand kept h =
     let start = use_variables (variable_slots fs o) (beginning fs o args tokens given whole hand kept) in
-    ended (start >>= does_all fits fs o.steps) (start >>= does_all free fs o.steps) (same-bind start (does_all fits fs o.steps) (does_all free fs o.steps) (all-same fits fs o.steps)) h
+    ended (start >>= does_all fits fs o.steps) (start >>= does_all unbounded fs o.steps) (same-bind start (does_all fits fs o.steps) (does_all unbounded fs o.steps) (all-same fits fs o.steps)) h

@@ -1,6 +1,5 @@
 -- What an exchange of tokens does, and that it is a step of the whole.
 pub mod Exchange
-pub mod Plain
 pub mod Projection
 pub mod Outcomes
 pub mod Works

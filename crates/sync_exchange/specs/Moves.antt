@@ -11,7 +11,7 @@ use Rattle.sync_join.specs.Join.{join_of}
 use Rattle.sync_rules.specs.Slots.{SlotTree, slots_of}
 use Rattle.sync_exchange.specs.declared.hands.Held.{Held}
 use Rattle.sync_exchange.specs.Exchange.{held_as, tokens_in, exchange_in}
-use Rattle.sync_exchange.specs.Plain.{is_plain}
+use Rattle.sync_rules.specs.Plain.{is_plain}
 use Rattle.sync_exchange.specs.Projection.{names_token, names_new, is_among}
 use Rattle.sync_exchange.specs.Splitting.{split_of, merged_of, copied_of, is_persistent}
 

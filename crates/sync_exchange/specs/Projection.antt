@@ -16,7 +16,7 @@ use Rattle.sync_rules.specs.declared.slots.Role.TheVariants.{Change, Taken, Read
 use Rattle.sync_rules.specs.Slots.{SlotTree, slots_of}
 use Rattle.sync_exchange.specs.declared.hands.Held.{Held}
 use Rattle.sync_exchange.specs.Exchange.{Exchanged, exchange_in, tokens_in}
-use Rattle.sync_exchange.specs.Plain.{is_plain}
+use Rattle.sync_rules.specs.Plain.{is_plain}
 
 -- ---- names
 

@@ -4,6 +4,7 @@ pub mod Marked
 pub mod Growth
 pub mod Entries
 pub mod Walks
+pub mod Throughout
 pub mod Faultless
 pub mod Named
 pub mod Earliest

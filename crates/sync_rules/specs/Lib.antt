@@ -7,4 +7,5 @@ pub mod Shapes
 pub mod Faults
 pub mod Matrix
 pub mod Slots
+pub mod Plain
 pub mod Views

@@ -4,7 +4,7 @@ use Rattle.std.specs.List.{list_all}
 use Rattle.sync_machine.specs.declared.fields.Field.{Field}
 use Rattle.sync_base.specs.declared.strategies.Strategy.{Strategy}
 use Rattle.sync_base.specs.declared.strategies.Strategy.TheVariants.{Variable, Constant, NotTokenized, Option as OptionField, Map, Set, Multiset, Count, PersistentOption, PersistentMap, PersistentSet, PersistentCount, StorageMap}
-use Rattle.sync_machine.specs.Machines.{ActTree, StepTree, OperationTree, PlaceTree}
+use Rattle.sync_machine.specs.Machines.{ActTree, StepTree, OperationTree}
 use Rattle.sync_machine.specs.Machines as acts
 use Rattle.sync_machine.specs.States.{strategy_at}
 use Rattle.sync_rules.specs.Locality.{names_only, is_variable}
@@ -26,25 +26,16 @@ is_kept Set = false
 is_kept Multiset = false
 is_kept Count = false
 
--- A parameter or bound name, a field that is kept, or a variable with a slot.
-abbrev pub is_at_hand : List Field → OperationTree → ℕ → Bool
-is_at_hand fs o x = not (nat_lt x (length fs)) || is_kept (strategy_at fs x) || is_some (field_slot fs o.steps x)
+-- A parameter or bound name, a field that is kept, or a variable that has a slot among these statements.
+abbrev pub is_at_hand : List Field → List StepTree → ℕ → Bool
+is_at_hand fs ss x = not (nat_lt x (length fs)) || is_kept (strategy_at fs x) || is_some (field_slot fs ss x)
 
 -- the update of a field without tokens names what is at hand alone
-abbrev pub reads_at_hand : List Field → OperationTree → StepTree → Bool
-reads_at_hand fs o s = act s.act where
+abbrev pub reads_at_hand : List Field → List StepTree → StepTree → Bool
+reads_at_hand fs ss s = act s.act where
   act : ActTree → Bool
-  act (acts.Update f t) = is_variable (strategy_at fs f) || names_only (is_at_hand fs o) t
-  act (acts.Init f t) = true
-  act (acts.Require form) = true
-  act (acts.Assert form) = true
-  act (acts.HaveVariable f) = true
-  act (acts.Add f p) = true
-  act (acts.Remove f p) = true
-  act (acts.Have f p) = true
-  act (acts.Deposit f p) = true
-  act (acts.Withdraw f p) = true
-  act (acts.Guard f p) = true
+  act (acts.Update f t) = is_variable (strategy_at fs f) || names_only (is_at_hand fs ss) t
+  act other = true
 
 abbrev pub is_plain : List Field → OperationTree → Bool
-is_plain fs o = list_all (reads_at_hand fs o) o.steps
+is_plain fs o = list_all (reads_at_hand fs o.steps) o.steps
