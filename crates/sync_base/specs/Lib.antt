@@ -1,4 +1,5 @@
 pub mod Limits
+pub mod Names
 pub mod Rules
 pub mod Outcome
 pub mod Outside

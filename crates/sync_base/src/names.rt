@@ -1,4 +1,7 @@
 //! The names that a text uses.
+ghost use Rattle.std.specs.Prelude.{◌≡◌};
+ghost use Rattle.sync_base.specs.Names.{spelling};
+
 use sqlite_items::Items;
 
 /// A spelling: the bytes of a name, 1 to 64 of them.
@@ -11,4 +14,16 @@ pub struct Name {
 #[derive(Debug, Drop)]
 pub struct NameList {
     pub list: Items<Name>,
+}
+
+impl NameList {
+    /// How the name with this number is spelled: by no byte where there is none.
+    pub fn spelling(&self, number: u32) -> &[u8]
+        ensures { result.now ≡ spelling self.now number }
+    {
+        match self.list.get(number as usize) {
+            Some(name) => name.bytes.as_slice(),
+            None => &[],
+        }
+    }
 }

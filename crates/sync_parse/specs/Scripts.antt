@@ -26,9 +26,13 @@ use Rattle.sync_parse.specs.declared.scripts.RawStepKind.TheVariants as step
 use Rattle.sync_parse_exprs.specs.Terminals.{Read, Reader, unless_deep, first_line, begins_with, sign_at, name_at, number_at, row, goes_on, series}
 use Rattle.sync_parse_exprs.specs.Expressions.{signed, expr_at, exprs_at}
 
--- a number of a statement; 4,294,967,295 stands for all from there on
+-- the last number of a statement
+abbrev pub last_statement : ℕ
+last_statement = 4294967295
+
+-- a number of a statement; the last one stands for all from there on
 abbrev pub statement_number : ℕ → ℕ
-statement_number n = min n 4294967295
+statement_number n = min n last_statement
 
 -- another lexeme was wanted here
 abbrev pub wanted_other : {A : Type 0} → Reader A

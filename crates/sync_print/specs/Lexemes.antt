@@ -1,9 +1,8 @@
 -- The lexemes of a canonical text, and its bytes.
-use Rattle.std.specs.Prelude.{ℕ, Bool, true, false, List, [], ◌∷◌, ◌++◌, slice_get}
+use Rattle.std.specs.Prelude.{ℕ, Bool, true, false, List, [], ◌∷◌, ◌++◌}
 use Rattle.std.specs.List.{flat_map}
-use Rattle.std.specs.Option.{option_map_or}
 use Rattle.std.specs.Fmt.{decimal}
-use Rattle.sync_base.specs.declared.names.Name.{Name}
+use Rattle.sync_base.specs.Names.{spelling}
 use Rattle.sync_base.specs.declared.names.NameList.{NameList}
 use Rattle.sync_base.specs.declared.strategies.Strategy.{Strategy}
 use Rattle.sync_lex.specs.declared.signs.Sign.{Sign}
@@ -55,10 +54,6 @@ abbrev pub listed : List (List Lexeme) → List Lexeme
 listed = with_commas false
 
 -- ---- bytes
-
--- how the name with this number is spelled; a number that no name has is spelled by no byte
-abbrev pub spelling : NameList → ℕ → List ℕ
-spelling names number = option_map_or (λ (n : Name). n.bytes) (slice_get names.list number) []
 
 abbrev pub lexeme_bytes : NameList → Lexeme → List ℕ
 lexeme_bytes names (a_sign s) = signs.spelling_of s

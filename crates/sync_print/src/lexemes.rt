@@ -1,6 +1,6 @@
 //! Writing single lexemes, each with the byte behind it.
 ghost use Rattle.std.specs.Prelude.{◌≡◌, [], ◌∷◌, ◌++◌, OnOk};
-ghost use Rattle.sync_print.specs.Lexemes.{behind_sign, spelling, printed, one, one_name, one_number, one_strategy, needed as needed_sign};
+ghost use Rattle.sync_print.specs.Lexemes.{behind_sign, printed, one, one_name, one_number, one_strategy, needed as needed_sign};
 
 use std::alloc::{AllocError, Global};
 use sync_base::{NameList, Strategy};
@@ -13,16 +13,6 @@ fn behind_sign(sign: Sign) -> u8
     match sign {
         Sign::Semicolon | Sign::OpenBrace | Sign::CloseBrace => b'\n',
         _ => b' ',
-    }
-}
-
-/// The spelling of the name with this number.
-fn spelling(names: &NameList, number: u32) -> &[u8]
-    ensures { result.now ≡ spelling names.now number }
-{
-    match names.list.get(number as usize) {
-        Some(name) => name.bytes.as_slice(),
-        None => &[],
     }
 }
 
@@ -61,7 +51,7 @@ pub(crate) fn needed(
 pub(crate) fn name(names: &NameList, out: &mut Vec<u8>, number: u32) -> Result<(), AllocError>
     ensures { OnOk result (out.new.items ≡ out.old.items ++ printed names.now (one_name number)) }
 {
-    piece(out, spelling(names, number), b' ')
+    piece(out, names.spelling(number), b' ')
 }
 
 /// The name of a strategy.

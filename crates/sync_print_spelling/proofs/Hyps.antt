@@ -9,7 +9,7 @@ use Rattle.sync_parse_exprs.specs.declared.expressions.Special.TheVariants as te
 use Rattle.sync_parse_exprs.specs.declared.raw_names.RawName.{RawName}
 use Rattle.sync_parse.specs.declared.scripts.RawSubject.TheVariants as raw_subject
 use Rattle.sync_parse.specs.declared.scripts.RawHypName.TheVariants as raw
-use Rattle.sync_parse.specs.Scripts.{statement_number, bounded_of, times_of}
+use Rattle.sync_parse.specs.Scripts.{statement_number, bounded_of, times_of, last_statement}
 use Rattle.sync_parse_grammar.specs.Relations.{the_one, the_other}
 use Rattle.sync_parse_grammar.specs.Scripts.{ASubject, Hyp, Scaled, Part, As}
 use Rattle.sync_print.specs.Scripts.{PlainSubject, name, special, PlainHyp, denied, label, at, low, high, PlainPart, plain_subject, plain_hyp, plain_part}
@@ -17,7 +17,7 @@ use Rattle.sync_print.specs.Lexemes.{one, one_name, one_number}
 use Rattle.sync_print.specs.ShowExprs.{special_sign}
 use Rattle.sync_print.specs.ShowScripts.{show_subject, show_hyp, show_part, show_as}
 use Rattle.sync_print_spelling.specs.Says.{Says}
-use Rattle.sync_print_spelling.specs.Limits.{last_place, IsBounded, SubjectFits, HypFits, PartFits}
+use Rattle.sync_print_spelling.specs.Limits.{IsBounded, SubjectFits, HypFits, PartFits}
 use Rattle.sync_print_spelling.specs.Laws.{Derives, ShownIsDerived}
 use Rattle.sync_print_spelling.proofs.Terminals.{split, the_sign, the_number, the_name, one_of, yields, seq}
 
@@ -39,7 +39,7 @@ subject_spelled (special w) fits ts rest h =
     let s = one_of bounded_of w (bounded_found w fits) h in
     record { raw = raw_subject.Special w s.0; spelled = the_other (seq (w, s.0) rest s.1 (yields _)); is = refl }
 
-pub within_place : (n : ℕ) → n ≤ last_place → statement_number n ≡ n
+pub within_place : (n : ℕ) → n ≤ last_statement → statement_number n ≡ n
 within_place n fits = omega arith
 
 hyp_spelled : (p : PlainHyp) → HypFits p → (ts rest : List Terminal) → Says (show_hyp p) ts rest → Derives Hyp plain_hyp p ts rest

@@ -14,14 +14,14 @@ use Rattle.sync_parse_exprs.specs.declared.raw_names.RawName.{RawName}
 use Rattle.sync_parse.specs.declared.scripts.RawSubject.{RawSubject}
 use Rattle.sync_parse.specs.declared.scripts.RawHypName.{RawHypName}
 use Rattle.sync_parse.specs.declared.scripts.RawPart.{RawPart}
-use Rattle.sync_parse.specs.Scripts.{statement_number, bounded_of, times_of}
+use Rattle.sync_parse.specs.Scripts.{statement_number, bounded_of, times_of, last_statement}
 use Rattle.sync_parse_grammar.specs.Relations.{Yields, the_one, the_other}
 use Rattle.sync_parse_grammar.specs.Scripts.{ASubject, Hyp, Scaled, Part, As}
 use Rattle.sync_print.specs.Scripts.{plain_subject, plain_hyp, plain_part}
 use Rattle.sync_print.specs.Lexemes.{one, one_number}
 use Rattle.sync_print.specs.ShowExprs.{special_sign}
 use Rattle.sync_print.specs.ShowScripts.{show_subject, show_hyp, show_times, show_part, show_as}
-use Rattle.sync_print_spelling.specs.Limits.{last_place, IsBounded, SubjectFits, HypFits, PartFits}
+use Rattle.sync_print_spelling.specs.Limits.{IsBounded, SubjectFits, HypFits, PartFits}
 use Rattle.sync_print_spelling.proofs.Told.{Tells, both, silent, number_shown, sign_read, sign_told, one_of_read, number_read, number_told, name_told}
 use Rattle.sync_print_spelling.proofs.ListsTold.{Read, Reads, ended}
 
@@ -50,7 +50,7 @@ subject_told ts rest x (the_other d) =
 subjects_told : {names : NameList} → Reads names ASubject plain_subject show_subject SubjectFits
 subjects_told = record { at = subject_told }
 
-pub within_last : (n : ℕ) → statement_number n ≤ last_place
+pub within_last : (n : ℕ) → statement_number n ≤ last_statement
 within_last n = omega arith
 
 pub place_within_largest : (n : ℕ) → statement_number n ≤ largest

@@ -12,7 +12,8 @@ use Rattle.sync_lex.specs.declared.terminals.Terminal.{Terminal}
 use Rattle.sync_lex.specs.Strategies as strategies
 use Rattle.sync_lex.specs.Strategies.{strategy_of}
 use Rattle.sync_lex.specs.Terminals.{number_in, said, bytes_at, terminals_after}
-use Rattle.sync_print.specs.Lexemes.{Lexeme, a_sign, a_number, a_name, a_strategy, spelling, lexeme_bytes, separator, printed}
+use Rattle.sync_print.specs.Lexemes.{Lexeme, a_sign, a_number, a_name, a_strategy, lexeme_bytes, separator, printed}
+use Rattle.sync_base.specs.Names.{spelling}
 use Rattle.sync_print_spelling.specs.Says.{SaysOne, Says, no_more, one_more}
 use Rattle.sync_print_spelling.specs.Namings.{names_said, in_order, LexemeFits}
 use Rattle.sync_print_spelling.specs.Names.{AreNames}

@@ -12,7 +12,8 @@ use Rattle.sync_lex.specs.Strategies.{spelling_of, strategy_of, strategies}
 use Rattle.sync_base.specs.Limits.{largest}
 use Rattle.sync_parse_exprs.specs.declared.raw_names.RawName.{RawName}
 use Rattle.sync_parse_grammar.specs.Relations.{The, AName, ANumber, AStrategy, OneOf, Yields}
-use Rattle.sync_print.specs.Lexemes.{Lexeme, a_sign, a_number, a_name, a_strategy, one, one_name, one_number, one_strategy, needed, spelling}
+use Rattle.sync_print.specs.Lexemes.{Lexeme, a_sign, a_number, a_name, a_strategy, one, one_name, one_number, one_strategy, needed}
+use Rattle.sync_base.specs.Names.{spelling}
 use Rattle.sync_print_spelling.specs.Namings.{names_said, what_name, terminal_names, LexemeFits}
 use Rattle.sync_print_spelling.proofs.TrueNames.{KindIsTrue, TerminalIsTrue, TerminalsAreTrue}
 

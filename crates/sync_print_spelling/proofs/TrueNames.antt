@@ -8,7 +8,8 @@ use Rattle.sync_lex.specs.declared.terminals.TerminalKind.{TerminalKind}
 use Rattle.sync_lex.specs.declared.terminals.TerminalKind.TheVariants as what
 use Rattle.sync_lex.specs.Strategies as strategies
 use Rattle.sync_lex.specs.Terminals.{terminals_in}
-use Rattle.sync_print.specs.Lexemes.{Lexeme, printed, spelling}
+use Rattle.sync_print.specs.Lexemes.{Lexeme, printed}
+use Rattle.sync_base.specs.Names.{spelling}
 use Rattle.sync_print_spelling.specs.Names.{AreNames}
 use Rattle.sync_print_spelling.specs.Says.{Says}
 use Rattle.sync_print_spelling.specs.Namings.{names_said, in_order}

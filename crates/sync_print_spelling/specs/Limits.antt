@@ -2,6 +2,7 @@
 use Rattle.std.specs.Prelude.{ℕ, ◌≤◌, length, unsigned_abs}
 use Rattle.std.specs.List.{All}
 use Rattle.sync_base.specs.Limits.{largest}
+use Rattle.sync_parse.specs.Scripts.{last_statement}
 use Rattle.sync_parse_exprs.specs.declared.expressions.Special.{Special}
 use Rattle.sync_parse_exprs.specs.declared.expressions.Special.TheVariants as terminal
 use Rattle.sync_print.specs.Exprs.{Plain, number, name, param, nil, special, call, negation, times, two, Plains, none, more}
@@ -28,10 +29,6 @@ abbrev mutual
 
 -- ---- scripts
 
--- the number of a statement, as a text can name it
-abbrev pub last_place : ℕ
-last_place = 4294967295
-
 -- the terminals that a bound may stand on
 abbrev pub IsBounded : Special → Type 0
 IsBounded terminal.Value = ⊥
@@ -47,7 +44,7 @@ SubjectFits (subject_terminal w) = IsBounded w
 abbrev pub HypFits : PlainHyp → Type 0
 HypFits denied = Unit {0}
 HypFits (label x) = Unit {0}
-HypFits (at n) = n ≤ last_place
+HypFits (at n) = n ≤ last_statement
 HypFits (low s) = SubjectFits s
 HypFits (high s) = SubjectFits s
 
@@ -106,7 +103,7 @@ MachineFits m = All OperationFits m.operations × All InvariantFits m.invariants
 
 abbrev pub ClaimFits : PlainClaim → Type 0
 ClaimFits (keeps x) = Unit {0}
-ClaimFits (claim_at n) = n ≤ last_place
+ClaimFits (claim_at n) = n ≤ last_statement
 
 abbrev pub ProofFits : PlainProof → Type 0
 ProofFits p = ClaimFits p.claim × BlockFits p.block

@@ -9,7 +9,8 @@ use Rattle.sync_lex.specs.declared.terminals.Terminal.{Terminal}
 use Rattle.sync_lex.specs.Strategies as strategies
 use Rattle.sync_lex.specs.Terminals.{names_with}
 use Rattle.sync_base.specs.Limits.{largest}
-use Rattle.sync_print.specs.Lexemes.{Lexeme, a_sign, a_number, a_name, a_strategy, spelling}
+use Rattle.sync_print.specs.Lexemes.{Lexeme, a_sign, a_number, a_name, a_strategy}
+use Rattle.sync_base.specs.Names.{spelling}
 
 -- ---- names, in order
 
