@@ -1,27 +1,39 @@
--- A chain as its loop begins.
-use Rattle.std.proofs.Common.{◌≡◌, ℕ, List, Option, Ok, refl, sym, ap, ◌∙◌}
+-- The chain of a level, as its loop begins and where its first item stops.
+use Rattle.std.proofs.Common.{◌≡◌, ℕ, List, Option, Ok, Err, refl, sym, ap, ◌∙◌}
 use Rattle.sync_base.specs.Outcome.{◌>>=◌}
 use Rattle.sync_lex.specs.declared.terminals.Terminal.{Terminal}
 use Rattle.sync_parse_exprs.specs.declared.expressions.RawExprKind.{RawExprKind}
 use Rattle.sync_parse_exprs.specs.declared.expressions.Operator.{Operator}
-use Rattle.sync_parse_exprs.specs.Terminals.{Reader, first_line}
-use Rattle.sync_parse_exprs.specs.Expressions.{chain, chained, sum_of, and_of, or_of, product, sums, relation, ands, ors}
+use Rattle.sync_parse_exprs.specs.declared.expr_reader.Level.{Level}
+use Rattle.sync_parse_exprs.specs.declared.expr_reader.Level.TheVariants as level
+use Rattle.sync_parse_exprs.specs.declared.faults.Halt.{Halt}
+use Rattle.sync_parse_exprs.specs.declared.faults.Halt.TheVariants as halt
+use Rattle.sync_parse_exprs.specs.Faults.{Halts}
+use Rattle.sync_parse_exprs.specs.Terminals.{Reader, longest_chain, first_line}
+use Rattle.sync_parse_exprs.specs.Expressions.{chain, chained, sums, ands, ors, operator_at, item_at, level_at}
+
+-- how far a level is from the items of sums
+abbrev pub rank : Level → ℕ
+rank level.Sums = 0
+rank level.Ands = 1
+rank level.Ors = 2
+
+pub level_is : (l : Level) (inner : Reader RawExprKind) (left : ℕ) (ts : List Terminal) → level_at l inner left ts ≡ chained (operator_at l) (item_at l inner left) ts
+unfolding sums ands ors
+level_is level.Sums inner left ts = refl
+level_is level.Ands inner left ts = refl
+level_is level.Ors inner left ts = refl
 
 begins : (op : Terminal → Option Operator) (item : Reader RawExprKind) (ts rest : List Terminal) (held : RawExprKind) (line : ℕ) → item ts ≡ Ok (held, rest) → line ≡ first_line ts
-    → chain op item line 64 held rest ≡ chained op item ts
+    → chain op item line longest_chain held rest ≡ chained op item ts
 begins op item ts rest held line read line-is = rw (read, line-is) refl
 
-pub sums_begin : (inner : Reader RawExprKind) (left : ℕ) (ts rest : List Terminal) (held : RawExprKind) (line : ℕ) → product inner left ts ≡ Ok (held, rest) → line ≡ first_line ts
-    → chain sum_of (product inner left) line 64 held rest ≡ sums inner left ts
-unfolding sums
-sums_begin inner left = begins sum_of (product inner left)
+pub level_begins : (l : Level) (inner : Reader RawExprKind) (left : ℕ) (ts rest : List Terminal) (held : RawExprKind) (line : ℕ)
+    → item_at l inner left ts ≡ Ok (held, rest) → line ≡ first_line ts
+    → chain (operator_at l) (item_at l inner left) line longest_chain held rest ≡ level_at l inner left ts
+level_begins l inner left ts rest held line read line-is =
+    begins (operator_at l) (item_at l inner left) ts rest held line read line-is ∙ sym (level_is l inner left ts)
 
-pub ands_begin : (inner : Reader RawExprKind) (left : ℕ) (ts rest : List Terminal) (held : RawExprKind) (line : ℕ) → relation inner left ts ≡ Ok (held, rest) → line ≡ first_line ts
-    → chain and_of (relation inner left) line 64 held rest ≡ ands inner left ts
-unfolding ands
-ands_begin inner left = begins and_of (relation inner left)
-
-pub ors_begin : (inner : Reader RawExprKind) (left : ℕ) (ts rest : List Terminal) (held : RawExprKind) (line : ℕ) → ands inner left ts ≡ Ok (held, rest) → line ≡ first_line ts
-    → chain or_of (ands inner left) line 64 held rest ≡ ors inner left ts
-unfolding ors
-ors_begin inner left = begins or_of (ands inner left)
+pub level_stops : (h : Halt) (l : Level) (inner : Reader RawExprKind) (left : ℕ) (ts : List Terminal) → Halts h (item_at l inner left ts) → Halts h (level_at l inner left ts)
+level_stops halt.Memory l inner left ts stops = tt
+level_stops (halt.Fault f) l inner left ts stops = level_is l inner left ts ∙ rw stops refl

@@ -20,6 +20,8 @@ use Rattle.sync_parse_exprs.specs.declared.expressions.Function.{Function}
 use Rattle.sync_parse_exprs.specs.declared.expressions.Function.TheVariants as function
 use Rattle.sync_parse_exprs.specs.declared.expressions.Operator.{Operator}
 use Rattle.sync_parse_exprs.specs.declared.expressions.Operator.TheVariants as operator
+use Rattle.sync_parse_exprs.specs.declared.expr_reader.Level.{Level}
+use Rattle.sync_parse_exprs.specs.declared.expr_reader.Level.TheVariants as level
 use Rattle.sync_parse_exprs.specs.Terminals.{longest_chain, Read, Reader, unless_deep, first_line, sign_at, name_at, number_at, listed, in_round}
 
 -- a number of the text, which is at most 2 ^ 127 - 1
@@ -204,6 +206,26 @@ ands inner left ts = chained and_of (relation inner left) ts
 
 unfoldable pub ors : Reader RawExprKind → ℕ → Reader RawExprKind
 ors inner left ts = chained or_of (ands inner left) ts
+
+-- ---- the levels whose operators lean to the left
+
+abbrev pub operator_at : Level → Terminal → Option Operator
+operator_at level.Sums = sum_of
+operator_at level.Ands = and_of
+operator_at level.Ors = or_of
+
+-- what stands between the operators of a level
+abbrev pub item_at : Level → Reader RawExprKind → ℕ → Reader RawExprKind
+item_at level.Sums = product
+item_at level.Ands = relation
+item_at level.Ors = ands
+
+abbrev pub level_at : Level → Reader RawExprKind → ℕ → Reader RawExprKind
+level_at level.Sums = sums
+level_at level.Ands = ands
+level_at level.Ors = ors
+
+-- ---- implications
 
 -- what follows from it, where `==>` comes and is not one too many
 abbrev pub implied : Bool → Reader RawExprKind → ℕ → RawExprKind → Reader RawExprKind

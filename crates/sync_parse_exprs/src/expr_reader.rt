@@ -2,7 +2,7 @@
 ghost use Rattle.std.specs.Prelude.{◌≡◌, ◌<◌, IfOk};
 ghost use Rattle.sync_parse_exprs.specs.Faults.{Reads};
 ghost use Rattle.sync_parse_exprs.specs.Terminals.{series};
-ghost use Rattle.sync_parse_exprs.specs.Expressions.{signed, placed, special_of, function_of, begins_operand, relation_of, sum_of, factor_of, whole, sign_operand, operand, unary, product, sums, relation, ands, ors, implies, inside, expr_at, exprs_at};
+ghost use Rattle.sync_parse_exprs.specs.Expressions.{signed, placed, special_of, function_of, begins_operand, relation_of, sum_of, factor_of, whole, sign_operand, operand, unary, product, relation, operator_at, item_at, level_at, implies, inside, expr_at, exprs_at};
 
 use crate::expressions::{Function, Operator, RawExpr, RawExprKind, Special};
 use crate::faults::{Fault, Halt};
@@ -15,6 +15,17 @@ use sync_lex::{Sign, Terminal, TerminalKind};
 
 /// So many operators of a chain, or prefix signs of a run, may stand at one level.
 const CHAIN: u32 = 64;
+
+/// The levels whose operators lean to the left.
+#[derive(Clone, Copy)]
+pub(crate) enum Level {
+    /// `+` and `-`
+    Sums,
+    /// `&&`
+    Ands,
+    /// `||`
+    Ors,
+}
 
 /// A number of the text.
 pub fn signed(number: u128) -> i128
@@ -117,6 +128,18 @@ fn sum_of(terminal: Terminal) -> Option<Operator>
         Some(Operator::Minus)
     } else {
         None
+    }
+}
+
+/// The operator of a level that a terminal is.
+fn operator_at(level: Level, terminal: Terminal) -> Option<Operator>
+    ensures { result ≡ operator_at level terminal }
+{
+    match level {
+        Level::Sums => sum_of(terminal),
+        Level::Ands if terminal.is(Sign::And) => Some(Operator::And),
+        Level::Ors if terminal.is(Sign::Or) => Some(Operator::Or),
+        Level::Ands | Level::Ors => None,
     }
 }
 
@@ -284,19 +307,42 @@ fn product<'a>(alloc: Global, terminals: &'a [Terminal], left: u32) -> Read<'a, 
     Ok((RawExprKind::Times(signed(factor), operand), rest))
 }
 
+/// What stands between the operators of a level.
 #[cycle(expr)]
-#[tactic(auto, unfolding(crate::specs::Expressions::sums, crate::specs::Expressions::chain))]
-fn sums<'a>(alloc: Global, terminals: &'a [Terminal], left: u32) -> Read<'a, RawExprKind>
-    ensures { Reads (λ x. (x.0, x.1.now)) result (sums (inside left) left terminals.now) }
+fn item<'a>(
+    alloc: Global,
+    terminals: &'a [Terminal],
+    left: u32,
+    level: Level,
+) -> Read<'a, RawExprKind>
+    ensures { Reads (λ x. (x.0, x.1.now)) result (item_at level (inside left) left terminals.now) }
+{
+    match level {
+        Level::Sums => product(alloc, terminals, left),
+        Level::Ands => relation(alloc, terminals, left),
+        Level::Ors => chained(alloc, terminals, left, Level::Ands),
+    }
+}
+
+/// Items of a level with its operators between, from the left.
+#[cycle(expr)]
+#[tactic(auto, using(crate::proofs::Chains::level_is), unfolding(crate::specs::Expressions::chain))]
+fn chained<'a>(
+    alloc: Global,
+    terminals: &'a [Terminal],
+    left: u32,
+    level: Level,
+) -> Read<'a, RawExprKind>
+    ensures { Reads (λ x. (x.0, x.1.now)) result (level_at level (inside left) left terminals.now) }
 {
     let line = first_line(terminals);
-    let (mut held, mut rest) = product(alloc, terminals, left)?;
+    let (mut held, mut rest) = item(alloc, terminals, left, level)?;
     let mut more = CHAIN;
     loop {
         let Some((terminal, after)) = next(rest) else {
             return Ok((held, rest));
         };
-        let Some(operator) = sum_of(terminal) else {
+        let Some(operator) = operator_at(level, terminal) else {
             return Ok((held, rest));
         };
         if more == 0 {
@@ -304,7 +350,7 @@ fn sums<'a>(alloc: Global, terminals: &'a [Terminal], left: u32) -> Read<'a, Raw
         }
         more -= 1;
         let second_line = first_line(after);
-        let (second, after) = product(alloc, after, left)?;
+        let (second, after) = item(alloc, after, left, level)?;
         held = two(alloc, operator, held, line, second, second_line)?;
         rest = after;
     }
@@ -316,7 +362,7 @@ fn relation<'a>(alloc: Global, terminals: &'a [Terminal], left: u32) -> Read<'a,
     ensures { Reads (λ x. (x.0, x.1.now)) result (relation (inside left) left terminals.now) }
 {
     let line = first_line(terminals);
-    let (first, rest) = sums(alloc, terminals, left)?;
+    let (first, rest) = chained(alloc, terminals, left, Level::Sums)?;
     let Some((terminal, after)) = next(rest) else {
         return Ok((first, rest));
     };
@@ -324,63 +370,11 @@ fn relation<'a>(alloc: Global, terminals: &'a [Terminal], left: u32) -> Read<'a,
         return Ok((first, rest));
     };
     let second_line = first_line(after);
-    let (second, rest) = sums(alloc, after, left)?;
+    let (second, rest) = chained(alloc, after, left, Level::Sums)?;
     Ok((
         two(alloc, operator, first, line, second, second_line)?,
         rest,
     ))
-}
-
-#[cycle(expr)]
-#[tactic(auto, unfolding(crate::specs::Expressions::ands, crate::specs::Expressions::chain))]
-fn ands<'a>(alloc: Global, terminals: &'a [Terminal], left: u32) -> Read<'a, RawExprKind>
-    ensures { Reads (λ x. (x.0, x.1.now)) result (ands (inside left) left terminals.now) }
-{
-    let line = first_line(terminals);
-    let (mut held, mut rest) = relation(alloc, terminals, left)?;
-    let mut more = CHAIN;
-    loop {
-        let Some((terminal, after)) = next(rest) else {
-            return Ok((held, rest));
-        };
-        if !terminal.is(Sign::And) {
-            return Ok((held, rest));
-        }
-        if more == 0 {
-            return Err(deep(terminal.line));
-        }
-        more -= 1;
-        let second_line = first_line(after);
-        let (second, after) = relation(alloc, after, left)?;
-        held = two(alloc, Operator::And, held, line, second, second_line)?;
-        rest = after;
-    }
-}
-
-#[cycle(expr)]
-#[tactic(auto, unfolding(crate::specs::Expressions::ors, crate::specs::Expressions::chain))]
-fn ors<'a>(alloc: Global, terminals: &'a [Terminal], left: u32) -> Read<'a, RawExprKind>
-    ensures { Reads (λ x. (x.0, x.1.now)) result (ors (inside left) left terminals.now) }
-{
-    let line = first_line(terminals);
-    let (mut held, mut rest) = ands(alloc, terminals, left)?;
-    let mut more = CHAIN;
-    loop {
-        let Some((terminal, after)) = next(rest) else {
-            return Ok((held, rest));
-        };
-        if !terminal.is(Sign::Or) {
-            return Ok((held, rest));
-        }
-        if more == 0 {
-            return Err(deep(terminal.line));
-        }
-        more -= 1;
-        let second_line = first_line(after);
-        let (second, after) = ands(alloc, after, left)?;
-        held = two(alloc, Operator::Or, held, line, second, second_line)?;
-        rest = after;
-    }
 }
 
 /// Disjunctions with at most `run` times `==>` between, from the right.
@@ -395,7 +389,7 @@ fn implies<'a>(
     ensures { Reads (λ x. (x.0, x.1.now)) result (implies (inside left) left run terminals.now) }
 {
     let line = first_line(terminals);
-    let (first, rest) = ors(alloc, terminals, left)?;
+    let (first, rest) = chained(alloc, terminals, left, Level::Ors)?;
     let Some((terminal, after)) = next(rest) else {
         return Ok((first, rest));
     };

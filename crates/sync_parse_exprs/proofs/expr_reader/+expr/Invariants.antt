@@ -1,7 +1,7 @@
 use Rattle.std.proofs.Common.{◌≡◌, ◌+◌, ◌-◌, ◌*◌}
-use Rattle.sync_lex.specs.declared.signs.Sign.TheVariants as sign
 use Rattle.sync_parse_exprs.specs.Terminals.{behind_commas, series}
-use Rattle.sync_parse_exprs.specs.Expressions.{chain, sum_of, and_of, or_of, whole, product, sums, relation, ands, ors, inside}
+use Rattle.sync_parse_exprs.specs.Expressions.{chain, operator_at, item_at, level_at, whole, inside}
+use Rattle.sync_parse_exprs.proofs.Chains.{rank}
 use Rattle.sync_parse_exprs.proofs.expr_reader.+expr.Given as goal
 
 abbrev pub decreases-sign_operand : goal.decreases-sign_operand
@@ -22,38 +22,24 @@ decreases-unary l = l.left * 1000 + 4 + l.run
 abbrev pub decreases-product : goal.decreases-product
 decreases-product l = l.left * 1000 + 100
 
-abbrev pub decreases-sums : goal.decreases-sums
-decreases-sums l = l.left * 1000 + 101
-
 abbrev pub decreases-relation : goal.decreases-relation
-decreases-relation l = l.left * 1000 + 102
+decreases-relation l = l.left * 1000 + 105
 
-abbrev pub decreases-ands : goal.decreases-ands
-decreases-ands l = l.left * 1000 + 103
+abbrev pub decreases-item : goal.decreases-item
+decreases-item l = l.left * 1000 + 101 + 10 * rank l.level
 
-abbrev pub decreases-ors : goal.decreases-ors
-decreases-ors l = l.left * 1000 + 104
+abbrev pub decreases-chained : goal.decreases-chained
+decreases-chained l = l.left * 1000 + 102 + 10 * rank l.level
 
 abbrev pub decreases-implies : goal.decreases-implies
-decreases-implies l = l.left * 1000 + 105 + l.run
+decreases-implies l = l.left * 1000 + 130 + l.run
 
-abbrev pub invariant-sums-loop-terminal : goal.invariant-sums-loop-terminal
-invariant-sums-loop-terminal l = chain sum_of (product (inside l.left) l.left) l.line l.more l.held l.rest ≡ sums (inside l.left) l.left l.fn.terminals
+abbrev pub invariant-chained-loop-terminal : goal.invariant-chained-loop-terminal
+invariant-chained-loop-terminal l =
+    chain (operator_at l.level) (item_at l.level (inside l.left) l.left) l.line l.more l.held l.rest ≡ level_at l.level (inside l.left) l.left l.fn.terminals
 
-abbrev pub decreases-sums-loop-terminal : goal.decreases-sums-loop-terminal
-decreases-sums-loop-terminal l = l.more
-
-abbrev pub invariant-ands-loop-terminal : goal.invariant-ands-loop-terminal
-invariant-ands-loop-terminal l = chain and_of (relation (inside l.left) l.left) l.line l.more l.held l.rest ≡ ands (inside l.left) l.left l.fn.terminals
-
-abbrev pub decreases-ands-loop-terminal : goal.decreases-ands-loop-terminal
-decreases-ands-loop-terminal l = l.more
-
-abbrev pub invariant-ors-loop-terminal : goal.invariant-ors-loop-terminal
-invariant-ors-loop-terminal l = chain or_of (ands (inside l.left) l.left) l.line l.more l.held l.rest ≡ ors (inside l.left) l.left l.fn.terminals
-
-abbrev pub decreases-ors-loop-terminal : goal.decreases-ors-loop-terminal
-decreases-ors-loop-terminal l = l.more
+abbrev pub decreases-chained-loop-terminal : goal.decreases-chained-loop-terminal
+decreases-chained-loop-terminal l = l.more
 
 abbrev pub invariant-expr_series-loop : goal.invariant-expr_series-loop
 invariant-expr_series-loop l = behind_commas (whole (inside l.left)) (l.end - l.counter) l.held l.rest ≡ series (whole (inside l.left)) l.fn.terminals
