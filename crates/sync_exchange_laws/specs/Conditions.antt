@@ -1,0 +1,41 @@
+-- An operation at a state, with arguments and with values of the names that it binds: whether its conditions hold, and what it
+-- leads to. All of it is computed.
+use Rattle.std.specs.Prelude.{◌≡◌, ℤ, pos, Bool, true, List, ◌++◌, length, slice_index_or, nat_lt, if◌then◌else◌, None}
+use Rattle.std.specs.List.{Contains}
+use Rattle.sync_terms.specs.Maps as maps
+use Rattle.sync_terms.specs.Values.{Valuation}
+use Rattle.sync_machine.specs.declared.fields.Field.{Field}
+use Rattle.sync_machine.specs.Machines.{OperationTree, MachineTree}
+use Rattle.sync_machine.specs.Naming.{machine_fault, AreTextNames}
+use Rattle.sync_machine.specs.Named.{own_names}
+use Rattle.sync_machine.specs.States.{Number, State, first_values, last_values, values_in, IsInit, Steps}
+use Rattle.sync_machine.specs.Tests.{are_met, is_kept_safe}
+use Rattle.sync_rules.specs.Faults.{strategy_fault}
+use Rattle.sync_join.specs.Join.{number_of, entries_of}
+use Rattle.sync_exchange.specs.Exchange.{argument}
+
+-- what symbols stand for: fields for the values of the state, parameters for the arguments, bound names for the values bound
+abbrev pub names_at : List Field → State → OperationTree → List ℤ → List ℤ → Valuation
+names_at fs s o args bound = record {
+  number = λ x. if nat_lt x (length fs) then number_of (slice_index_or s x (Number (pos 0))) else argument (own_names o) (args ++ bound) x;
+  mapping = λ x. if nat_lt x (length fs) then entries_of (slice_index_or s x (Number (pos 0))) else maps.nil;
+}
+
+-- all conditions of its statements are true
+abbrev pub conditions_hold : List Field → State → OperationTree → List ℤ → List ℤ → Bool
+conditions_hold fs s o args bound = are_met fs (names_at fs s o args bound) (first_values fs o.mode) o.steps
+
+-- all its safety conditions are, as far as the conditions before them
+abbrev pub safety_holds : List Field → State → OperationTree → List ℤ → List ℤ → Bool
+safety_holds fs s o args bound = is_kept_safe fs (names_at fs s o args bound) (first_values fs o.mode) o.steps
+
+-- the state that it leads to
+abbrev pub state_after : List Field → State → OperationTree → List ℤ → List ℤ → State
+state_after fs s o args bound = values_in (names_at fs s o args bound) fs (last_values fs (first_values fs o.mode) o.steps)
+
+-- Where the conditions hold, the operation is a step.
+abbrev pub ConditionsMakeSteps : Type 0
+ConditionsMakeSteps = (m : MachineTree) → AreTextNames m → machine_fault m ≡ None → strategy_fault m ≡ None
+    → (o : OperationTree) → Contains m.ops o → (IsInit o → ⊥) → (args bound : List ℤ) → length args ≡ length o.params
+    → (s : State) → length s ≡ length m.fields → conditions_hold m.fields s o args bound ≡ true
+    → Steps m s o args (state_after m.fields s o args bound)

@@ -1,0 +1,4 @@
+pub mod Permissions
+pub mod Conditions
+pub mod Widths
+pub mod Progress

@@ -1,0 +1,57 @@
+//! Laws of exchanges that what stands on them needs: they do nothing, and their clauses are proved.
+#![tactic(auto)]
+
+ghost use Rattle.sync_exchange_laws.specs.Conditions.{ConditionsMakeSteps};
+ghost use Rattle.sync_exchange_laws.specs.Permissions.{PermissionsStay, FirstPermissionsStay, MovesKeepPermissions, WritesKeepShards, PermissionIsOnly, StoredIsOnly};
+ghost use Rattle.sync_exchange_laws.specs.Progress.{Progresses, StopsAreHolders};
+ghost use Rattle.sync_exchange_laws.specs.Widths.{WidthsAgree};
+
+/// Every exchange keeps how often each content of each cell is there, as a permission or stored.
+pub fn permissions_stay()
+    ensures { PermissionsStay }
+{}
+
+/// The exchange of an init keeps it.
+pub fn first_permissions_stay()
+    ensures { FirstPermissionsStay }
+{}
+
+/// Every move of any holder keeps it: an exchange, a split, a merger and a copy.
+pub fn moves_keep_permissions()
+    ensures { MovesKeepPermissions }
+{}
+
+/// A permission with another content leaves sound shards sound, and the state that they make.
+pub fn writes_keep_shards()
+    ensures { WritesKeepShards }
+{}
+
+/// Where a cell is there once, as a permission, there is no second permission of it, and it is not stored.
+pub fn permission_is_only()
+    ensures { PermissionIsOnly }
+{}
+
+/// Where a cell is there once, as a stored object, there is no permission of it, and no second object.
+pub fn stored_is_only()
+    ensures { StoredIsOnly }
+{}
+
+/// Where the conditions of a transition or property hold at a state, as computed, it is a step to the state that is computed.
+pub fn conditions_make_steps()
+    ensures { ConditionsMakeSteps }
+{}
+
+/// Of sound shards a partial sum leaves signed 128 bits exactly where the joined amount of a count does.
+pub fn widths_agree()
+    ensures { WidthsAgree }
+{}
+
+/// An exchange whose tokens are there, and whose requires are true, succeeds: no store lacks what it asks for.
+pub fn exchanges_progress()
+    ensures { Progresses }
+{}
+
+/// An exchange stops for a token that is missing or differs or for a require that is false, and for nothing else.
+pub fn stops_are_holders()
+    ensures { StopsAreHolders }
+{}
