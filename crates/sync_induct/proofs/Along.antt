@@ -4,7 +4,7 @@ use Rattle.std.specs.List.{AllByRecursion}
 use Rattle.std.proofs.lemmas.Bool.{true≢false, false≢true}
 use Rattle.std.proofs.lemmas.List.{get_or-set_other, length-set}
 use Rattle.sync_terms.specs.Trees.{Tree, Nil, Formula, replaced_in}
-use Rattle.sync_terms.specs.Values.{Valuation, HoldsForAll, Given, IsValid}
+use Rattle.sync_terms.specs.Values.{Valuation, HoldsForAll, Hypothesis, IsValid}
 use Rattle.sync_machine.specs.declared.fields.Field.{Field}
 use Rattle.sync_machine.specs.Machines.{ActTree, Init, Require, Assert, Update, HaveVariable, Add, Remove, Have, Deposit, Withdraw, Guard, StepTree, OperationTree, InvariantTree, MachineTree}
 use Rattle.sync_machine.specs.Statements.{safety, condition, after, field_of, changed_by}
@@ -13,7 +13,8 @@ use Rattle.sync_machine.specs.Scope.{Known}
 use Rattle.sync_induct.proofs.Scoped.{IsConditionIn, AreConditionsIn}
 use Rattle.sync_rules.specs.Obligations.{form_names, touches, is_touched, has_to_keep}
 use Rattle.sync_kernel.specs.Facts.{Fact}
-use Rattle.sync_induct.specs.Duties.{Duty, condition_facts, step_facts, safety_duties, step_duties, facts_behind, closing, keeps_duties, operation_duties, duties_from, givens_of, IsProved, AreProved}
+use Rattle.sync_induct.specs.Duties.{Duty, condition_facts, step_facts, safety_duties, facts_behind, closing, keeps_duties, as_hypotheses, IsProved}
+use Rattle.sync_induct.proofs.DutyLists.{step_duties, operation_duties, duties_from, AreProved}
 use Rattle.sync_terms.specs.declared.proofs.Claim.TheVariants as claims
 use Rattle.sync_induct.proofs.Agreement.{Agree, Agree-part, truth-agree}
 
@@ -24,7 +25,7 @@ abbrev pub FactsHold : Valuation → List Fact → Type 0
 FactsHold v [] = Unit {0}
 FactsHold v (f ∷ fs) = HoldsForAll f.params v f.form × FactsHold v fs
 
-pub as_givens : (v : Valuation) (facts : List Fact) → FactsHold v facts → AllByRecursion (λ (h : Given). HoldsForAll h.params v h.form) (givens_of facts)
+pub as_givens : (v : Valuation) (facts : List Fact) → FactsHold v facts → AllByRecursion (λ (h : Hypothesis). HoldsForAll h.params v h.form) (as_hypotheses facts)
 as_givens v [] h = tt
 as_givens v (f ∷ fs) h = (h.0, as_givens v fs h.1)
 
@@ -70,7 +71,7 @@ steps-safe fs v op cur facts n (s ∷ ss) p h =
 
 -- an invariant that the operation has to keep follows, in its last form
 abbrev pub KeepsIt : OperationTree → List Fact → List Tree → InvariantTree → Type 0
-KeepsIt o facts last i = has_to_keep o i ≡ true → IsValid (givens_of facts) (replaced_in (closing i.params last) i.form)
+KeepsIt o facts last i = has_to_keep o i ≡ true → IsValid (as_hypotheses facts) (replaced_in (closing i.params last) i.form)
 
 choose : (b : Bool) (d : Duty) (rest : List Duty) → AreProved (cond b (d ∷ rest) rest) → (b ≡ true → IsProved d) × AreProved rest
 choose true d rest p = (λ _. p.0, p.1)

@@ -7,7 +7,7 @@ use Rattle.sync_base.specs.declared.stops.Refusal.{Refusal}
 use Rattle.sync_base.specs.declared.stops.Rule.TheVariants.{I1, K8}
 use Rattle.sync_base.specs.declared.stops.Stop.{Stop}
 use Rattle.sync_base.specs.Outcome.{Passes}
-use Rattle.sync_terms.specs.Trees.{formula_size}
+use Rattle.sync_terms.specs.Trees.{most_nodes, formula_size}
 use Rattle.sync_terms.specs.Stored.{Stored}
 use Rattle.sync_terms.specs.declared.proofs.Obligation.{Obligation}
 use Rattle.sync_terms.specs.Plans.{Plan, plan_of}
@@ -115,24 +115,24 @@ is_within : (b : Bool) → true ≡ not b → b ≡ false
 is_within true e = absurd (true≢false e)
 is_within false e = refl
 
-pub judged-large : (ps : List ProofTree) (d : Duty) (plan : Plan) → proof_of (titled d.obligation) ps ≡ Some plan → false ≡ not (ltb 1000000 (sequent_size d.facts d.claim)) → duty_fault ps d ≡ Some (record { line = d.obligation.line; rule = K8 })
-judged-large ps d plan e large = judged-too-large ps d plan e (or_right (ltb 1000000 (formula_size d.claim)) (ltb 1000000 (sequent_size d.facts d.claim)) (is_over (ltb 1000000 (sequent_size d.facts d.claim)) large))
+pub judged-large : (ps : List ProofTree) (d : Duty) (plan : Plan) → proof_of (titled d.obligation) ps ≡ Some plan → false ≡ not (ltb most_nodes (sequent_size d.facts d.claim)) → duty_fault ps d ≡ Some (record { line = d.obligation.line; rule = K8 })
+judged-large ps d plan e large = judged-too-large ps d plan e (or_right (ltb most_nodes (formula_size d.claim)) (ltb most_nodes (sequent_size d.facts d.claim)) (is_over (ltb most_nodes (sequent_size d.facts d.claim)) large))
 
 -- the claim alone is too large
 or_left : (a b : Bool) → a ≡ true → (a || b) ≡ true
 or_left true b e = refl
 or_left false b e = absurd (false≢true e)
 
-pub large-claim : (d : Duty) → 1000000 < formula_size d.claim → is_large d ≡ true
-large-claim d large = or_left (ltb 1000000 (formula_size d.claim)) (ltb 1000000 (sequent_size d.facts d.claim)) (lt-ltb 1000000 (formula_size d.claim) large)
+pub large-claim : (d : Duty) → most_nodes < formula_size d.claim → is_large d ≡ true
+large-claim d large = or_left (ltb most_nodes (formula_size d.claim)) (ltb most_nodes (sequent_size d.facts d.claim)) (lt-ltb most_nodes (formula_size d.claim) large)
 
 small-both : (a b : Bool) → a ≡ false → b ≡ false → (a || b) ≡ false
 small-both a b p q = rw p q
 
-pub judged-script : (ps : List ProofTree) (d : Duty) (plan : Plan) → proof_of (titled d.obligation) ps ≡ Some plan → formula_size d.claim ≤ 1000000 → true ≡ not (ltb 1000000 (sequent_size d.facts d.claim)) → duty_fault ps d ≡ script_fault d.facts d.claim plan
+pub judged-script : (ps : List ProofTree) (d : Duty) (plan : Plan) → proof_of (titled d.obligation) ps ≡ Some plan → formula_size d.claim ≤ most_nodes → true ≡ not (ltb most_nodes (sequent_size d.facts d.claim)) → duty_fault ps d ≡ script_fault d.facts d.claim plan
 judged-script ps d plan e claim small = ap (judged d) e
     ∙ cond_not (is_large d) (Some (record { line = d.obligation.line; rule = K8 })) (script_fault d.facts d.claim plan)
-    (small-both (ltb 1000000 (formula_size d.claim)) (ltb 1000000 (sequent_size d.facts d.claim)) (le-ltb 1000000 (formula_size d.claim) claim) (is_within (ltb 1000000 (sequent_size d.facts d.claim)) small))
+    (small-both (ltb most_nodes (formula_size d.claim)) (ltb most_nodes (sequent_size d.facts d.claim)) (le-ltb most_nodes (formula_size d.claim) claim) (is_within (ltb most_nodes (sequent_size d.facts d.claim)) small))
 
 pub passes-same : {A : Type 0} (r : Result A Stop) (x y : Option Refusal) → x ≡ y → Passes r x → Passes r y
 passes-same r x y e p = subst (λ (z : Option Refusal). Passes r z) e p

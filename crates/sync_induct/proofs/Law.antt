@@ -5,7 +5,7 @@ use Rattle.sync_machine.specs.Scope.{ChangesNothing}
 use Rattle.sync_machine.specs.Named.{IsNamed}
 use Rattle.sync_machine.specs.States.{HoldsAlways}
 use Rattle.sync_rules.specs.Strategies.{AreAllowed}
-use Rattle.sync_induct.specs.Duties.{duties_of, AreProved}
+use Rattle.sync_induct.proofs.DutyLists.{duties_of, AreProved}
 use Rattle.sync_induct.proofs.Scoping.{is-scoped}
 use Rattle.sync_induct.proofs.Soundness.{holds-always}
 

@@ -22,3 +22,5 @@ pub mod Ready
 pub mod Showing
 pub mod Law
 pub mod Deciding
+pub mod DutyLists
+pub mod Listing

@@ -6,7 +6,8 @@ use Rattle.sync_machine.specs.Machines.{StepTree, OperationTree, InvariantTree, 
 use Rattle.sync_machine.specs.Statements.{safety}
 use Rattle.sync_machine.specs.States.{strategy_of, current_of, advanced, first_values, last_values}
 use Rattle.sync_kernel.specs.Facts.{Fact}
-use Rattle.sync_induct.specs.Duties.{Duty, safety_duties, step_facts, step_duties, facts_behind, keeps_duties, base_facts, operation_duties, duties_from, duties_of, AreProved}
+use Rattle.sync_induct.specs.Duties.{Duty, safety_duties, step_facts, facts_behind, keeps_duties, base_facts}
+use Rattle.sync_induct.proofs.DutyLists.{step_duties, operation_duties, duties_from, duties_of, AreProved}
 use Rattle.sync_induct.specs.Checklist.{Check, proves, statement_checks, step_checks, operation_checks, checks_from, checks_of, AreShown}
 
 proved-append : (xs ys : List Duty) → AreProved xs → AreProved ys → AreProved (xs ++ ys)

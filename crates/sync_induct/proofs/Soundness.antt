@@ -17,7 +17,8 @@ use Rattle.sync_machine.specs.Scope.{Known, IsNumber, IsMap, IsFormula, HasSort,
 use Rattle.sync_induct.proofs.Scoped.{IsScopedOperation, IsScoped}
 use Rattle.sync_rules.specs.Obligations.{names, form_names, is_kept_by}
 use Rattle.sync_kernel.specs.Facts.{Fact}
-use Rattle.sync_induct.specs.Duties.{invariant_facts, facts_behind, step_duties, keeps_duties, closing, base_facts, duties_of, givens_of, IsProved, AreProved}
+use Rattle.sync_induct.specs.Duties.{invariant_facts, facts_behind, keeps_duties, closing, base_facts, as_hypotheses, IsProved}
+use Rattle.sync_induct.proofs.DutyLists.{step_duties, duties_of, AreProved}
 use Rattle.sync_induct.proofs.Agreement.{Agree, Agree-part, num-agree, mapped-agree, truth-agree, composed, truth-replaced}
 use Rattle.sync_induct.proofs.Along.{FactsHold, as_givens, all-left, all-right, behind-holds, steps-safe, KeepsIt, keeps-valid, IsOperationProved, operations-proved, met-agree, last-length, Spares, last-spared, untouched, nothing-changed, isat-agree, values-length, values-at}
 
@@ -176,7 +177,7 @@ closing-agrees fs given params last v w form ends are_params at = record { numbe
 
 -- an invariant that the operation has to keep
 pub kept : (fs : List Field) (given params : List ℕ) (last : List Tree) (v w : Valuation) (form : Formula) (facts : List Fact) → Ends fs given last → AllByRecursion IsNameSymbol params → IsFormula (knows fs params) form
-    → IsValid (givens_of facts) (replaced_in (closing params last) form) → FactsHold (dollar params w v) facts → IsAt (values_in v fs last) w → Holds w form
+    → IsValid (as_hypotheses facts) (replaced_in (closing params last) form) → FactsHold (dollar params w v) facts → IsAt (values_in v fs last) w → Holds w form
 kept fs given params last v w form facts ends are_params scoped valid hold at =
     sym (truth-agree (knows fs params) (composed (closing params last) (dollar params w v)) w form scoped (closing-agrees fs given params last v w form ends are_params at))
     ∙ (sym (truth-replaced (closing params last) (dollar params w v) form) ∙ valid (dollar params w v) (as_givens (dollar params w v) facts hold))

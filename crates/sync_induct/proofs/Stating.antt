@@ -9,7 +9,7 @@ use Rattle.sync_base.specs.declared.stops.Refusal.{Refusal}
 use Rattle.sync_base.specs.declared.stops.Rule.TheVariants.{K8}
 use Rattle.sync_base.specs.declared.stops.Stop.{Stop}
 use Rattle.sync_base.specs.Outcome.{first, Passes}
-use Rattle.sync_terms.specs.Kept.{limit}
+use Rattle.sync_terms.specs.Trees.{most_nodes}
 use Rattle.sync_terms.specs.declared.store.TermStop.{TermStop}
 use Rattle.sync_terms.specs.declared.store.TermStop.TheVariants.{TooLarge}
 use Rattle.sync_terms.specs.Trees.{Tree, Nil, Formula, tree_size, formula_size}
@@ -23,7 +23,8 @@ use Rattle.sync_machine.specs.Machines.{ActTree, StepTree, Init, Require, Assert
 use Rattle.sync_machine.specs.Statements.{safety, condition, after, field_of}
 use Rattle.sync_machine.specs.States.{strategy_of, current_of, advanced}
 use Rattle.sync_machine.specs.Views.{act_tree, step_tree}
-use Rattle.sync_induct_acts.specs.Building.{HasCondition, Stops, condition_size}
+use Rattle.sync_terms.specs.Building.{StopsBuilding}
+use Rattle.sync_induct_acts.specs.Conditions.{HasCondition, condition_size}
 use Rattle.sync_terms.specs.declared.proofs.Claim.TheVariants as claims
 use Rattle.sync_terms.specs.declared.proofs.Obligation.{Obligation}
 use Rattle.sync_induct.specs.declared.statements.Statement.{Statement}
@@ -47,11 +48,11 @@ any-way (Err e) P h = tt
 
 -- ---- sizes
 
-pub size-fits : (line nodes : ℕ) → nodes ≤ limit → size_fault line nodes ≡ None
-size-fits line nodes le = rw (le-ltb 1000000 nodes le) refl
+pub size-fits : (line nodes : ℕ) → nodes ≤ most_nodes → size_fault line nodes ≡ None
+size-fits line nodes le = rw (le-ltb most_nodes nodes le) refl
 
-pub size-large : (line nodes : ℕ) → limit < nodes → size_fault line nodes ≡ Some (record { line = line; rule = K8 })
-size-large line nodes lt = rw (lt-ltb 1000000 nodes lt) refl
+pub size-large : (line nodes : ℕ) → most_nodes < nodes → size_fault line nodes ≡ Some (record { line = line; rule = K8 })
+size-large line nodes lt = rw (lt-ltb most_nodes nodes lt) refl
 
 first-none : (x : Option Refusal) → first x None ≡ x
 first-none (Some r) = refl
@@ -67,8 +68,8 @@ one-fault ps c = first-none (check_fault ps c)
 pub answer-is : (s : Stored) (o : Option Formula) (x y : Option FormId) → x ≡ y → HasCondition s o x → HasCondition s o y
 answer-is s o x y e h = subst (λ (z : Option FormId). HasCondition s o z) e h
 
-pub stop-is : (size : ℕ) (x : TermStop) → x ≡ TooLarge → Stops size x → limit < size
-stop-is size x e h = subst (λ (y : TermStop). Stops size y) e h
+pub stop-is : (size : ℕ) (x : TermStop) → x ≡ TooLarge → StopsBuilding size x → most_nodes < size
+stop-is size x e h = subst (λ (y : TermStop). StopsBuilding size y) e h
 
 pub built-some : (s : Stored) (o : Option Formula) (id : FormId) → HasCondition s o (Some id) → IsForm s id × (o ≡ Some (formula s id))
 built-some s (Some f) id h = (h.stored, ap Some (sym h.value))
@@ -78,7 +79,7 @@ pub built-none : (s : Stored) (o : Option Formula) → HasCondition s o None →
 built-none s (Some f) h = absurd h
 built-none s None h = refl
 
-large-some : (o : Option Formula) → limit < condition_size o → (f : Formula) × (o ≡ Some f) × (limit < formula_size f)
+large-some : (o : Option Formula) → most_nodes < condition_size o → (f : Formula) × (o ≡ Some f) × (most_nodes < formula_size f)
 large-some (Some f) lt = (f, refl, lt)
 large-some None lt = absurd (omega arith)
 
@@ -118,8 +119,8 @@ module _ (s t : Stored) (e : Extends s t) (w : Walk) (walk : IsWalk s w) (a : St
   shown-owed r h = on-ok r (IsProved (duty_of t w.hyps claim (obligation_of a))) (AreShown (owed s w a)) (λ p. subst (λ (cs : List Check). AreShown cs) (sym owed-is) (p, tt)) h
 
 -- a safety condition that is too large
-pub large-owed : (s : Stored) (w : Walk) (a : Statement) (ps : List ProofTree) (A : Type 0) (stop : Stop) → limit < condition_size (safety_at s a)
-    → ((d : Duty) → d.obligation ≡ obligation_of a → limit < formula_size d.claim → Passes {A = A} (Err stop) (duty_fault ps d)) → Passes {A = A} (Err stop) (checks_fault ps (owed s w a))
+pub large-owed : (s : Stored) (w : Walk) (a : Statement) (ps : List ProofTree) (A : Type 0) (stop : Stop) → most_nodes < condition_size (safety_at s a)
+    → ((d : Duty) → d.obligation ≡ obligation_of a → most_nodes < formula_size d.claim → Passes {A = A} (Err stop) (duty_fault ps d)) → Passes {A = A} (Err stop) (checks_fault ps (owed s w a))
 large-owed s w a ps A stop lt refuses =
     let some = large-some (safety_at s a) lt in
     subst (λ (x : Option Refusal). Passes {A = A} (Err stop) x) (sym (ap (checks_fault ps) (owed-one s w a some.0 some.1) ∙ one-fault ps (Proves (duty_at s w a some.0))))

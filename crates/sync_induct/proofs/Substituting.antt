@@ -16,8 +16,18 @@ use Rattle.sync_terms.specs.Substitution.{term_of, substitution}
 use Rattle.sync_machine.specs.declared.machine.Invariant.{Invariant}
 use Rattle.sync_machine.specs.Scope.{IsNameSymbol}
 use Rattle.sync_machine.specs.Views.{invariant_tree, symbols_of}
-use Rattle.sync_induct.specs.Closing.{field_pairs, field_trees, dollar_pair, pair_tree, HavePairs, tree_of}
+use Rattle.sync_induct.specs.Closing.{field_pairs, dollar_pair, pair_tree, HavePairs}
 use Rattle.sync_induct.specs.Duties.{closing, closed_form}
+
+-- the fields, numbered from n, each with its value as a tree
+unfoldable pub field_trees : ℕ → List Tree → List (ℕ × Tree)
+field_trees n [] = []
+field_trees n (t ∷ ts) = (n, t) ∷ field_trees (suc n) ts
+
+-- the tree of the first pair with a symbol; the symbol itself where there is none
+unfoldable pub tree_of : List (ℕ × Tree) → ℕ → Tree
+tree_of [] x = Name x
+tree_of (p ∷ ps) x = if nat_eq p.0 x then p.1 else tree_of ps x
 
 -- ---- pairs that are added at the end
 

@@ -8,7 +8,7 @@ use Rattle.sync_machine.specs.Machines.{StepTree, OperationTree, InvariantTree, 
 use Rattle.sync_machine.specs.Statements.{safety, condition, after}
 use Rattle.sync_machine.specs.States.{strategy_of, current_of, advanced, last_values, first_values}
 use Rattle.sync_kernel.specs.Facts.{Fact}
-use Rattle.sync_induct_acts.specs.Building.{condition_size}
+use Rattle.sync_induct_acts.specs.Conditions.{condition_size}
 use Rattle.sync_induct.specs.Duties.{Duty, IsProved, safety_duties, step_facts, facts_behind, keeps_duties, base_facts}
 
 -- a duty has a proof; what the statement in a line makes, of so many nodes, is not too large

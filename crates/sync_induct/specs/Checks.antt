@@ -4,7 +4,7 @@ use Rattle.std.specs.List.{AllByRecursion, list_any}
 use Rattle.sync_base.specs.declared.stops.Refusal.{Refusal}
 use Rattle.sync_base.specs.declared.stops.Rule.TheVariants.{I1, I2, K8}
 use Rattle.sync_base.specs.Outcome.{first}
-use Rattle.sync_terms.specs.Trees.{Formula, formula_size, neg}
+use Rattle.sync_terms.specs.Trees.{most_nodes, Formula, formula_size, neg}
 use Rattle.sync_terms.specs.declared.nodes.FormId.{FormId}
 use Rattle.sync_terms.specs.Stored.{Stored, formula}
 use Rattle.sync_machine.specs.Machines.{MachineTree}
@@ -42,9 +42,9 @@ proof_of t (p ∷ ps) = if same_title (titled p.title) t then Some p.plan else p
 abbrev pub sequent_size : List Fact → Formula → ℕ
 sequent_size facts claim = facts_size facts + formula_size (neg claim)
 
--- the claim or the sequent has more than 1,000,000 nodes
+-- the claim or the sequent has more than `most_nodes` nodes
 abbrev pub is_large : Duty → Bool
-is_large d = nat_lt 1000000 (formula_size d.claim) || nat_lt 1000000 (sequent_size d.facts d.claim)
+is_large d = nat_lt most_nodes (formula_size d.claim) || nat_lt most_nodes (sequent_size d.facts d.claim)
 
 -- an obligation without a proof, with too large a sequent, or with a script that does not prove it
 abbrev pub judged : Duty → Option Plan → Option Refusal
@@ -54,9 +54,9 @@ judged d (Some plan) = if is_large d then Some (record { line = d.obligation.lin
 abbrev pub duty_fault : List ProofTree → Duty → Option Refusal
 duty_fault ps d = judged d (proof_of (titled d.obligation) ps)
 
--- what is made has more than 1,000,000 nodes
+-- what is made has more than `most_nodes` nodes
 abbrev pub size_fault : ℕ → ℕ → Option Refusal
-size_fault line nodes = if nat_lt 1000000 nodes then Some (record { line = line; rule = K8 }) else None
+size_fault line nodes = if nat_lt most_nodes nodes then Some (record { line = line; rule = K8 }) else None
 
 abbrev pub check_fault : List ProofTree → Check → Option Refusal
 check_fault ps (Proves d) = duty_fault ps d

@@ -1,8 +1,9 @@
 -- The claim that an invariant is kept, as a substitution by pairs of symbols and terms.
-use Rattle.std.specs.Prelude.{◌≡◌, ℕ, suc, List, [], ◌∷◌, map, nat_eq, Bool, Some, slice_get, if◌then◌else◌}
+use Rattle.std.specs.Prelude.{◌≡◌, ℕ, suc, List, [], ◌∷◌, map, Bool, Some, slice_get}
 use Rattle.std.specs.List.{AllByRecursion}
 use Rattle.sync_terms.specs.declared.nodes.Sym.{Sym}
 use Rattle.sync_terms.specs.declared.nodes.TermId.{TermId}
+use Rattle.sync_terms.specs.Symbols.{dollar_symbol}
 use Rattle.sync_terms.specs.Trees.{Tree, Name}
 use Rattle.sync_terms.specs.Stored.{Stored, tree, IsTerm, IsForm}
 use Rattle.sync_machine.specs.declared.machine.Invariant.{Invariant}
@@ -19,14 +20,9 @@ unfoldable pub field_pairs : ℕ → List TermId → List (Sym × TermId)
 field_pairs n [] = []
 field_pairs n (t ∷ ts) = (record { 0 = n }, t) ∷ field_pairs (suc n) ts
 
--- the same with trees
-unfoldable pub field_trees : ℕ → List Tree → List (ℕ × Tree)
-field_trees n [] = []
-field_trees n (t ∷ ts) = (n, t) ∷ field_trees (suc n) ts
-
 -- `$p` for the parameter p
 abbrev pub dollar_pair : ℕ → ℕ × Tree
-dollar_pair p = (p, Name (suc p))
+dollar_pair p = (p, Name (dollar_symbol p))
 
 -- a pair of a store, with its tree
 abbrev pub pair_tree : Stored → Sym × TermId → ℕ × Tree
@@ -36,11 +32,6 @@ pair_tree s p = (p.0.0, tree s p.1)
 pub record HavePairs (s : Stored) (pairs : List (Sym × TermId)) (trees : List (ℕ × Tree)) : Type 0 where
   pub terms : AllByRecursion (λ (p : Sym × TermId). IsTerm s p.1) pairs
   pub are : map (pair_tree s) pairs ≡ trees
-
--- the tree of the first pair with a symbol; the symbol itself where there is none
-unfoldable pub tree_of : List (ℕ × Tree) → ℕ → Tree
-tree_of [] x = Name x
-tree_of (p ∷ ps) x = if nat_eq p.0 x then p.1 else tree_of ps x
 
 -- an invariant whose formula is of the store, and whose parameters are names of the text
 pub record IsKeepable (s : Stored) (i : Invariant) : Type 0 where

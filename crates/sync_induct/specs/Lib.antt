@@ -6,3 +6,5 @@ pub mod Walks
 pub mod Starts
 pub mod Closing
 pub mod Grown
+pub mod Books
+pub mod Listed

@@ -28,8 +28,8 @@ use sync_terms::Proofs;
 ///
 /// - I2: a proof of no obligation, or a second proof of one; the proof's line. In the order of the proofs.
 /// - Operation by operation, first each statement in order, then each invariant that has to be kept. Of an obligation: I1,
-///   it has no proof; K8, its sequent has more than 1,000,000 nodes; both at its line; else the first rule K that its script
-///   breaks. Of a statement, behind its obligation: K8 at its line, if what is known behind it has more than 1,000,000
+///   it has no proof; K8, its sequent has more than `MOST_NODES` nodes; both at its line; else the first rule K that its script
+///   breaks. Of a statement, behind its obligation: K8 at its line, if what is known behind it has more than `MOST_NODES`
 ///   nodes, or else the value that it leaves.
 ///
 /// The machine is dropped on a refusal. Where it is handed on, its store may have grown; all else is as it was.

@@ -1,26 +1,26 @@
 //! The claims that an operation keeps the invariants.
-ghost use Rattle.std.specs.Prelude.{◌≡◌, ◌<◌, ◌++◌, ℕ, suc, List, map, Err, OnOk, IfOk};
+ghost use Rattle.std.specs.Prelude.{◌≡◌, ◌<◌, ◌++◌, ℕ, List, map, Err, OnOk, IfOk};
 ghost use Rattle.std.specs.List.{AllByRecursion};
-ghost use Rattle.std.specs.HashMap.{get};
 ghost use Rattle.std.specs.HashSet.{contains};
 ghost use Rattle.sync_base.specs.Outcome.{Passes};
-ghost use Rattle.sync_terms.specs.Kept.{limit};
+ghost use Rattle.sync_terms.specs.Trees.{most_nodes};
+ghost use Rattle.sync_terms.specs.Symbols.{dollar_symbol};
 ghost use Rattle.sync_terms.specs.Stored.{Stored, Extends, IsForm, formula};
 ghost use Rattle.sync_terms.specs.Trees.{Tree, formula_size};
 ghost use Rattle.sync_machine.specs.Scope.{IsNameSymbol};
 ghost use Rattle.sync_machine.specs.Views.{invariant_tree, operation_tree, symbols_of};
-ghost use Rattle.sync_induct.specs.declared.index.Title.{Title as Named};
+ghost use Rattle.sync_induct.specs.Books.{IsBook};
+ghost use Rattle.sync_induct.specs.Titles.{same_title};
 ghost use Rattle.sync_induct.specs.Checks.{duty_fault, checks_fault};
-ghost use Rattle.sync_terms.specs.Proofs.{titles_of, AreScriptsOf, proofs_in};
+ghost use Rattle.sync_terms.specs.Proofs.{proofs_in};
 ghost use Rattle.sync_induct.specs.Checklist.{AreShown, proves};
 ghost use Rattle.sync_induct.specs.Closing.{HavePairs, IsKeepable, AreWanted, dollar_pair};
 ghost use Rattle.sync_induct.specs.Closing as closing;
 ghost use Rattle.sync_induct.specs.Duties.{IsProved, closed_form, kept_duty, keeps_duties};
-ghost use Rattle.sync_induct.specs.Titles.{same_title, first_at};
 ghost use Rattle.sync_induct.specs.Walks.{IsWalk, HasCome, known_of, values_of};
 
+use crate::duties::{check_duty, too_large};
 use crate::index::{Book, Title};
-use crate::judges::{judge, too_large};
 use crate::walks::Walk;
 use std::alloc::Global;
 use sync_base::{NoMemory, Stop, place_number};
@@ -45,9 +45,9 @@ fn field_pairs(alloc: Global, values: &[TermId]) -> Result<Vec<Pair>, NoMemory>
 /// `$p` for the parameter p.
 fn dollar(param: Sym) -> Sym
     requires { IsNameSymbol param.0 }
-    ensures { result.0 ≡ suc param.0 }
+    ensures { result.0 ≡ dollar_symbol param.0 }
 {
-    Sym(param.0 + 1)
+    param.dollar()
 }
 
 /// Adds `$p` for each parameter p.
@@ -76,7 +76,7 @@ impl Walk {
         requires walk { IsWalk terms.old self.now }
         requires invariant { IsKeepable terms.old invariant.now }
         ensures value { IfOk result (λ id. IsForm terms.new id × (formula terms.new id ≡ closed_form (values_of terms.old self.now) (invariant_tree terms.old invariant.now))) }
-        ensures too_large { result ≡ Err TermStop.TooLarge → limit < formula_size (closed_form (values_of terms.old self.now) (invariant_tree terms.old invariant.now)) }
+        ensures too_large { result ≡ Err TermStop.TooLarge → most_nodes < formula_size (closed_form (values_of terms.old self.now) (invariant_tree terms.old invariant.now)) }
         ensures keeps { Extends terms.old terms.new }
     {
         let mut pairs = field_pairs(alloc, self.current.as_slice())?;
@@ -95,23 +95,14 @@ impl Walk {
     ) -> Result<(), Stop>
         requires walk { IsWalk terms.old self.old }
         requires invariant { IsKeepable terms.old invariant.now }
-        requires scripts { AreScriptsOf terms.old book.proofs.now }
-        requires placed { (t : Named) → get same_title book.places.now t ≡ first_at t 0 (titles_of book.proofs.now) }
+        requires book { IsBook terms.old book }
         ensures exact { Passes result (duty_fault (proofs_in terms.old book.entry.proofs.now) (kept_duty obligation (known_of terms.old self.old) (values_of terms.old self.old) (invariant_tree terms.old invariant.now))) }
         ensures proved { OnOk result (IsProved (kept_duty obligation (known_of terms.old self.old) (values_of terms.old self.old) (invariant_tree terms.old invariant.now))) }
         ensures come { OnOk result (HasCome terms.new self.new (known_of terms.old self.old) (values_of terms.old self.old)) }
         ensures keeps { Extends terms.old terms.new }
     {
         match self.closed(alloc, terms, invariant) {
-            Ok(claim) => judge(
-                alloc,
-                terms,
-                &mut self.hyps,
-                claim,
-                book.proofs,
-                book.places,
-                obligation,
-            ),
+            Ok(claim) => check_duty(alloc, terms, &mut self.hyps, claim, book, obligation),
             Err(TermStop::TooLarge) => Err(too_large(book, obligation)),
             Err(TermStop::Memory) => Err(Stop::Memory),
         }
@@ -130,8 +121,7 @@ impl Walk {
         requires walk { IsWalk terms.old self.old }
         requires invariants { AllByRecursion (IsKeepable terms.old) invariants.now }
         requires wanted { AreWanted (contains same_title book.wanted.now) op (operation_tree terms.old operation.now) (map (invariant_tree terms.old) invariants.now) }
-        requires scripts { AreScriptsOf terms.old book.proofs.now }
-        requires placed { (t : Named) → get same_title book.places.now t ≡ first_at t 0 (titles_of book.proofs.now) }
+        requires book { IsBook terms.old book }
         ensures exact { Passes result (checks_fault (proofs_in terms.old book.entry.proofs.now)
             (proves (keeps_duties (operation_tree terms.old operation.now) op (known_of terms.old self.old) (values_of terms.old self.old) 0 (map (invariant_tree terms.old) invariants.now)))) }
         ensures shown { OnOk result (AreShown

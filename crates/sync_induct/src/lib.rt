@@ -3,9 +3,10 @@
 
 mod checking;
 mod closing;
+mod duties;
 mod holding;
 mod index;
-mod judges;
+mod laws;
 mod operations;
 mod sizes;
 mod starts;
@@ -14,4 +15,5 @@ mod walks;
 
 pub use checking::inductive;
 pub use holding::Inductive;
+pub use laws::checked_are_listed;
 pub use sync_terms::{Proof, Proofs};

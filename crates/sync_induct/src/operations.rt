@@ -1,18 +1,17 @@
 //! The check of all operations of a machine, in order.
 ghost use Rattle.std.specs.Prelude.{◌≡◌, ℕ, Some, All, map, slice_get, OnOk};
 ghost use Rattle.std.specs.List.{AllByRecursion};
-ghost use Rattle.std.specs.HashMap.{get};
 ghost use Rattle.std.specs.HashSet.{contains};
 ghost use Rattle.sync_base.specs.Outcome.{Passes};
 ghost use Rattle.sync_terms.specs.Stored.{Extends};
 ghost use Rattle.sync_machine.specs.Views.{invariant_tree, operation_tree, HasActIds};
 ghost use Rattle.sync_machine.specs.declared.machine.Operation.{Operation as Declared};
-ghost use Rattle.sync_induct.specs.declared.index.Title.{Title};
+ghost use Rattle.sync_induct.specs.Books.{IsBook};
+ghost use Rattle.sync_induct.specs.Titles.{same_title};
 ghost use Rattle.sync_induct.specs.Checks.{checks_fault};
-ghost use Rattle.sync_terms.specs.Proofs.{titles_of, AreScriptsOf, proofs_in};
+ghost use Rattle.sync_terms.specs.Proofs.{proofs_in};
 ghost use Rattle.sync_induct.specs.Closing.{IsKeepable, AreWanted};
 ghost use Rattle.sync_induct.specs.Checklist.{AreShown, operation_checks, checks_from};
-ghost use Rattle.sync_induct.specs.Titles.{same_title, first_at};
 
 use crate::index::Book;
 use crate::walks::Walk;
@@ -34,8 +33,7 @@ fn check_operation(
     requires invariants { AllByRecursion (IsKeepable terms.old) invariants.now }
     requires ids { All (λ x. HasActIds terms.old x.act) operation.now.steps }
     requires wanted { AreWanted (contains same_title book.wanted.now) number (operation_tree terms.old operation.now) (map (invariant_tree terms.old) invariants.now) }
-    requires scripts { AreScriptsOf terms.old book.proofs.now }
-    requires placed { (t : Title) → get same_title book.places.now t ≡ first_at t 0 (titles_of book.proofs.now) }
+    requires book { IsBook terms.old book }
     ensures exact { Passes result (checks_fault (proofs_in terms.old book.entry.proofs.now)
         (operation_checks fields.now (map (invariant_tree terms.old) invariants.now) number (operation_tree terms.old operation.now))) }
     ensures shown { OnOk result (AreShown (operation_checks fields.now (map (invariant_tree terms.old) invariants.now) number (operation_tree terms.old operation.now))) }
@@ -66,8 +64,7 @@ pub fn check_operations(
     requires ids { AllByRecursion (λ (o : Declared). All (λ x. HasActIds terms.old x.act) o.steps) operations.now }
     requires wanted { (k : ℕ) (o : Declared) → slice_get operations.now k ≡ Some o
         → AreWanted (contains same_title book.wanted.now) k (operation_tree terms.old o) (map (invariant_tree terms.old) invariants.now) }
-    requires scripts { AreScriptsOf terms.old book.proofs.now }
-    requires placed { (t : Title) → get same_title book.places.now t ≡ first_at t 0 (titles_of book.proofs.now) }
+    requires book { IsBook terms.old book }
     ensures exact { Passes result (checks_fault (proofs_in terms.old book.entry.proofs.now)
         (checks_from fields.now (map (invariant_tree terms.old) invariants.now) 0 (map (operation_tree terms.old) operations.now))) }
     ensures shown { OnOk result (AreShown (checks_from fields.now (map (invariant_tree terms.old) invariants.now) 0 (map (operation_tree terms.old) operations.now))) }

@@ -4,7 +4,7 @@ ghost use Rattle.std.specs.List.{AllByRecursion};
 ghost use Rattle.sync_terms.specs.Stored.{Stored, Extends, HasChildren, IsForm, shape};
 ghost use Rattle.sync_machine.specs.States as states;
 ghost use Rattle.sync_machine.specs.Views.{invariant_tree};
-ghost use Rattle.sync_machine.specs.declared.machine.Invariant.{Invariant as Given};
+ghost use Rattle.sync_machine.specs.declared.machine.Invariant.{Invariant as Declared};
 ghost use Rattle.sync_induct.specs.Duties.{base_facts, invariant_facts};
 ghost use Rattle.sync_induct.specs.Starts as starts;
 ghost use Rattle.sync_induct.specs.Walks.{HaveTrees, HasCome, IsWalk, known_of, values_of};
@@ -82,7 +82,7 @@ impl Walk {
         invariants: &[Invariant],
         mode: OpMode,
     ) -> Result<Walk, NoMemory>
-        requires { AllByRecursion (λ (i : Given). IsForm terms.old i.form) invariants.now }
+        requires { AllByRecursion (λ (i : Declared). IsForm terms.old i.form) invariants.now }
         ensures come { IfOk result (λ w. HasCome terms.new w (base_facts mode (map (invariant_tree terms.old) invariants.now)) (states.first_values fields.now mode)) }
         ensures keeps { Extends terms.old terms.new }
     {
@@ -107,7 +107,7 @@ impl Walk {
         invariants: &[Invariant],
     ) -> Result<(), NoMemory>
         requires walk { IsWalk terms.now self.old }
-        requires forms { AllByRecursion (λ (i : Given). IsForm terms.now i.form) invariants.now }
+        requires forms { AllByRecursion (λ (i : Declared). IsForm terms.now i.form) invariants.now }
         ensures { OnOk result (HasCome terms.now self.new (known_of terms.now self.old ++ invariant_facts (map (invariant_tree terms.now) invariants.now)) (values_of terms.now self.old)) }
     {
         for invariant in invariants {

@@ -1,23 +1,22 @@
 //! One statement of an operation: what it has to show, what is known behind it, and what it leaves.
 ghost use Rattle.std.specs.Prelude.{◌≡◌, ℕ, ◌++◌, Err, OnOk, IfOk};
 ghost use Rattle.std.specs.Option.{IfSome};
-ghost use Rattle.std.specs.HashMap.{get};
 ghost use Rattle.sync_base.specs.Outcome.{Passes};
 ghost use Rattle.sync_terms.specs.Stored.{Stored, Extends, IsTerm, tree};
 ghost use Rattle.sync_terms.specs.Trees.{tree_size};
 ghost use Rattle.sync_machine.specs.Statements as statements;
 ghost use Rattle.sync_machine.specs.States.{current_of};
 ghost use Rattle.sync_machine.specs.Views.{act_tree, step_tree, HasActIds};
-ghost use Rattle.sync_induct_acts.specs.Building.{HasTerm, Stops, condition_size};
-ghost use Rattle.sync_induct.specs.declared.index.Title.{Title as Named};
+ghost use Rattle.sync_terms.specs.Building.{HasTerm, StopsBuilding};
+ghost use Rattle.sync_induct_acts.specs.Conditions.{condition_size};
 ghost use Rattle.sync_induct.specs.Checklist.{AreShown};
+ghost use Rattle.sync_induct.specs.Books.{IsBook};
 ghost use Rattle.sync_induct.specs.Checks.{checks_fault, size_fault};
-ghost use Rattle.sync_terms.specs.Proofs.{titles_of, AreScriptsOf, proofs_in};
+ghost use Rattle.sync_terms.specs.Proofs.{proofs_in};
 ghost use Rattle.sync_induct.specs.Duties.{condition_facts};
-ghost use Rattle.sync_induct.specs.Titles.{same_title, first_at};
 
+use crate::duties::{check_duty, refused, too_large};
 use crate::index::Book;
-use crate::judges::{judge, refused, too_large};
 use crate::walks::Walk;
 use sqlite_items::Items;
 use std::alloc::Global;
@@ -41,7 +40,7 @@ pub struct Statement {
 
 /// Why a line is refused whose statement makes what cannot be built.
 fn unmade(line: u32, stop: TermStop) -> Stop
-    ensures { (nodes : ℕ) → Stops nodes stop → Passes {A = Unit {0}} (Err result) (size_fault line nodes) }
+    ensures { (nodes : ℕ) → StopsBuilding nodes stop → Passes {A = Unit {0}} (Err result) (size_fault line nodes) }
 {
     match stop {
         TermStop::TooLarge => refused(line, Rule::K8),
@@ -112,8 +111,7 @@ impl Walk {
         requires walk { IsWalk terms.old self.old }
         requires current { IsTerm terms.old statement.current }
         requires ids { HasActIds terms.old statement.step.act }
-        requires scripts { AreScriptsOf terms.old book.proofs.now }
-        requires placed { (t : Named) → get same_title book.places.now t ≡ first_at t 0 (titles_of book.proofs.now) }
+        requires book { IsBook terms.old book }
         ensures exact { Passes result (checks_fault (proofs_in terms.old book.entry.proofs.now) (owed terms.old self.old statement)) }
         ensures shown { OnOk result (AreShown (owed terms.old self.old statement)) }
         ensures come { OnOk result (HasCome terms.new self.new (known_of terms.old self.old) (values_of terms.old self.old)) }
@@ -132,15 +130,7 @@ impl Walk {
             line: step.line,
         };
         match safety(terms, strategy, current, step.act) {
-            Ok(Some(claim)) => judge(
-                alloc,
-                terms,
-                &mut self.hyps,
-                claim,
-                book.proofs,
-                book.places,
-                obligation,
-            ),
+            Ok(Some(claim)) => check_duty(alloc, terms, &mut self.hyps, claim, book, obligation),
             Ok(None) => Ok(()),
             Err(TermStop::TooLarge) => Err(too_large(book, obligation)),
             Err(TermStop::Memory) => Err(Stop::Memory),
@@ -226,8 +216,7 @@ impl Walk {
     ) -> Result<(), Stop>
         requires walk { IsWalk terms.old self.old }
         requires ids { HasActIds terms.old step.act }
-        requires scripts { AreScriptsOf terms.old book.proofs.now }
-        requires placed { (t : Named) → get same_title book.places.now t ≡ first_at t 0 (titles_of book.proofs.now) }
+        requires book { IsBook terms.old book }
         ensures exact { Passes result (checks_fault (proofs_in terms.old book.entry.proofs.now) (checks_at terms.old fields.now op number self.old step)) }
         ensures shown { OnOk result (AreShown (checks_at terms.old fields.now op number self.old step)) }
         ensures come { OnOk result (HasCome terms.new self.new (facts_after terms.old fields.now number self.old step) (values_after terms.old fields.now self.old step)) }

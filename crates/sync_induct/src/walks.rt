@@ -1,17 +1,15 @@
 //! The walk over the statements of an operation.
 ghost use Rattle.std.specs.Prelude.{◌≡◌, ◌++◌, ◌∷◌, [], All, OnOk};
-ghost use Rattle.std.specs.HashMap.{get};
 ghost use Rattle.sync_base.specs.Outcome.{Passes};
 ghost use Rattle.sync_terms.specs.Stored.{Extends, IsForm};
-ghost use Rattle.sync_induct.specs.declared.index.Title.{Title as Named};
+ghost use Rattle.sync_induct.specs.Books.{IsBook};
 ghost use Rattle.sync_induct.specs.Checks.{checks_fault};
-ghost use Rattle.sync_terms.specs.Proofs.{titles_of, AreScriptsOf, proofs_in};
+ghost use Rattle.sync_terms.specs.Proofs.{proofs_in};
 ghost use Rattle.sync_induct.specs.Checklist.{AreShown, step_checks};
 ghost use Rattle.sync_induct.specs.Duties.{facts_behind};
 ghost use Rattle.sync_kernel.specs.Facts.{fact_of};
 ghost use Rattle.sync_machine.specs.States.{last_values};
 ghost use Rattle.sync_machine.specs.Views.{steps_tree, HasActIds};
-ghost use Rattle.sync_induct.specs.Titles.{same_title, first_at};
 
 use crate::index::Book;
 use std::alloc::Global;
@@ -52,8 +50,7 @@ impl Walk {
     ) -> Result<(), Stop>
         requires walk { IsWalk terms.old self.old }
         requires ids { All (λ x. HasActIds terms.old x.act) steps.now }
-        requires scripts { AreScriptsOf terms.old book.proofs.now }
-        requires placed { (t : Named) → get same_title book.places.now t ≡ first_at t 0 (titles_of book.proofs.now) }
+        requires book { IsBook terms.old book }
         ensures exact { Passes result (checks_fault (proofs_in terms.old book.entry.proofs.now) (step_checks fields.now op (values_of terms.old self.old) (known_of terms.old self.old) 1 (steps_tree terms.old steps.now))) }
         ensures shown { OnOk result (AreShown (step_checks fields.now op (values_of terms.old self.old) (known_of terms.old self.old) 1 (steps_tree terms.old steps.now))) }
         ensures come { OnOk result (HasCome terms.new self.new (facts_behind fields.now (values_of terms.old self.old) (known_of terms.old self.old) 1 (steps_tree terms.old steps.now))

@@ -1,4 +1,4 @@
-pub mod Making
+pub mod ConditionLemmas
 pub mod Lasting
 pub mod Choices
 pub mod Otherwise

@@ -11,7 +11,7 @@ use Rattle.sync_machine.specs.declared.machine.Act.{Act}
 use Rattle.sync_machine.specs.declared.machine.Act.TheVariants.{Require, Assert, Update, HaveVariable, Remove, Have, Withdraw, Guard}
 use Rattle.sync_machine.specs.Statements.{amount_is_natural, both, enabling, safety, condition, after}
 use Rattle.sync_machine.specs.Views.{act_tree}
-use Rattle.sync_induct_acts.specs.Building.{condition_size}
+use Rattle.sync_induct_acts.specs.Conditions.{condition_size}
 
 pub natural-none : (k : Strategy) (t : Tree) → (k ≡ Count → ⊥) → None ≡ amount_is_natural k t
 unfolding amount_is_natural

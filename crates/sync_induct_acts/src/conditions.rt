@@ -4,11 +4,13 @@ ghost use Rattle.sync_terms.specs.Stored.{tree, IsTerm, Extends};
 ghost use Rattle.sync_terms.specs.Trees as trees;
 ghost use Rattle.sync_machine.specs.Statements.{zero, one, is_there, is_free, is_there_with, presence, freshness, amount_is_natural, storage};
 ghost use Rattle.sync_machine.specs.Views.{place_tree, HasPlaceIds};
-ghost use Rattle.sync_induct_acts.specs.Building.{BuildsForm, BuildsCondition};
+ghost use Rattle.sync_terms.specs.Building.{BuildsForm};
+ghost use Rattle.sync_induct_acts.specs.Conditions.{BuildsCondition};
 
-use crate::nodes::{as_condition, form, one, term, zero};
+use crate::nodes::{as_condition, one, zero};
 use crate::places::terms_of;
 use sync_machine::{Pattern, Place, Strategy};
+use sync_terms::building::{form, term};
 use sync_terms::{FormId, FormNode, Node, TermId, TermStop, Terms};
 
 /// The key is there.

@@ -1,30 +1,14 @@
 //! Nodes over what a store has.
 ghost use Rattle.std.specs.Prelude.{◌≡◌, Some};
-ghost use Rattle.sync_terms.specs.Stored.{Stored, tree, formula, HasChildren, HasParts, IsTerm, IsForm, Extends};
+ghost use Rattle.sync_terms.specs.Stored.{Stored, formula, IsForm, Extends};
 ghost use Rattle.sync_terms.specs.Trees as trees;
 ghost use Rattle.sync_terms.specs.Trees.{Formula};
 ghost use Rattle.sync_machine.specs.Statements.{zero, one};
-ghost use Rattle.sync_induct_acts.specs.Building.{BuildsTerm, BuildsForm, BuildsCondition, FindsTerm, node_tree, node_formula};
+ghost use Rattle.sync_terms.specs.Building.{BuildsForm, FindsTerm};
+ghost use Rattle.sync_induct_acts.specs.Conditions.{BuildsCondition};
 
-use sync_terms::{FormId, FormNode, Node, Sym, TermId, TermStop, Terms};
-
-/// The term with this node.
-pub(crate) fn term(terms: &mut Terms, node: Node) -> Result<TermId, TermStop>
-    requires { HasChildren terms.old node }
-    ensures built { BuildsTerm terms.new (node_tree terms.old node) result }
-    ensures keeps { Extends terms.old terms.new }
-{
-    terms.add_term(node)
-}
-
-/// The formula with this node.
-pub(crate) fn form(terms: &mut Terms, node: FormNode) -> Result<FormId, TermStop>
-    requires { HasParts terms.old node }
-    ensures built { BuildsForm terms.new (node_formula terms.old node) result }
-    ensures keeps { Extends terms.old terms.new }
-{
-    terms.add_form(node)
-}
+use sync_terms::building::term;
+use sync_terms::{FormId, MOST_NODES, Node, Sym, TermId, TermStop, Terms};
 
 /// The number 0.
 pub(crate) fn zero(terms: &mut Terms) -> Result<TermId, TermStop>
@@ -50,21 +34,12 @@ pub(crate) fn name(terms: &mut Terms, symbol: Sym) -> Result<TermId, TermStop>
     term(terms, Node::Name(symbol))
 }
 
-/// A term that is stored, which is never too large.
-pub(crate) fn stored_term(terms: &Terms, term: TermId) -> Result<TermId, TermStop>
-    requires { IsTerm terms.now term }
-    ensures { BuildsTerm terms.now (tree terms.now term) result }
-{
-    prove!(terms.term_size(term) <= 1_000_000);
-    Ok(term)
-}
-
 /// A formula that is stored, which is never too large.
 pub(crate) fn stored_form(terms: &Terms, form: FormId) -> Result<Option<FormId>, TermStop>
     requires { IsForm terms.now form }
     ensures { BuildsCondition terms.now (Some (formula terms.now form)) result }
 {
-    prove!(terms.size_of(form) <= 1_000_000);
+    prove!(terms.size_of(form) <= MOST_NODES);
     Ok(Some(form))
 }
 

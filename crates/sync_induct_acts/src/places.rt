@@ -3,7 +3,8 @@ ghost use Rattle.std.specs.Prelude.{◌≡◌, IfOk, IfErr};
 ghost use Rattle.sync_terms.specs.Stored.{Extends};
 ghost use Rattle.sync_machine.specs.Statements.{key_of, value_of};
 ghost use Rattle.sync_machine.specs.Views.{place_tree, HasPlaceIds};
-ghost use Rattle.sync_induct_acts.specs.Building.{FindsTerm, HasPlaceTerms};
+ghost use Rattle.sync_terms.specs.Building.{FindsTerm};
+ghost use Rattle.sync_induct_acts.specs.Conditions.{HasPlaceTerms};
 
 use crate::nodes::{name, one, zero};
 use sync_machine::{Pattern, Place};

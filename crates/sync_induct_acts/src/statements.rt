@@ -3,18 +3,20 @@ ghost use Rattle.std.specs.Prelude.{◌≡◌, option_map, IfSome};
 ghost use Rattle.sync_terms.specs.Stored.{tree, formula, IsTerm, IsForm, Extends};
 ghost use Rattle.sync_machine.specs.Statements.{is_free, is_there_with, key_of, value_of, amount_is_natural, both, enabling, safety, condition};
 ghost use Rattle.sync_machine.specs.Views.{act_tree, place_tree, HasPlaceIds, HasActIds};
-ghost use Rattle.sync_induct_acts.specs.Building.{BuildsForm, BuildsCondition};
+ghost use Rattle.sync_terms.specs.Building.{BuildsForm};
+ghost use Rattle.sync_induct_acts.specs.Conditions.{BuildsCondition};
 
 use crate::conditions::{amount_is_natural, freshness, is_free, is_there_with, presence, storage};
-use crate::nodes::{as_condition, form, stored_form};
+use crate::nodes::{as_condition, stored_form};
 use crate::places::terms_of;
 use sync_machine::{Act, Place, Strategy};
+use sync_terms::building::form;
 use sync_terms::{FormId, FormNode, TermId, TermStop, Terms};
 
 /// The enabling condition of a statement, if it has one: what whoever takes the step has to meet.
 ///
 /// `current` is the value of the statement's field so far, and the strategy is the field's.
-/// `TooLarge` is for a condition of more than 1,000,000 nodes. After a stop the store may have gained nodes.
+/// `TooLarge` is for a condition of more than `MOST_NODES` nodes. After a stop the store may have gained nodes.
 pub fn enabling(
     terms: &mut Terms,
     strategy: Strategy,
@@ -61,7 +63,7 @@ fn amount_at_is_natural(
 /// The safety condition of a statement, if it has one: what its author has to prove.
 ///
 /// `current` is the value of the statement's field so far, and the strategy is the field's.
-/// `TooLarge` is for a condition of more than 1,000,000 nodes. After a stop the store may have gained nodes.
+/// `TooLarge` is for a condition of more than `MOST_NODES` nodes. After a stop the store may have gained nodes.
 pub fn safety(
     terms: &mut Terms,
     strategy: Strategy,
@@ -137,7 +139,7 @@ fn safety_and_enabling(
 /// What is known behind a statement: its conditions, and the value of the name that it binds.
 ///
 /// `current` is the value of the statement's field so far, and the strategy is the field's.
-/// `TooLarge` is for a condition of more than 1,000,000 nodes. After a stop the store may have gained nodes.
+/// `TooLarge` is for a condition of more than `MOST_NODES` nodes. After a stop the store may have gained nodes.
 pub fn condition(
     terms: &mut Terms,
     strategy: Strategy,

@@ -4,11 +4,12 @@ ghost use Rattle.sync_terms.specs.Stored.{tree, IsTerm, Extends};
 ghost use Rattle.sync_terms.specs.Trees as trees;
 ghost use Rattle.sync_machine.specs.Statements.{zero, one, key_of, value_of, added, removed, after};
 ghost use Rattle.sync_machine.specs.Views.{act_tree, place_tree, HasPlaceIds, HasActIds};
-ghost use Rattle.sync_induct_acts.specs.Building.{BuildsTerm};
+ghost use Rattle.sync_terms.specs.Building.{BuildsTerm};
 
-use crate::nodes::{one, stored_term, term, zero};
+use crate::nodes::{one, zero};
 use crate::places::terms_of;
 use sync_machine::{Act, Place, Strategy};
+use sync_terms::building::{stored_term, term};
 use sync_terms::{Node, TermId, TermStop, Terms};
 
 /// The set with this element.
@@ -126,7 +127,7 @@ fn without_object(terms: &mut Terms, current: TermId, place: Place) -> Result<Te
 /// The field's value behind a statement on it.
 ///
 /// `current` is the value of the statement's field so far, and the strategy is the field's.
-/// `TooLarge` is for a value of more than 1,000,000 nodes. After a stop the store may have gained nodes.
+/// `TooLarge` is for a value of more than `MOST_NODES` nodes. After a stop the store may have gained nodes.
 pub fn after(
     terms: &mut Terms,
     strategy: Strategy,

@@ -13,17 +13,17 @@ use Rattle.sync_terms.specs.declared.scripts.HypName.{HypName}
 use Rattle.sync_terms.specs.declared.scripts.HypName.TheVariants.{Denied}
 use Rattle.sync_terms.specs.declared.store.TermStop.{TermStop}
 use Rattle.sync_terms.specs.declared.store.TermStop.TheVariants as term
-use Rattle.sync_terms.specs.Kept.{limit}
+use Rattle.sync_terms.specs.Trees.{most_nodes}
 use Rattle.sync_terms.specs.Trees.{Formula, neg, formula_size}
-use Rattle.sync_terms.specs.Values.{Given}
+use Rattle.sync_terms.specs.Values.{Hypothesis}
 use Rattle.sync_terms.specs.Stored.{Stored, Extends, IsForm, formula}
-use Rattle.sync_kernel_facts.specs.Building.{BuildsForm}
+use Rattle.sync_terms.specs.Building.{BuildsForm}
 use Rattle.sync_kernel.specs.declared.literals.Literal.{Literal}
 use Rattle.sync_kernel.specs.declared.splits.Pair.{Pair}
 use Rattle.sync_kernel.specs.declared.branches.Said.{Said}
 use Rattle.sync_kernel.specs.declared.branches.Known.{Known}
 use Rattle.sync_kernel.specs.declared.sequents.Hyp.{Hyp}
-use Rattle.sync_kernel.specs.Facts.{Fact, fact_of, denied, given, named, facts_size}
+use Rattle.sync_kernel.specs.Facts.{Fact, fact_of, denied, as_hypothesis, named, facts_size}
 use Rattle.sync_kernel.specs.Steps.{is_plain}
 use Rattle.sync_kernel.specs.Literals.{literal_form, IsLiteral, pair_forms, TakesApart}
 use Rattle.sync_kernel.specs.Branches.{said_fact, facts_in, IsSaid, AreSaid, said_size, Begins}
@@ -38,11 +38,11 @@ module _ (s : Stored) (xs : List Said) (name : ℕ) (form : Formula) (x : Said) 
   size_is : x.size ≡ formula_size form
   size_is = k.1 ∙ ap (λ (f : Fact). formula_size f.form) e
 
-  pub add_stops : (line : ℕ) (stop : Stop) → stop ≡ Refused (record { line = line; rule = K8 }) → false ≡ not (nat_lt limit (said_size xs + x.size)) → StopsFor line stop (fitting (with_fact (facts_in s xs) name form))
+  pub add_stops : (line : ℕ) (stop : Stop) → stop ≡ Refused (record { line = line; rule = K8 }) → false ≡ not (nat_lt most_nodes (said_size xs + x.size)) → StopsFor line stop (fitting (with_fact (facts_in s xs) name form))
   add_stops line stop is f =
       stops_at line stop K8 (fitting (with_fact (facts_in s xs) name form)) is (fitting_if (with_fact (facts_in s xs) name form) false (fits_with s xs name x.size form false h size_is f))
 
-  pub add_leaves : (line : ℕ) (new : List Said) → new ≡ xs ++ x ∷ [] → true ≡ not (nat_lt limit (said_size xs + x.size))
+  pub add_leaves : (line : ℕ) (new : List Said) → new ≡ xs ++ x ∷ [] → true ≡ not (nat_lt most_nodes (said_size xs + x.size))
       → Leaves {A = Unit {0}} line (Ok tt) (λ _ known. facts_in s new ≡ known) (fitting (with_fact (facts_in s xs) name form))
   add_leaves line new is f =
       leaves_ok {A = Unit {0}} line (λ _ known. facts_in s new ≡ known) tt (with_fact (facts_in s xs) name form) (fitting (with_fact (facts_in s xs) name form))
@@ -97,7 +97,7 @@ plain_stops s (Some j) k (Some f) e h p = let same : j ≡ k = cc in cond-false 
 
 -- ---- `parts`
 
-still_by : (line : ℕ) (e : Stop) (fs : List Fact) (left right : ℕ) (f g : Formula) (b : Bool) → nat_lt limit (facts_size (with_fact fs left f)) ≡ b → StopsFor line e (if b then Err K8 else Ok (with_fact fs left f))
+still_by : (line : ℕ) (e : Stop) (fs : List Fact) (left right : ℕ) (f g : Formula) (b : Bool) → nat_lt most_nodes (facts_size (with_fact fs left f)) ≡ b → StopsFor line e (if b then Err K8 else Ok (with_fact fs left f))
     → StopsFor line e (fitting (with_fact (with_fact fs left f) right g))
 still_by line Memory fs left right f g b is h = tt
 still_by line (Refused r) fs left right f g true is h = stops_at line (Refused r) K8 (fitting (with_fact (with_fact fs left f) right g)) (ap Refused h) (still_not_fitting fs left right f g is)
@@ -105,7 +105,7 @@ still_by line (Refused r) fs left right f g false is h = absurd h
 
 -- where the first of two facts is too much, both are
 pub still_stops : (line : ℕ) (e : Stop) (fs : List Fact) (left right : ℕ) (f g : Formula) → StopsFor line e (fitting (with_fact fs left f)) → StopsFor line e (fitting (with_fact (with_fact fs left f) right g))
-still_stops line e fs left right f g h = still_by line e fs left right f g (nat_lt limit (facts_size (with_fact fs left f))) refl h
+still_stops line e fs left right f g h = still_by line e fs left right f g (nat_lt most_nodes (facts_size (with_fact fs left f))) refl h
 
 pub parts_taken : (s : Stored) (says : Literal) (p : Pair) (f : Fact) (o : Option Pair) → literal_form s says ≡ f.form → option_map (pair_forms s) o ≡ parts_of (literal_form s says) → o ≡ Some p → taken (parts_of f.form) ≡ Ok (pair_forms s p)
 parts_taken s says p f o e h is = ap (λ (x : Formula). taken (parts_of x)) (sym e) ∙ ap taken (sym h ∙ ap (option_map (pair_forms s)) is)
@@ -140,6 +140,6 @@ pub started_facts : (s : Stored) (xs new : List Said) (x : Said) (hyps : List Fa
 started_facts s xs new x hyps claim is h e =
     ap (facts_in s) is ∙ map_push (said_fact s) xs x ∙ ap (λ (fs : List Fact). fs ++ said_fact s x ∷ []) h ∙ ap (λ (f : Fact). hyps ++ f ∷ []) e
 
-pub given_map : (s : Stored) (hs : List Hyp) → map given (map (fact_of s) hs) ≡ map (λ (h : Hyp). given (fact_of s h)) hs
+pub given_map : (s : Stored) (hs : List Hyp) → map as_hypothesis (map (fact_of s) hs) ≡ map (λ (h : Hyp). as_hypothesis (fact_of s h)) hs
 given_map s [] = refl
-given_map s (h ∷ hs) = ap (λ (gs : List Given). given (fact_of s h) ∷ gs) (given_map s hs)
+given_map s (h ∷ hs) = ap (λ (gs : List Hypothesis). as_hypothesis (fact_of s h) ∷ gs) (given_map s hs)

@@ -5,7 +5,7 @@ use Rattle.std.proofs.lemmas.List.{map_push, take-map}
 use Rattle.sync_terms.specs.declared.nodes.Sym.{Sym}
 use Rattle.sync_terms.specs.declared.nodes.FormId.{FormId}
 use Rattle.sync_terms.specs.declared.scripts.HypName.TheVariants.{Denied}
-use Rattle.sync_terms.specs.Kept.{limit}
+use Rattle.sync_terms.specs.Trees.{most_nodes}
 use Rattle.sync_terms.specs.Trees.{neg}
 use Rattle.sync_terms.specs.Stored.{Stored, Extends, formula}
 use Rattle.sync_kernel.specs.declared.branches.Said.{Said}
@@ -57,9 +57,9 @@ pub more_known : (s : Stored) (old new : Hypotheses) (x : Said) (f : Fact) → n
 unfolding known_in
 more_known s old new x f is says = ap (facts_in s) is ∙ map_push (said_fact s) old.branch x ∙ ap (λ (g : Fact). facts_in s old.branch ++ g ∷ []) says
 
-pub fit_known : (s : Stored) (h : Hypotheses) (n : ℕ) (b : Bool) → AreReady s h → b ≡ not (nat_lt limit (said_size h.branch + n)) → b ≡ not (nat_lt limit (facts_size (known_in s h) + n))
+pub fit_known : (s : Stored) (h : Hypotheses) (n : ℕ) (b : Bool) → AreReady s h → b ≡ not (nat_lt most_nodes (said_size h.branch + n)) → b ≡ not (nat_lt most_nodes (facts_size (known_in s h) + n))
 unfolding known_in
-fit_known s h n b r is = is ∙ ap (λ (m : ℕ). not (nat_lt limit (m + n))) (size-in s h.branch r.said)
+fit_known s h n b r is = is ∙ ap (λ (m : ℕ). not (nat_lt most_nodes (m + n))) (size-in s h.branch r.said)
 
 -- ---- a proof: the denied claim goes on the branch, and behind its script the branch is cut back
 

@@ -5,7 +5,7 @@ use Rattle.std.proofs.lemmas.Bool.{cond-true, cond-false, lt-ltb, ltb-true, or_l
 use Rattle.std.proofs.lemmas.List.{map_push, take-append-le, take_all, length_push}
 use Rattle.sync_base.specs.declared.stops.Rule.TheVariants.{K8}
 use Rattle.sync_terms.specs.declared.nodes.Sym.{Sym}
-use Rattle.sync_terms.specs.Kept.{limit}
+use Rattle.sync_terms.specs.Trees.{most_nodes}
 use Rattle.sync_terms.specs.Trees.{Formula, Not, formula_size}
 use Rattle.sync_terms.specs.Stored.{Stored, formula, Extends}
 use Rattle.sync_kernel.specs.declared.literals.Literal.{Literal}
@@ -76,38 +76,38 @@ if_not true c x y e = sym (cond-false c y x e)
 if_not false c x y e = sym (cond-true c y x e)
 
 -- the test that the code makes of facts with one formula more
-pub fits_with : (s : Stored) (xs : List Said) (name n : ℕ) (form : Formula) (b : Bool) → AreSaid s xs → n ≡ formula_size form → b ≡ not (nat_lt limit (said_size xs + n))
-    → b ≡ not (nat_lt limit (facts_size (with_fact (facts_in s xs) name form)))
+pub fits_with : (s : Stored) (xs : List Said) (name n : ℕ) (form : Formula) (b : Bool) → AreSaid s xs → n ≡ formula_size form → b ≡ not (nat_lt most_nodes (said_size xs + n))
+    → b ≡ not (nat_lt most_nodes (facts_size (with_fact (facts_in s xs) name form)))
 fits_with s xs name n form b h size e =
-    e ∙ ap (λ (m : ℕ). not (nat_lt limit m)) (ap (λ (m : ℕ). m + n) (size-in s xs h) ∙ ap (λ (m : ℕ). facts_size (facts_in s xs) + m) size ∙ sym (size-push (facts_in s xs) (named name form)))
+    e ∙ ap (λ (m : ℕ). not (nat_lt most_nodes m)) (ap (λ (m : ℕ). m + n) (size-in s xs h) ∙ ap (λ (m : ℕ). facts_size (facts_in s xs) + m) size ∙ sym (size-push (facts_in s xs) (named name form)))
 
-pub fitting_if : (fs : List Fact) (b : Bool) → b ≡ not (nat_lt limit (facts_size fs)) → fitting fs ≡ (if b then Ok fs else Err K8)
-fitting_if fs b e = if_not (nat_lt limit (facts_size fs)) b (Err K8) (Ok fs) e
+pub fitting_if : (fs : List Fact) (b : Bool) → b ≡ not (nat_lt most_nodes (facts_size fs)) → fitting fs ≡ (if b then Ok fs else Err K8)
+fitting_if fs b e = if_not (nat_lt most_nodes (facts_size fs)) b (Err K8) (Ok fs) e
 
 -- a formula that is too large alone
-over : (a n m : ℕ) → limit < n → m ≡ a + n → nat_lt limit m ≡ true
-over a n m h e = lt-ltb limit m (omega (arith, h, e))
+over : (a n m : ℕ) → most_nodes < n → m ≡ a + n → nat_lt most_nodes m ≡ true
+over a n m h e = lt-ltb most_nodes m (omega (arith, h, e))
 
-pub too_large_with : (fs : List Fact) (name : ℕ) (form : Formula) → limit < formula_size form → nat_lt limit (facts_size (with_fact fs name form)) ≡ true
+pub too_large_with : (fs : List Fact) (name : ℕ) (form : Formula) → most_nodes < formula_size form → nat_lt most_nodes (facts_size (with_fact fs name form)) ≡ true
 too_large_with fs name form h = over (facts_size fs) (formula_size form) (facts_size (with_fact fs name form)) h (size-push fs (named name form))
 
-pub not_fitting : (fs : List Fact) (name : ℕ) (form : Formula) → limit < formula_size form → fitting (with_fact fs name form) ≡ Err K8
-not_fitting fs name form h = cond-true (nat_lt limit (facts_size (with_fact fs name form))) (Err K8) (Ok (with_fact fs name form)) (too_large_with fs name form h)
+pub not_fitting : (fs : List Fact) (name : ℕ) (form : Formula) → most_nodes < formula_size form → fitting (with_fact fs name form) ≡ Err K8
+not_fitting fs name form h = cond-true (nat_lt most_nodes (facts_size (with_fact fs name form))) (Err K8) (Ok (with_fact fs name form)) (too_large_with fs name form h)
 
 -- a fact more does not make them fit
-pub still_not_fitting : (fs : List Fact) (left right : ℕ) (f g : Formula) → nat_lt limit (facts_size (with_fact fs left f)) ≡ true → fitting (with_fact (with_fact fs left f) right g) ≡ Err K8
+pub still_not_fitting : (fs : List Fact) (left right : ℕ) (f g : Formula) → nat_lt most_nodes (facts_size (with_fact fs left f)) ≡ true → fitting (with_fact (with_fact fs left f) right g) ≡ Err K8
 still_not_fitting fs left right f g h =
-    cond-true (nat_lt limit (facts_size (with_fact (with_fact fs left f) right g))) (Err K8) (Ok (with_fact (with_fact fs left f) right g))
-    (lt-ltb limit (facts_size (with_fact (with_fact fs left f) right g))
-    (let less : limit < facts_size (with_fact fs left f) = ltb-true limit (facts_size (with_fact fs left f)) h in
+    cond-true (nat_lt most_nodes (facts_size (with_fact (with_fact fs left f) right g))) (Err K8) (Ok (with_fact (with_fact fs left f) right g))
+    (lt-ltb most_nodes (facts_size (with_fact (with_fact fs left f) right g))
+    (let less : most_nodes < facts_size (with_fact fs left f) = ltb-true most_nodes (facts_size (with_fact fs left f)) h in
     let more = size-push (with_fact fs left f) (named right g) in
     omega (arith, less, more)))
 
 -- two branches
-pub both_not_fitting : (fs : List Fact) (name : ℕ) (forms : Two) → limit < formula_size forms.left → both_fitting fs name forms ≡ Err K8
+pub both_not_fitting : (fs : List Fact) (name : ℕ) (forms : Two) → most_nodes < formula_size forms.left → both_fitting fs name forms ≡ Err K8
 both_not_fitting fs name forms h =
-    cond-true (nat_lt limit (facts_size (with_fact fs name forms.left)) || nat_lt limit (facts_size (with_fact fs name forms.right))) (Err K8) (Ok (cases_with fs name forms))
-    (or_left (nat_lt limit (facts_size (with_fact fs name forms.left))) (nat_lt limit (facts_size (with_fact fs name forms.right))) (too_large_with fs name forms.left h))
+    cond-true (nat_lt most_nodes (facts_size (with_fact fs name forms.left)) || nat_lt most_nodes (facts_size (with_fact fs name forms.right))) (Err K8) (Ok (cases_with fs name forms))
+    (or_left (nat_lt most_nodes (facts_size (with_fact fs name forms.left))) (nat_lt most_nodes (facts_size (with_fact fs name forms.right))) (too_large_with fs name forms.left h))
 
 two_tests : (a b c d : Bool) → c ≡ not a → d ≡ not b → (c && d) ≡ not (a || b)
 two_tests a b c d e f = ap (λ (x : Bool). x && d) e ∙ by a
@@ -116,11 +116,11 @@ two_tests a b c d e f = ap (λ (x : Bool). x && d) e ∙ by a
     by true = refl
     by false = f
 
-pub both_if : (fs : List Fact) (name : ℕ) (forms : Two) (c d : Bool) → c ≡ not (nat_lt limit (facts_size (with_fact fs name forms.left))) → d ≡ not (nat_lt limit (facts_size (with_fact fs name forms.right)))
+pub both_if : (fs : List Fact) (name : ℕ) (forms : Two) (c d : Bool) → c ≡ not (nat_lt most_nodes (facts_size (with_fact fs name forms.left))) → d ≡ not (nat_lt most_nodes (facts_size (with_fact fs name forms.right)))
     → both_fitting fs name forms ≡ (if c && d then Ok (cases_with fs name forms) else Err K8)
 both_if fs name forms c d e f =
-    if_not (nat_lt limit (facts_size (with_fact fs name forms.left)) || nat_lt limit (facts_size (with_fact fs name forms.right))) (c && d) (Err K8) (Ok (cases_with fs name forms))
-    (two_tests (nat_lt limit (facts_size (with_fact fs name forms.left))) (nat_lt limit (facts_size (with_fact fs name forms.right))) c d e f)
+    if_not (nat_lt most_nodes (facts_size (with_fact fs name forms.left)) || nat_lt most_nodes (facts_size (with_fact fs name forms.right))) (c && d) (Err K8) (Ok (cases_with fs name forms))
+    (two_tests (nat_lt most_nodes (facts_size (with_fact fs name forms.left))) (nat_lt most_nodes (facts_size (with_fact fs name forms.right))) c d e f)
 
 -- ---- where a branch begins
 

@@ -17,7 +17,7 @@ use Rattle.sync_terms.specs.declared.nodes.FormId.{FormId}
 use Rattle.sync_terms.specs.declared.scripts.HypName.{HypName}
 use Rattle.sync_terms.specs.declared.store.TermStop.{TermStop}
 use Rattle.sync_terms.specs.declared.store.TermStop.TheVariants.{TooLarge}
-use Rattle.sync_terms.specs.Kept.{limit}
+use Rattle.sync_terms.specs.Trees.{most_nodes}
 use Rattle.sync_terms.specs.Trees.{Tree, Name, Formula, Not, formula_size, replaced_in}
 use Rattle.sync_terms.specs.Stored.{Stored, tree, formula, IsTerm, IsForm}
 use Rattle.sync_terms.specs.Substitution.{term_of, substitution}
@@ -84,7 +84,7 @@ unfolding replaced_in
 literal_by s t f was id true e = ap Not e
 literal_by s t f was id false e = e
 
-size_by : (s : Stored) (f : ℕ → Tree) (was : FormId) (negated : Bool) → limit < formula_size (replaced_in f (formula s was)) → limit < formula_size (replaced_in f (if negated then Not (formula s was) else formula s was))
+size_by : (s : Stored) (f : ℕ → Tree) (was : FormId) (negated : Bool) → most_nodes < formula_size (replaced_in f (formula s was)) → most_nodes < formula_size (replaced_in f (if negated then Not (formula s was) else formula s was))
 unfolding replaced_in formula_size
 size_by s f was true h = omega (arith, h)
 size_by s f was false h = h
@@ -95,11 +95,11 @@ module _ (s t : Stored) (line : ℕ) (x : Said) (ids : List TermId) (wanted : Re
       subst (Makes t line (Ok (record { form = id; negated = x.says.negated }))) (sym is)
       (literal_by s t (by_params (numbers x.params) (map (tree s) ids)) x.says.form id x.says.negated (e ∙ ap (λ (f : ℕ → Tree). replaced_in f (formula s x.says.form)) (pairs_are s x.params ids)), stored)
 
-  pub instance_stops : (stop : TermStop) (e : Stop) → e ≡ large_stop line stop → (stop ≡ TooLarge → limit < formula_size (replaced_in (substitution s (zip x.params ids)) (formula s x.says.form))) → Makes t line (Err e) wanted
+  pub instance_stops : (stop : TermStop) (e : Stop) → e ≡ large_stop line stop → (stop ≡ TooLarge → most_nodes < formula_size (replaced_in (substitution s (zip x.params ids)) (formula s x.says.form))) → Makes t line (Err e) wanted
   instance_stops stop e at h =
       subst (Makes t line (Err e)) (sym is)
       (large_stops t line stop e (instance_form s x ids) at
-      (λ q. size_by s (by_params (numbers x.params) (map (tree s) ids)) x.says.form x.says.negated (subst (λ (f : ℕ → Tree). limit < formula_size (replaced_in f (formula s x.says.form))) (pairs_are s x.params ids) (h q))))
+      (λ q. size_by s (by_params (numbers x.params) (map (tree s) ids)) x.says.form x.says.negated (subst (λ (f : ℕ → Tree). most_nodes < formula_size (replaced_in f (formula s x.says.form))) (pairs_are s x.params ids) (h q))))
 
 -- ---- the newest fact of a name is stored
 

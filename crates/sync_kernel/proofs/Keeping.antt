@@ -13,7 +13,7 @@ use Rattle.sync_kernel.specs.declared.rows.Shape.{Shape}
 use Rattle.sync_kernel.specs.Shapes.{row_shaped}
 use Rattle.sync_kernel.specs.Literals.{literal_form, same_literal}
 use Rattle.sync_kernel.specs.Rows.{Row, row_of}
-use Rattle.sync_kernel.specs.Kept.{IsRowLine, AreLines}
+use Rattle.sync_kernel.specs.SumLines.{IsRowLine, AreLines}
 
 same_sign : (a b : Bool) → beq a b ≡ true → a ≡ b
 same_sign true true e = refl

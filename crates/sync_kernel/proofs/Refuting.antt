@@ -9,14 +9,14 @@ use Rattle.sync_base.specs.declared.stops.Rule.{Rule}
 use Rattle.sync_base.specs.declared.stops.Rule.TheVariants.{K2, K3, K8}
 use Rattle.sync_base.specs.declared.stops.Stop.{Stop}
 use Rattle.sync_terms.specs.declared.scripts.HypName.{HypName}
-use Rattle.sync_terms.specs.Kept.{limit}
+use Rattle.sync_terms.specs.Trees.{most_nodes}
 use Rattle.sync_terms.specs.Trees.{Tree, Formula, neg, replaced_in}
-use Rattle.sync_terms.specs.Values.{Valuation, truth, Holds, HoldsForAll, Given, IsValid}
+use Rattle.sync_terms.specs.Values.{Valuation, truth, Holds, HoldsForAll, Hypothesis, IsValid}
 use Rattle.sync_terms.specs.Plans.{Plan, End, Same, Sum, Inst, Parts, Split, Cut, Read, Size, Total, Cong}
 use Rattle.sync_terms.proofs.Meaning.{truth-neg}
 use Rattle.sync_kernel_facts.specs.Lemmas.{cong_fact, read_fact, size_fact, total_fact}
 use Rattle.sync_kernel_facts.specs.Laws.{AreTrue}
-use Rattle.sync_kernel.specs.Facts.{Fact, same_name, newest, denial, given, facts_size}
+use Rattle.sync_kernel.specs.Facts.{Fact, same_name, newest, denial, as_hypothesis, facts_size}
 use Rattle.sync_kernel.specs.Steps.{at_line, no_params, is_plain, same_fault, sum_fault}
 use Rattle.sync_kernel.specs.Taking.{Two, parts_of, cases_of, plain_fact, taken, by_params, instance}
 use Rattle.sync_kernel.specs.Scripts.{with_fact, fitting, with_instance, with_parts, Cases, cases_with, both_fitting, with_cases, with_cut, after, going, block_fault, script_fault}
@@ -78,14 +78,14 @@ fitted true fs known e = absurd (cc)
 fitted false fs known e = cc
 
 fitting_is : (fs known : List Fact) → fitting fs ≡ Ok known → fs ≡ known
-fitting_is fs known e = fitted (nat_lt limit (facts_size fs)) fs known e
+fitting_is fs known e = fitted (nat_lt most_nodes (facts_size fs)) fs known e
 
 cases_fitted : (b : Bool) (x y : Cases) → ◌≡◌ {A = Result Cases Rule} (if b then Err K8 else Ok x) (Ok y) → x ≡ y
 cases_fitted true x y e = absurd (cc)
 cases_fitted false x y e = cc
 
 both_are : (fs : List Fact) (name : ℕ) (forms : Two) (y : Cases) → both_fitting fs name forms ≡ Ok y → cases_with fs name forms ≡ y
-both_are fs name forms y e = cases_fitted (nat_lt limit (facts_size (with_fact fs name forms.left)) || nat_lt limit (facts_size (with_fact fs name forms.right))) (cases_with fs name forms) y e
+both_are fs name forms y e = cases_fitted (nat_lt most_nodes (facts_size (with_fact fs name forms.left)) || nat_lt most_nodes (facts_size (with_fact fs name forms.right))) (cases_with fs name forms) y e
 
 plain_if : (f g : Fact) (b : Bool) → ◌≡◌ {A = Result Fact Rule} (if b then Ok f else Err K2) (Ok g) → (b ≡ true) × (f ≡ g)
 plain_if f g true e = (refl, (cc))
@@ -191,17 +191,17 @@ module _ (laws : AreTrue) (v : Valuation) where
   block_refutes (Total line m k name rest) fs h e = lemma_refutes line name fs (total_fact m k) rest h (laws.total v m k) (block_refutes rest) e
   block_refutes (Cong line m j k name rest) fs h e = lemma_refutes line name fs (cong_fact m j k) rest h (laws.cong v m j k) (block_refutes rest) e
 
-  start_hold : (hyps : List Fact) (claim : Formula) → AllByRecursion (λ (h : Given). HoldsForAll h.params v h.form) (map given hyps) → Holds v (neg claim) → FactsHold v (hyps ++ denial claim ∷ [])
+  start_hold : (hyps : List Fact) (claim : Formula) → AllByRecursion (λ (h : Hypothesis). HoldsForAll h.params v h.form) (map as_hypothesis hyps) → Holds v (neg claim) → FactsHold v (hyps ++ denial claim ∷ [])
   start_hold [] claim h d = (d, tt)
   start_hold (f ∷ fs) claim h d = (h.0, start_hold fs claim h.1 d)
 
 -- a script that breaks no rule proves its sequent
-pub script_valid : AreTrue → (hyps : List Fact) (claim : Formula) (plan : Plan) → script_fault hyps claim plan ≡ None → IsValid (map given hyps) claim
+pub script_valid : AreTrue → (hyps : List Fact) (claim : Formula) (plan : Plan) → script_fault hyps claim plan ≡ None → IsValid (map as_hypothesis hyps) claim
 script_valid laws hyps claim plan e = λ v h. elim (cases_Bool (truth v claim)) [
   | inl t ↦ t
   | inr f ↦ absurd (block_refutes laws v plan (hyps ++ denial claim ∷ []) (start_hold laws v hyps claim h (truth-neg v claim ∙ ap not f)) e)
 ]
 
-pub passed_valid : AreTrue → (hyps : List Fact) (claim : Formula) (plan : Plan) (r : Result (Unit {0}) Stop) → Passes r (script_fault hyps claim plan) → OnOk r (IsValid (map given hyps) claim)
+pub passed_valid : AreTrue → (hyps : List Fact) (claim : Formula) (plan : Plan) (r : Result (Unit {0}) Stop) → Passes r (script_fault hyps claim plan) → OnOk r (IsValid (map as_hypothesis hyps) claim)
 passed_valid laws hyps claim plan (Ok x) h = script_valid laws hyps claim plan h
 passed_valid laws hyps claim plan (Err x) h = tt

@@ -13,7 +13,7 @@ use Rattle.sync_kernel.specs.Taking.{Two, parts_of, parts_of_not, cases_of, case
 use Rattle.sync_kernel.specs.declared.splits.Pair.{Pair}
 use Rattle.sync_terms.specs.declared.store.TermStop.{TermStop}
 use Rattle.sync_terms.specs.declared.store.TermStop.TheVariants.{TooLarge, Memory}
-use Rattle.sync_terms.specs.Kept.{limit}
+use Rattle.sync_terms.specs.Trees.{most_nodes}
 use Rattle.std.specs.Prelude.{◌<◌}
 
 -- what holds of the formula of a node holds of the formula that has this node
@@ -154,13 +154,13 @@ module _ (s t : Stored) (a b : TermId) (n : FormNode) (e : n ≡ form.Eq a b) wh
   unfolding form_shape tree
   orders_taken p f h = subst (λ (x : FormNode). TakesApart t (Ok (Some p)) (cases_of_not (form_shape s x))) (sym e) (f, h)
 
-  pub orders_stop : (stop : TermStop) → (stop ≡ TooLarge → limit < formula_size (Lt (tree s a) (tree s b))) → TakesApart t (Err stop) (cases_of_not (form_shape s n))
+  pub orders_stop : (stop : TermStop) → (stop ≡ TooLarge → most_nodes < formula_size (Lt (tree s a) (tree s b))) → TakesApart t (Err stop) (cases_of_not (form_shape s n))
   unfolding form_shape tree
   orders_stop TooLarge f = subst (λ (x : FormNode). TakesApart t (Err TooLarge) (cases_of_not (form_shape s x))) (sym e) (f refl)
   orders_stop Memory f = subst (λ (x : FormNode). TakesApart t (Err Memory) (cases_of_not (form_shape s x))) (sym e) tt
 
 -- one order of two terms, and the other
-swapped_size : (x y : Tree) → limit < formula_size (Lt x y) → limit < formula_size (Lt y x)
+swapped_size : (x y : Tree) → most_nodes < formula_size (Lt x y) → most_nodes < formula_size (Lt y x)
 unfolding formula_size
 swapped_size x y h = omega (arith, h)
 
@@ -172,8 +172,8 @@ module _ (s t : Stored) (a b : TermId) (more : Extends s t) (p : IsTerm s a) (q 
   lt_more : form_shape t (form.Lt b a) ≡ Lt (tree s b) (tree s a)
   lt_more = lt_shape t b a ∙ ap (λ (x : Tree). Lt x (tree t a)) (more.terms b q).1 ∙ ap (Lt (tree s b)) (more.terms a p).1
 
-  pub orders_above : limit < formula_size (form_shape t (form.Lt b a)) → limit < formula_size (Lt (tree s a) (tree s b))
-  orders_above h = swapped_size (tree s b) (tree s a) (subst (λ (f : Formula). limit < formula_size f) lt_more h)
+  pub orders_above : most_nodes < formula_size (form_shape t (form.Lt b a)) → most_nodes < formula_size (Lt (tree s a) (tree s b))
+  orders_above h = swapped_size (tree s b) (tree s a) (subst (λ (f : Formula). most_nodes < formula_size f) lt_more h)
 
   pub orders_forms : (u : Stored) (below above : FormId) (l r : Literal) → Extends t u → IsForm t below → formula t below ≡ form_shape s (form.Lt a b) → formula u above ≡ form_shape t (form.Lt b a)
       → l ≡ record { form = below; negated = false } → r ≡ record { form = above; negated = false }
@@ -183,5 +183,5 @@ module _ (s t : Stored) (a b : TermId) (more : Extends s t) (p : IsTerm s a) (q 
       let two = plain_says u r above h ∙ f ∙ lt_more in
       ap (λ (x : Formula). record { left = x; right = literal_form u r }) one ∙ ap (λ (x : Formula). record { left = Lt (tree s a) (tree s b); right = x }) two
 
-pub orders_below : (s : Stored) (a b : TermId) → limit < formula_size (form_shape s (form.Lt a b)) → limit < formula_size (Lt (tree s a) (tree s b))
-orders_below s a b h = subst (λ (f : Formula). limit < formula_size f) (lt_shape s a b) h
+pub orders_below : (s : Stored) (a b : TermId) → most_nodes < formula_size (form_shape s (form.Lt a b)) → most_nodes < formula_size (Lt (tree s a) (tree s b))
+orders_below s a b h = subst (λ (f : Formula). most_nodes < formula_size f) (lt_shape s a b) h

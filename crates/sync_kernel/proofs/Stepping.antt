@@ -11,7 +11,7 @@ use Rattle.sync_terms.specs.declared.scripts.HypName.{HypName}
 use Rattle.sync_terms.specs.declared.store.TermStop.{TermStop}
 use Rattle.sync_terms.specs.declared.store.TermStop.TheVariants.{TooLarge}
 use Rattle.sync_terms.specs.declared.store.TermStop.TheVariants as term
-use Rattle.sync_terms.specs.Kept.{limit}
+use Rattle.sync_terms.specs.Trees.{most_nodes}
 use Rattle.sync_terms.specs.Trees.{Formula, formula_size}
 use Rattle.sync_terms.specs.Stored.{Stored}
 use Rattle.sync_kernel.specs.declared.literals.Literal.{Literal}
@@ -69,7 +69,7 @@ pub made_literal : (s : Stored) (line : ℕ) (l : Literal) (wanted : Result Form
 made_literal s line l (Ok f) h = h.1
 made_literal s line l (Err r) h = absurd h
 
-pub large_stops : (s : Stored) (line : ℕ) (stop : TermStop) (e : Stop) (f : Formula) → e ≡ large_stop line stop → (stop ≡ TooLarge → limit < formula_size f) → Makes s line (Err e) (Ok f)
+pub large_stops : (s : Stored) (line : ℕ) (stop : TermStop) (e : Stop) (f : Formula) → e ≡ large_stop line stop → (stop ≡ TooLarge → most_nodes < formula_size f) → Makes s line (Err e) (Ok f)
 large_stops s line term.TooLarge e f is h = subst (λ (x : Stop). Makes s line (Err x) (Ok f)) (sym is) (refl, h refl)
 large_stops s line term.Memory e f is h = subst (λ (x : Stop). Makes s line (Err x) (Ok f)) (sym is) tt
 

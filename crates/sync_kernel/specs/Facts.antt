@@ -6,7 +6,7 @@ use Rattle.sync_terms.specs.declared.nodes.FormId.{FormId}
 use Rattle.sync_terms.specs.declared.scripts.HypName.{HypName}
 use Rattle.sync_terms.specs.declared.scripts.HypName.TheVariants.{Label, Denied, At, Low, High}
 use Rattle.sync_terms.specs.Trees.{Formula, neg, formula_size}
-use Rattle.sync_terms.specs.Values.{Given}
+use Rattle.sync_terms.specs.Values.{Hypothesis}
 use Rattle.sync_terms.specs.Stored.{Stored, formula}
 use Rattle.sync_kernel.specs.declared.sequents.Hyp.{Hyp}
 
@@ -38,8 +38,8 @@ denial claim = record { name = Denied; params = []; form = neg claim }
 abbrev pub denied : Stored → FormId → Fact
 denied s claim = denial (formula s claim)
 
-abbrev pub given : Fact → Given
-given f = record { params = f.params; form = f.form }
+abbrev pub as_hypothesis : Fact → Hypothesis
+as_hypothesis f = record { params = f.params; form = f.form }
 
 -- a fact that a step gives a name
 abbrev pub named : ℕ → Formula → Fact

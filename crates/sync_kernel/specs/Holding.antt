@@ -10,7 +10,7 @@ use Rattle.sync_terms.specs.declared.scripts.HypName.{HypName}
 use Rattle.sync_terms.specs.contracts.scripts.HypNamePartialEq.TheImpl.{eq-value}
 use Rattle.sync_terms.specs.declared.store.TermStop.{TermStop}
 use Rattle.sync_terms.specs.declared.store.TermStop.TheVariants as term
-use Rattle.sync_terms.specs.Kept.{limit}
+use Rattle.sync_terms.specs.Trees.{most_nodes}
 use Rattle.sync_terms.specs.Trees.{Formula, formula_size}
 use Rattle.sync_terms.specs.Stored.{Stored, IsForm}
 use Rattle.sync_linear.specs.declared.stops.LinearStop.{LinearStop}
@@ -23,7 +23,11 @@ use Rattle.sync_kernel.specs.declared.steps.Left.TheVariants.{Open, Closed}
 use Rattle.sync_kernel.specs.declared.sequents.Hyp.{Hyp}
 use Rattle.sync_kernel.specs.declared.sums.Summed.{Summed}
 use Rattle.sync_kernel.specs.Facts.{Fact}
-use Rattle.sync_kernel.specs.Literals.{literal_form, IsLiteral}
+use Rattle.sync_kernel.specs.declared.branches.Said.{Said}
+use Rattle.sync_kernel.specs.declared.splits.Pair.{Pair}
+use Rattle.sync_kernel.specs.Branches.{facts_in}
+use Rattle.sync_kernel.specs.Scripts.{Cases, cases_with}
+use Rattle.sync_kernel.specs.Literals.{literal_form, IsLiteral, pair_forms}
 use Rattle.sync_kernel.specs.Steps.{is_plain, Next}
 
 -- whether two names are the same, as the program's `==` tells
@@ -69,6 +73,14 @@ Leaves line (Ok a) P (Ok x) = P a x
 Leaves line (Ok a) P (Err r) = ⊥
 Leaves line (Err e) P wanted = StopsFor line e wanted
 
+-- the branch has the facts that are wanted
+abbrev pub LeavesFacts : {A : Type 0} → ℕ → Result A Stop → Stored → List Said → Result (List Fact) Rule → Type 0
+LeavesFacts line answer s branch wanted = Leaves line answer (λ _ known. facts_in s branch ≡ known) wanted
+
+-- the two formulas make the branches that are wanted of one with these facts
+abbrev pub LeavesCases : ℕ → Result Pair Stop → Stored → List Fact → ℕ → Result Cases Rule → Type 0
+LeavesCases line answer s facts name wanted = Leaves line answer (λ p cases. cases ≡ cases_with facts name (pair_forms s p)) wanted
+
 -- a stop is for want of memory, or it is the refusal that is wanted
 abbrev pub Refuses : Stop → Option Refusal → Type 0
 Refuses Memory fault = Unit {0}
@@ -79,7 +91,7 @@ abbrev pub Makes : Stored → ℕ → Result Literal Stop → Result Formula Rul
 Makes s line (Ok l) (Ok f) = (literal_form s l ≡ f) × IsLiteral s l
 Makes s line (Ok l) (Err r) = ⊥
 Makes s line (Err Memory) wanted = Unit {0}
-Makes s line (Err (Refused x)) (Ok f) = (x ≡ record { line = line; rule = K8 }) × (limit < formula_size f)
+Makes s line (Err (Refused x)) (Ok f) = (x ≡ record { line = line; rule = K8 }) × (most_nodes < formula_size f)
 Makes s line (Err (Refused x)) (Err r) = x ≡ record { line = line; rule = r }
 
 -- unless memory was wanting: what a step and the rest of its block break is what the rest breaks in the branch that the step leaves open, what may not stand behind a step that closes the branch, or the refusal

@@ -10,7 +10,8 @@ pub mod Knowing
 pub mod Holding
 pub mod Stacks
 pub mod Opposed
-pub mod Kept
+pub mod SumLines
 pub mod Trails
 pub mod Seen
 pub mod Hypotheses
+pub mod MapFacts

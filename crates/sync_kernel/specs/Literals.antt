@@ -3,7 +3,7 @@ use Rattle.std.specs.Prelude.{◌≡◌, ◌<◌, Bool, true, false, ◌&&◌, n
 use Rattle.std.specs.Bool.{beq}
 use Rattle.sync_terms.specs.declared.store.TermStop.{TermStop}
 use Rattle.sync_terms.specs.declared.store.TermStop.TheVariants.{TooLarge, Memory}
-use Rattle.sync_terms.specs.Kept.{limit}
+use Rattle.sync_terms.specs.Trees.{most_nodes}
 use Rattle.sync_terms.specs.Trees.{Formula, Le, Lt, Eq, Not, And, Or, Imp, formula_size}
 use Rattle.sync_terms.specs.Stored.{Stored, formula, IsForm}
 use Rattle.sync_kernel.specs.declared.literals.Literal.{Literal}
@@ -45,6 +45,6 @@ TakesApart s (Ok (Some p)) (Some two) = (pair_forms s p ≡ two) × IsPair s p
 TakesApart s (Ok (Some p)) None = ⊥
 TakesApart s (Ok None) (Some two) = ⊥
 TakesApart s (Ok None) None = Unit {0}
-TakesApart s (Err TooLarge) (Some two) = limit < formula_size two.left
+TakesApart s (Err TooLarge) (Some two) = most_nodes < formula_size two.left
 TakesApart s (Err TooLarge) None = ⊥
 TakesApart s (Err Memory) wanted = Unit {0}

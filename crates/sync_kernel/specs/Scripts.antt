@@ -6,7 +6,7 @@ use Rattle.sync_base.specs.declared.stops.Rule.{Rule}
 use Rattle.sync_base.specs.declared.stops.Rule.TheVariants.{K8, K9}
 use Rattle.sync_terms.specs.declared.scripts.HypName.{HypName}
 use Rattle.sync_terms.specs.declared.scripts.ScriptStep.{ScriptStep, fold-ScriptStep}
-use Rattle.sync_terms.specs.Kept.{limit}
+use Rattle.sync_terms.specs.Trees.{most_nodes}
 use Rattle.sync_terms.specs.Trees.{Tree, Formula, neg}
 use Rattle.sync_terms.specs.Stored.{Stored, Extends}
 use Rattle.sync_terms.specs.Plans.{Plan, End, Same, Sum, Inst, Parts, Split, Cut, Read, Size, Total, Cong, Then, kind_plan, block_plan, step_plan}
@@ -29,7 +29,7 @@ with_fact facts name form = facts ++ named name form ∷ []
 
 -- facts that are no more than so many nodes
 abbrev pub fitting : List Fact → Result (List Fact) Rule
-fitting facts = if nat_lt limit (facts_size facts) then Err K8 else Ok facts
+fitting facts = if nat_lt most_nodes (facts_size facts) then Err K8 else Ok facts
 
 -- `inst`
 abbrev pub with_instance : List Fact → HypName → List Tree → ℕ → Result (List Fact) Rule
@@ -54,7 +54,7 @@ cases_with facts name forms = record { left = with_fact facts name forms.left; r
 
 abbrev pub both_fitting : List Fact → ℕ → Two → Result Cases Rule
 both_fitting facts name forms =
-    if nat_lt limit (facts_size (with_fact facts name forms.left)) || nat_lt limit (facts_size (with_fact facts name forms.right)) then Err K8 else Ok (cases_with facts name forms)
+    if nat_lt most_nodes (facts_size (with_fact facts name forms.left)) || nat_lt most_nodes (facts_size (with_fact facts name forms.right)) then Err K8 else Ok (cases_with facts name forms)
 
 -- `split`: a branch for each case
 abbrev pub with_cases : List Fact → HypName → ℕ → Result Cases Rule

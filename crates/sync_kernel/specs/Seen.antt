@@ -1,13 +1,13 @@
 -- What `same` keeps of the facts that it looked at.
-use Rattle.std.specs.Prelude.{◌≡◌, ℕ, ◌-◌, ◌≤◌, Bool, false, List, map, length, take, Option, Some, None, if◌then◌else◌}
+use Rattle.std.specs.Prelude.{◌≡◌, ℕ, ◌-◌, ◌≤◌, Bool, false, ◌||◌, List, map, length, take, Option, Some, None, if◌then◌else◌}
 use Rattle.std.specs.List.{list_any, AllZip}
 use Rattle.sync_terms.specs.Trees.{Formula, Le, Lt, Eq, Not, And, Or, Imp}
-use Rattle.sync_terms.specs.Stored.{Stored}
+use Rattle.sync_terms.specs.Stored.{Stored, IsShared}
 use Rattle.sync_kernel.specs.declared.literals.Literal.{Literal}
 use Rattle.sync_kernel.specs.declared.seen.Seen.{Seen}
 use Rattle.sync_kernel.specs.Facts.{Fact}
 use Rattle.sync_kernel.specs.Literals.{literal_form, IsLiteral, IsBare}
-use Rattle.sync_kernel.specs.Opposed.{closes_same}
+use Rattle.sync_kernel.specs.Opposed.{closes_same, is_undone, is_fact}
 use Rattle.sync_kernel.specs.Steps.{is_plain}
 
 -- what a formula denies: `!F` denies F
@@ -44,6 +44,13 @@ pub record HasSeen (s : Stored) (facts : List Fact) (seen : Seen) : Type 0 where
   pub denied : AllZip (IsEntry s) seen.denied (map denies facts)
   pub before : is_closed (take (length facts - 1) facts) ≡ false
   pub closed : seen.closed ≡ is_closed facts
+
+-- whether a fact that was looked at denies what is said, or is denied by it
+abbrev pub TellsOpposed : Seen → Literal → Option Literal → Bool → Type 0
+TellsOpposed seen says denies answer =
+    (s : Stored) (facts : List Fact) → IsShared s → HasSeen s facts seen → IsLiteral s says → IsBare s says
+    → IsEntry s denies (denied_by (literal_form s says))
+    → answer ≡ (is_undone facts (literal_form s says) || is_fact facts (Not (literal_form s says)))
 
 -- how many facts were looked at
 abbrev pub seen_count : Seen → ℕ

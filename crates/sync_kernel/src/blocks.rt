@@ -11,9 +11,10 @@ ghost use Rattle.sync_kernel.specs.Seen.{IsSeen};
 
 use crate::branches::Branch;
 use crate::literals::Literal;
+use crate::map_facts::{MapFact, learn};
 use crate::sames::same;
 use crate::seen::Seen;
-use crate::steps::{Left, cong, cut, inst, parts, read, said, size, split, total};
+use crate::steps::{Left, cut, inst, parts, said, split};
 use crate::stops::refusal;
 use crate::sums::sum;
 use std::alloc::Global;
@@ -124,16 +125,17 @@ fn check_step(
             branch.push(said(alloc, terms, *name, cases.right))?;
         }
         StepKind::Read(map, key, name) => {
-            read(alloc, terms, branch, *map, *key, *name, line)?;
+            learn(alloc, terms, branch, MapFact::Read(*map, *key), *name, line)?;
         }
         StepKind::Size(map, key, name) => {
-            size(alloc, terms, branch, *map, *key, *name, line)?;
+            learn(alloc, terms, branch, MapFact::Size(*map, *key), *name, line)?;
         }
         StepKind::Total(map, key, name) => {
-            total(alloc, terms, branch, *map, *key, *name, line)?;
+            learn(alloc, terms, branch, MapFact::Total(*map, *key), *name, line)?;
         }
         StepKind::Cong(map, left, right, name) => {
-            cong(alloc, terms, branch, *map, *left, *right, *name, line)?;
+            let fact = MapFact::Cong(*map, *left, *right);
+            learn(alloc, terms, branch, fact, *name, line)?;
         }
     }
     Ok(Left::Open)

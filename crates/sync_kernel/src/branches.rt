@@ -1,6 +1,6 @@
 //! The facts of a branch, by their names.
 ghost use Rattle.std.specs.Prelude.{◌≡◌, ◌≤◌, ◌+◌, ◌-◌, ◌++◌, ◌∷◌, [], map, not, nat_lt, length, take, OnOk, OnErr, option_map};
-ghost use Rattle.sync_terms.specs.Kept.{limit};
+ghost use Rattle.sync_terms.specs.Trees.{most_nodes};
 ghost use Rattle.sync_terms.specs.Stored.{Stored};
 
 use crate::literals::Literal;
@@ -8,10 +8,7 @@ use sqlite_items::Items;
 use std::alloc::{AllocError, Global};
 use std::collections::HashMap;
 use std::marker::Model;
-use sync_terms::{HypName, Sym, Terms};
-
-/// The most nodes of the facts of a branch.
-const LIMIT: u64 = 1_000_000;
+use sync_terms::{HypName, MOST_NODES, Sym, Terms};
 
 /// A fact: its name, its parameters, what it says, and the nodes of that.
 #[derive(Debug, Drop)]
@@ -133,9 +130,9 @@ impl Branch {
 
     /// Whether facts with so many nodes more are within the limit.
     pub(crate) fn fits(&self, more: u64) -> bool
-        ensures { result ≡ not (nat_lt limit (said_size self.now + more)) }
+        ensures { result ≡ not (nat_lt most_nodes (said_size self.now + more)) }
     {
-        self.size().saturating_add(more) <= LIMIT
+        self.size().saturating_add(more) <= MOST_NODES
     }
 
     /// The newest fact of a name.

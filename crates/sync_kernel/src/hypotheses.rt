@@ -1,6 +1,6 @@
 //! Hypotheses that are ready for the proofs of many claims.
 ghost use Rattle.std.specs.Prelude.{◌≡◌, ◌+◌, ◌++◌, ◌∷◌, [], not, nat_lt, OnOk, OnErr};
-ghost use Rattle.sync_terms.specs.Kept.{limit};
+ghost use Rattle.sync_terms.specs.Trees.{most_nodes};
 ghost use Rattle.sync_terms.specs.Stored.{Stored, IsForm};
 ghost use Rattle.sync_kernel.specs.Facts.{fact_of, facts_size};
 
@@ -46,9 +46,9 @@ impl Hypotheses {
         Ok(())
     }
 
-    /// Whether their formulas have at most 1,000,000 nodes together with so many more.
+    /// Whether their formulas have at most `MOST_NODES` nodes together with so many more.
     pub fn fit(&self, more: u64) -> bool
-        ensures { (s : Stored) → AreReady s self.now → result ≡ not (nat_lt limit (facts_size (known_in s self.now) + more)) }
+        ensures { (s : Stored) → AreReady s self.now → result ≡ not (nat_lt most_nodes (facts_size (known_in s self.now) + more)) }
     {
         self.branch.fits(more)
     }

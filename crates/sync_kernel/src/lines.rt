@@ -6,7 +6,7 @@ ghost use Rattle.sync_linear.specs.Forms.{Narrow};
 ghost use Rattle.sync_kernel.specs.Literals.{literal_form, same_literal};
 ghost use Rattle.sync_kernel.specs.Rows.{row_of};
 ghost use Rattle.sync_kernel.specs.Shapes.{shaped, row_shaped};
-ghost use Rattle.sync_kernel.specs.Kept.{AreLines};
+ghost use Rattle.sync_kernel.specs.SumLines.{AreLines};
 
 use crate::literals::Literal;
 use crate::rows::Shape;

@@ -4,7 +4,7 @@ ghost use Rattle.sync_base.specs.Outcome.{Passes};
 ghost use Rattle.sync_terms.specs.Stored.{Extends, IsForm, formula};
 ghost use Rattle.sync_terms.specs.Plans.{plan_of, IsScriptOf};
 ghost use Rattle.sync_terms.specs.Values.{IsValid};
-ghost use Rattle.sync_kernel.specs.Facts.{fact_of, given};
+ghost use Rattle.sync_kernel.specs.Facts.{fact_of, as_hypothesis};
 ghost use Rattle.sync_kernel.specs.Holding.{AreForms};
 ghost use Rattle.sync_kernel.specs.Hypotheses.{AreReady, known_in};
 ghost use Rattle.sync_kernel.specs.Scripts.{script_fault};
@@ -45,7 +45,7 @@ fn hypotheses_of(alloc: Global, terms: &Terms, hyps: &[Hyp]) -> Result<Hypothese
 ///
 /// The refusal is the first broken rule, at its line. A step is refused with K1 where no fact has its name, K2 where the fact
 /// has another shape or parameters, K3 for another number of terms, K4 where `same` finds no contradiction, K5 to K7
-/// where the parts of a `sum` make none, and K8 where its terms, or the facts of a branch, have more than 1,000,000
+/// where the parts of a `sum` make none, and K8 where its terms, or the facts of a branch, have more than `MOST_NODES`
 /// nodes. K9 is for a block that does not end in `same`, `sum` or `split`, at its end, or that goes on behind one, at
 /// the next step. The store keeps its trees. The hypotheses stay as they are, for the next claim; behind an error they may
 /// have gained facts, so nothing is to be proved from them any more.
@@ -59,7 +59,7 @@ pub fn prove_from(
     requires ready { AreReady terms.old hyps.old }
     requires claim { IsForm terms.old claim }
     requires script { IsScriptOf terms.old s.now.block }
-    ensures valid { OnOk result (IsValid (map given (known_in terms.old hyps.old)) (formula terms.old claim)) }
+    ensures valid { OnOk result (IsValid (map as_hypothesis (known_in terms.old hyps.old)) (formula terms.old claim)) }
     ensures exact { Passes result (script_fault (known_in terms.old hyps.old) (formula terms.old claim) (plan_of terms.old s.now.block)) }
     ensures ready { OnOk result (AreReady terms.new hyps.new) }
     ensures hyps { OnOk result (known_in terms.new hyps.new ≡ known_in terms.old hyps.old) }
@@ -79,7 +79,7 @@ pub fn prove(alloc: Global, terms: &mut Terms, q: &Sequent, s: &Script) -> Resul
     requires hyps { AreForms terms.old q.now.hyps }
     requires claim { IsForm terms.old q.now.claim }
     requires script { IsScriptOf terms.old s.now.block }
-    ensures valid { OnOk result (IsValid (map (λ h. given (fact_of terms.old h)) q.now.hyps) (formula terms.old q.now.claim)) }
+    ensures valid { OnOk result (IsValid (map (λ h. as_hypothesis (fact_of terms.old h)) q.now.hyps) (formula terms.old q.now.claim)) }
     ensures exact { Passes result (script_fault (map (fact_of terms.old) q.now.hyps) (formula terms.old q.now.claim) (plan_of terms.old s.now.block)) }
     ensures keeps { Extends terms.old terms.new }
 {

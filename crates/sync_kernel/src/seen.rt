@@ -1,11 +1,8 @@
 //! What the step `same` keeps of the facts that it looked at.
-ghost use Rattle.std.specs.Prelude.{◌≡◌, ◌||◌, ◌++◌, ◌∷◌, [], List, take, OnOk};
-ghost use Rattle.sync_terms.specs.Stored.{Stored, IsShared};
-ghost use Rattle.sync_terms.specs.Trees.{Not};
+ghost use Rattle.std.specs.Prelude.{◌≡◌, ◌++◌, ◌∷◌, [], List, take, OnOk};
+ghost use Rattle.sync_terms.specs.Stored.{Stored};
 ghost use Rattle.sync_kernel.specs.Facts.{Fact};
-ghost use Rattle.sync_kernel.specs.Literals.{literal_form, IsLiteral, IsBare};
-ghost use Rattle.sync_kernel.specs.Opposed.{is_fact, is_undone};
-ghost use Rattle.sync_kernel.specs.Seen.{HasSeen, IsSeen, IsEntry, denied_by, seen_count};
+ghost use Rattle.sync_kernel.specs.Seen.{IsSeen, TellsOpposed, seen_count};
 
 use crate::literals::Literal;
 use crate::trails::Trail;
@@ -41,7 +38,7 @@ impl Seen {
 
     /// Whether a fact that was looked at is the negation of what is said, or what is said is that of such a fact.
     pub(crate) fn opposes(&self, says: Literal, denies: Option<Literal>) -> bool
-        ensures { (s : Stored) (facts : List Fact) → IsShared s → HasSeen s facts self.now → IsLiteral s says → IsBare s says → IsEntry s denies (denied_by (literal_form s says)) → result ≡ (is_undone facts (literal_form s says) || is_fact facts (Not (literal_form s says))) }
+        ensures { TellsOpposed self.now says denies result }
     {
         if let Some(denied) = denies {
             if self.said.has(denied) {

@@ -1,7 +1,7 @@
 //! What `parts` and `split` take a formula apart into.
 ghost use Rattle.std.specs.Prelude.{◌≡◌, ◌<◌, IfOk, IfSome, Err, option_map};
 ghost use Rattle.sync_terms.specs.declared.store.TermStop.TheVariants.{TooLarge};
-ghost use Rattle.sync_terms.specs.Kept.{limit};
+ghost use Rattle.sync_terms.specs.Trees.{most_nodes};
 ghost use Rattle.sync_terms.specs.Stored.{Extends, IsTerm, IsForm, HasParts, form_shape, tree};
 ghost use Rattle.sync_terms.specs.Trees.{Lt, formula_size};
 ghost use Rattle.sync_kernel.specs.Literals.{literal_form, IsLiteral, pair_forms, IsPair, TakesApart};
@@ -70,7 +70,7 @@ fn orders(terms: &mut Terms, left: TermId, right: TermId) -> Result<Pair, TermSt
     requires right { IsTerm terms.old right }
     ensures forms { IfOk result (λ p. pair_forms terms.new p ≡ record { left = Lt (tree terms.old left) (tree terms.old right); right = Lt (tree terms.old right) (tree terms.old left) }) }
     ensures stored { IfOk result (IsPair terms.new) }
-    ensures too_large { result ≡ Err TooLarge → limit < formula_size (Lt (tree terms.old left) (tree terms.old right)) }
+    ensures too_large { result ≡ Err TooLarge → most_nodes < formula_size (Lt (tree terms.old left) (tree terms.old right)) }
     ensures keeps { Extends terms.old terms.new }
 {
     let below = terms.add_form(FormNode::Lt(left, right))?;

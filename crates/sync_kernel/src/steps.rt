@@ -2,14 +2,13 @@
 ghost use Rattle.std.specs.Prelude.{◌≡◌, ℕ, All, Ok, OnOk, IfOk, map, length, zip};
 ghost use Rattle.sync_terms.specs.Stored.{Stored, Extends, IsTerm, IsForm, tree, formula};
 ghost use Rattle.sync_terms.specs.Trees.{Formula};
-ghost use Rattle.sync_kernel_facts.specs.Building.{BuildsForm};
-ghost use Rattle.sync_kernel_facts.specs.Lemmas.{cong_fact as cong_form, read_fact as read_form, size_fact as size_form, total_fact as total_form};
+ghost use Rattle.sync_terms.specs.Building.{BuildsForm};
 ghost use Rattle.sync_kernel.specs.Facts.{newest, named};
 ghost use Rattle.sync_kernel.specs.Literals.{literal_form, IsLiteral, pair_forms, IsPair};
 ghost use Rattle.sync_kernel.specs.Branches.{facts_in, said_fact, IsSaid, AreSaid, Begins};
 ghost use Rattle.sync_kernel.specs.Taking.{plain_fact, instance};
-ghost use Rattle.sync_kernel.specs.Scripts.{cases_with, fitting, both_fitting, with_fact, with_instance, with_parts, with_cases, with_cut};
-ghost use Rattle.sync_kernel.specs.Holding.{Leaves, Makes};
+ghost use Rattle.sync_kernel.specs.Scripts.{fitting, both_fitting, with_fact, with_instance, with_parts, with_cases, with_cut};
+ghost use Rattle.sync_kernel.specs.Holding.{Leaves, LeavesFacts, LeavesCases, Makes};
 
 use crate::branches::{Branch, Said};
 use crate::literals::Literal;
@@ -18,7 +17,6 @@ use crate::stops::{refusal, too_large};
 use sqlite_items::Items;
 use std::alloc::{AllocError, Global};
 use sync_base::{Rule, Stop};
-use sync_kernel_facts::{cong_fact, read_fact, size_fact, total_fact};
 use sync_terms::{FormId, HypName, Sym, TermId, TermStop, Terms};
 
 /// Whether a step leaves its branch open, or has closed it.
@@ -48,7 +46,7 @@ fn add(
 ) -> Result<(), Stop>
     requires branch { AreSaid terms.now branch.old }
     requires says { IsLiteral terms.now says }
-    ensures leaves { Leaves line result (λ _ known. facts_in terms.now branch.new ≡ known) (fitting (with_fact (facts_in terms.now branch.old) name (literal_form terms.now says))) }
+    ensures leaves { LeavesFacts line result terms.now branch.new (fitting (with_fact (facts_in terms.now branch.old) name (literal_form terms.now says))) }
     ensures said { OnOk result (AreSaid terms.now branch.new) }
     ensures begins { OnOk result (Begins branch.old branch.new) }
 {
@@ -61,7 +59,7 @@ fn add(
 }
 
 /// Adds a formula that was built; K8 where it, or the facts of the branch with it, are too large.
-fn add_built(
+pub(crate) fn add_built(
     alloc: Global,
     terms: &Terms,
     branch: &mut Branch,
@@ -71,7 +69,7 @@ fn add_built(
 ) -> Result<(), Stop>
     requires branch { AreSaid terms.now branch.old }
     requires form { IfOk form (IsForm terms.now) }
-    ensures leaves { (f : Formula) → BuildsForm terms.now f form → Leaves line result (λ _ known. facts_in terms.now branch.new ≡ known) (fitting (with_fact (facts_in terms.now branch.old) name f)) }
+    ensures leaves { (f : Formula) → BuildsForm terms.now f form → LeavesFacts line result terms.now branch.new (fitting (with_fact (facts_in terms.now branch.old) name f)) }
     ensures said { OnOk result (AreSaid terms.now branch.new) }
     ensures begins { OnOk result (Begins branch.old branch.new) }
 {
@@ -134,7 +132,7 @@ pub(crate) fn inst(
 ) -> Result<(), Stop>
     requires branch { AreSaid terms.old branch.old }
     requires list { All (IsTerm terms.old) list.now }
-    ensures leaves { Leaves line result (λ _ known. facts_in terms.new branch.new ≡ known) (with_instance (facts_in terms.old branch.old) hyp (map (tree terms.old) list.now) name) }
+    ensures leaves { LeavesFacts line result terms.new branch.new (with_instance (facts_in terms.old branch.old) hyp (map (tree terms.old) list.now) name) }
     ensures said { OnOk result (AreSaid terms.new branch.new) }
     ensures begins { OnOk result (Begins branch.old branch.new) }
     ensures keeps { Extends terms.old terms.new }
@@ -166,7 +164,7 @@ pub(crate) fn parts(
     line: u32,
 ) -> Result<(), Stop>
     requires { AreSaid terms.now branch.old }
-    ensures leaves { Leaves line result (λ _ known. facts_in terms.now branch.new ≡ known) (with_parts (facts_in terms.now branch.old) hyp left right) }
+    ensures leaves { LeavesFacts line result terms.now branch.new (with_parts (facts_in terms.now branch.old) hyp left right) }
     ensures said { OnOk result (AreSaid terms.now branch.new) }
     ensures begins { OnOk result (Begins branch.old branch.new) }
 {
@@ -182,7 +180,7 @@ pub(crate) fn parts(
 fn both(terms: &Terms, branch: &Branch, pair: Pair, line: u32) -> Result<Pair, Stop>
     requires branch { AreSaid terms.now branch.now }
     requires pair { IsPair terms.now pair }
-    ensures leaves { (name : ℕ) → Leaves line result (λ p cases. cases ≡ cases_with (facts_in terms.now branch.now) name (pair_forms terms.now p)) (both_fitting (facts_in terms.now branch.now) name (pair_forms terms.now pair)) }
+    ensures leaves { (name : ℕ) → LeavesCases line result terms.now (facts_in terms.now branch.now) name (both_fitting (facts_in terms.now branch.now) name (pair_forms terms.now pair)) }
     ensures stored { IfOk result (IsPair terms.now) }
 {
     if branch.fits(pair.left.size(terms)) && branch.fits(pair.right.size(terms)) {
@@ -200,7 +198,7 @@ pub(crate) fn split(
     line: u32,
 ) -> Result<Pair, Stop>
     requires { AreSaid terms.old branch.now }
-    ensures leaves { (name : ℕ) → Leaves line result (λ p cases. cases ≡ cases_with (facts_in terms.old branch.now) name (pair_forms terms.new p)) (with_cases (facts_in terms.old branch.now) hyp name) }
+    ensures leaves { (name : ℕ) → LeavesCases line result terms.new (facts_in terms.old branch.now) name (with_cases (facts_in terms.old branch.now) hyp name) }
     ensures stored { IfOk result (IsPair terms.new) }
     ensures keeps { Extends terms.old terms.new }
 {
@@ -216,7 +214,7 @@ pub(crate) fn split(
 pub(crate) fn cut(terms: &Terms, branch: &Branch, form: FormId, line: u32) -> Result<Pair, Stop>
     requires branch { AreSaid terms.now branch.now }
     requires form { IsForm terms.now form }
-    ensures leaves { (name : ℕ) → Leaves line result (λ p cases. cases ≡ cases_with (facts_in terms.now branch.now) name (pair_forms terms.now p)) (with_cut (facts_in terms.now branch.now) (formula terms.now form) name) }
+    ensures leaves { (name : ℕ) → LeavesCases line result terms.now (facts_in terms.now branch.now) name (with_cut (facts_in terms.now branch.now) (formula terms.now form) name) }
     ensures stored { IfOk result (IsPair terms.now) }
 {
     let pair = Pair {
@@ -224,94 +222,4 @@ pub(crate) fn cut(terms: &Terms, branch: &Branch, form: FormId, line: u32) -> Re
         right: Literal::plain(form),
     };
     both(terms, branch, pair, line)
-}
-
-/// `read`: adds what a map has at a key.
-pub(crate) fn read(
-    alloc: Global,
-    terms: &mut Terms,
-    branch: &mut Branch,
-    map: TermId,
-    key: TermId,
-    name: u32,
-    line: u32,
-) -> Result<(), Stop>
-    requires branch { AreSaid terms.old branch.old }
-    requires map { IsTerm terms.old map }
-    requires key { IsTerm terms.old key }
-    ensures leaves { Leaves line result (λ _ known. facts_in terms.new branch.new ≡ known) (fitting (with_fact (facts_in terms.old branch.old) name (read_form (tree terms.old map) (tree terms.old key)))) }
-    ensures said { OnOk result (AreSaid terms.new branch.new) }
-    ensures begins { OnOk result (Begins branch.old branch.new) }
-    ensures keeps { Extends terms.old terms.new }
-{
-    let form = read_fact(terms, map, key);
-    add_built(alloc, terms, branch, form, name, line)
-}
-
-/// `size`: adds how many keys a map has.
-pub(crate) fn size(
-    alloc: Global,
-    terms: &mut Terms,
-    branch: &mut Branch,
-    map: TermId,
-    key: TermId,
-    name: u32,
-    line: u32,
-) -> Result<(), Stop>
-    requires branch { AreSaid terms.old branch.old }
-    requires map { IsTerm terms.old map }
-    requires key { IsTerm terms.old key }
-    ensures leaves { Leaves line result (λ _ known. facts_in terms.new branch.new ≡ known) (fitting (with_fact (facts_in terms.old branch.old) name (size_form (tree terms.old map) (tree terms.old key)))) }
-    ensures said { OnOk result (AreSaid terms.new branch.new) }
-    ensures begins { OnOk result (Begins branch.old branch.new) }
-    ensures keeps { Extends terms.old terms.new }
-{
-    let form = size_fact(terms, map, key);
-    add_built(alloc, terms, branch, form, name, line)
-}
-
-/// `total`: adds the sum of a map's values.
-pub(crate) fn total(
-    alloc: Global,
-    terms: &mut Terms,
-    branch: &mut Branch,
-    map: TermId,
-    key: TermId,
-    name: u32,
-    line: u32,
-) -> Result<(), Stop>
-    requires branch { AreSaid terms.old branch.old }
-    requires map { IsTerm terms.old map }
-    requires key { IsTerm terms.old key }
-    ensures leaves { Leaves line result (λ _ known. facts_in terms.new branch.new ≡ known) (fitting (with_fact (facts_in terms.old branch.old) name (total_form (tree terms.old map) (tree terms.old key)))) }
-    ensures said { OnOk result (AreSaid terms.new branch.new) }
-    ensures begins { OnOk result (Begins branch.old branch.new) }
-    ensures keeps { Extends terms.old terms.new }
-{
-    let form = total_fact(terms, map, key);
-    add_built(alloc, terms, branch, form, name, line)
-}
-
-/// `cong`: adds that a map has the same at equal keys.
-pub(crate) fn cong(
-    alloc: Global,
-    terms: &mut Terms,
-    branch: &mut Branch,
-    map: TermId,
-    left: TermId,
-    right: TermId,
-    name: u32,
-    line: u32,
-) -> Result<(), Stop>
-    requires branch { AreSaid terms.old branch.old }
-    requires map { IsTerm terms.old map }
-    requires left { IsTerm terms.old left }
-    requires right { IsTerm terms.old right }
-    ensures leaves { Leaves line result (λ _ known. facts_in terms.new branch.new ≡ known) (fitting (with_fact (facts_in terms.old branch.old) name (cong_form (tree terms.old map) (tree terms.old left) (tree terms.old right)))) }
-    ensures said { OnOk result (AreSaid terms.new branch.new) }
-    ensures begins { OnOk result (Begins branch.old branch.new) }
-    ensures keeps { Extends terms.old terms.new }
-{
-    let form = cong_fact(terms, map, left, right);
-    add_built(alloc, terms, branch, form, name, line)
 }

@@ -9,7 +9,7 @@ ghost use Rattle.sync_linear.specs.Stores.{IsLineOf};
 ghost use Rattle.sync_kernel.specs.Facts.{Fact};
 ghost use Rattle.sync_kernel.specs.Branches.{facts_in, AreSaid};
 ghost use Rattle.sync_kernel.specs.Literals.{literal_form, IsLiteral, same_literal};
-ghost use Rattle.sync_kernel.specs.Kept.{AreLines};
+ghost use Rattle.sync_kernel.specs.SumLines.{AreLines};
 ghost use Rattle.sync_kernel.specs.Rows.{row_of};
 ghost use Rattle.sync_kernel.specs.Shapes.{shaped, row_shaped};
 ghost use Rattle.sync_kernel.specs.Steps.{at_line, is_bound, is_turned, with_part as part_added, one_apart as has_one_apart, closes as is_closed, sum_fault};

@@ -149,14 +149,14 @@ alone k [] h s = absurd (omega arith)
 alone k (e ∷ []) h s = alone_cases (eq_by_cmp int_cmp k e.0) e.1 s
 alone k (e ∷ f ∷ es) h s = absurd (omega arith)
 
-is_there : (o : Option ℤ) → (if is_some o then pos 1 else pos 0) ≡ pos 1 → is_some o ≡ true
-is_there (Some x) h = refl
-is_there None h = absurd (let e : 0 ≡ 1 = pos_same 0 1 h in omega (arith, e))
+is_found : (o : Option ℤ) → (if is_some o then pos 1 else pos 0) ≡ pos 1 → is_some o ≡ true
+is_found (Some x) h = refl
+is_found None h = absurd (let e : 0 ≡ 1 = pos_same 0 1 h in omega (arith, e))
 
 pub sum_alone : (m : Map) (k : ℤ) → maps.size m ≡ pos 1 → maps.has m k ≡ pos 1 → maps.sum m ≡ maps.get m k
 sum_alone m k one has =
     sum_is m
-    ∙ alone k (entries m) (sym (len-entries m) ∙ pos_same (finmap.len m) 1 one) (ap is_some (sym (get-entries m k)) ∙ is_there (finmap.get m k) has)
+    ∙ alone k (entries m) (sym (len-entries m) ∙ pos_same (finmap.len m) 1 one) (ap is_some (sym (get-entries m k)) ∙ is_found (finmap.get m k) has)
     ∙ ap (λ (o : Option ℤ). unwrap_or o (pos 0)) (sym (get-entries m k))
 
 -- ---- the sum behind a change

@@ -6,9 +6,9 @@ use Rattle.sync_terms.specs.declared.nodes.Node.{Node}
 use Rattle.sync_terms.specs.declared.nodes.Node.TheVariants as node
 use Rattle.sync_terms.specs.Stored.{Stored, shape}
 use Rattle.sync_terms.specs.Trees.{Tree, Lit, Name, Add, Sub, Scale, Get, Has, Size, Sum, Nil, Put, Del, Bump, Le, Eq}
-use Rattle.sync_kernel_facts.specs.Lemmas.{zero, one, is_there, is_gone, is_raised, any_read, changed_read, read_fact, size_law, sum_law}
-use Rattle.sync_kernel_facts.specs.Building.{node_tree}
-use Rattle.sync_kernel_facts.proofs.Making.{shape-node}
+use Rattle.sync_kernel_facts.specs.Lemmas.{zero, one, is_found, is_gone, is_raised, any_read, changed_read, read_fact, size_law, sum_law}
+use Rattle.sync_terms.specs.Building.{node_tree}
+use Rattle.sync_terms.proofs.BuildingLemmas.{shape-node}
 
 pub size-nil : (t : Tree) → Nil ≡ t → Eq (Size t) zero ≡ size_law t
 size-nil t e = subst (λ (x : Tree). Eq (Size x) zero ≡ size_law x) e refl
@@ -37,8 +37,8 @@ sum-bump t m j n e = subst (λ (x : Tree). Eq (Sum x) (Sub (Add (Sum m) (Get x j
 pub read-nil : (t k : Tree) → Nil ≡ t → is_gone t k ≡ read_fact t k
 read-nil t k e = subst (λ (x : Tree). is_gone x k ≡ read_fact x k) e refl
 
-pub read-put : (t k m j w : Tree) → Put m j w ≡ t → changed_read t k m j (is_there t k w) ≡ read_fact t k
-read-put t k m j w e = subst (λ (x : Tree). changed_read x k m j (is_there x k w) ≡ read_fact x k) e refl
+pub read-put : (t k m j w : Tree) → Put m j w ≡ t → changed_read t k m j (is_found t k w) ≡ read_fact t k
+read-put t k m j w e = subst (λ (x : Tree). changed_read x k m j (is_found x k w) ≡ read_fact x k) e refl
 
 pub read-del : (t k m j : Tree) → Del m j ≡ t → changed_read t k m j (is_gone t k) ≡ read_fact t k
 read-del t k m j e = subst (λ (x : Tree). changed_read x k m j (is_gone x k) ≡ read_fact x k) e refl

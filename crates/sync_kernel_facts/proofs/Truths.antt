@@ -10,7 +10,7 @@ use Rattle.std.proofs.lemmas.Bool.Decides.{Decides-int_eq}
 use Rattle.sync_terms.specs.Trees.{Tree, Lit, Name, Add, Sub, Scale, Get, Has, Size, Sum, Nil, Put, Del, Bump, Formula, Le, Eq, And, Imp}
 use Rattle.sync_terms.specs.Values.{Valuation, num, mapped, truth, Holds}
 use Rattle.sync_terms.specs.Maps as maps
-use Rattle.sync_kernel_facts.specs.Lemmas.{zero, one, alike, is_there, is_gone, cong_fact, any_read, changed_read, is_raised, read_fact, size_law, size_fact, sum_law, small_sums, total_fact}
+use Rattle.sync_kernel_facts.specs.Lemmas.{zero, one, alike, is_found, is_gone, cong_fact, any_read, changed_read, is_raised, read_fact, size_law, size_fact, sum_law, small_sums, total_fact}
 use Rattle.sync_kernel_facts.proofs.MapLaws.{eq_true, same_at, some_at, none_at, put_same, put_other, del_same, del_other, raised_there, raised_gone, raised_other, has_cases, size_put, size_del, size_bump, size_nil, size_natural, has_size, sum_empty, sum_nil, sum_alone, sum_put, sum_del, sum_bump}
 
 int_le_true : (a b : ℤ) → a ≤ℤ b → int_le a b ≡ true
@@ -50,7 +50,7 @@ module _ (v : Valuation) where
   alike_true m j n k h = and_from (int_eq (num v (Get m j)) (num v (Get n k))) (int_eq (num v (Has m j)) (num v (Has n k)))
       (eq_true (num v (Get m j)) (num v (Get n k)) h.0) (eq_true (num v (Has m j)) (num v (Has n k)) h.1)
 
-  there_true : (m k w : Tree) → (maps.get (mapped v m) (num v k) ≡ num v w) × (maps.has (mapped v m) (num v k) ≡ pos 1) → Holds v (is_there m k w)
+  there_true : (m k w : Tree) → (maps.get (mapped v m) (num v k) ≡ num v w) × (maps.has (mapped v m) (num v k) ≡ pos 1) → Holds v (is_found m k w)
   unfolding truth
   there_true m k w h = and_from (int_eq (num v (Get m k)) (num v w)) (int_eq (num v (Has m k)) (pos 1))
       (eq_true (num v (Get m k)) (num v w) h.0) (eq_true (num v (Has m k)) (pos 1) h.1)
@@ -90,14 +90,14 @@ module _ (v : Valuation) where
   raised_true : (m j k n : Tree) → num v k ≡ num v j → Holds v (is_raised (Bump m j n) k (Add (Get m j) n))
   unfolding truth
   raised_true m j k n e =
-      tested (int_lt (pos 0) (num v (Add (Get m j) n))) (truth v (is_there (Bump m j n) k (Add (Get m j) n))) (int_le (num v (Add (Get m j) n)) (pos 0)) (truth v (is_gone (Bump m j n) k))
+      tested (int_lt (pos 0) (num v (Add (Get m j) n))) (truth v (is_found (Bump m j n) k (Add (Get m j) n))) (int_le (num v (Add (Get m j) n)) (pos 0)) (truth v (is_gone (Bump m j n) k))
       (λ t. there_true (Bump m j n) k (Add (Get m j) n) (raised_there (mapped v m) (num v j) (num v n) (num v k) e t))
       (λ f. (int_le_from (num v (Add (Get m j) n)) (pos 0) f, gone_true (Bump m j n) k (raised_gone (mapped v m) (num v j) (num v n) (num v k) e f)))
 
   pub read_true : (m k : Tree) → Holds v (read_fact m k)
   read_true Nil k = gone_true Nil k (none_at maps.nil (num v k) (get-empty int_cmp (num v k)))
   read_true (Put m j w) k =
-      changed_true (Put m j w) k m j (is_there (Put m j w) k w)
+      changed_true (Put m j w) k m j (is_found (Put m j w) k w)
       (λ e. there_true (Put m j w) k w (some_at (mapped v (Put m j w)) (num v k) (num v w) (put_same (mapped v m) (num v j) (num v w) (num v k) e)))
       (λ n. same_at (mapped v (Put m j w)) (mapped v m) (num v k) (num v k) (put_other (mapped v m) (num v j) (num v w) (num v k) n))
   read_true (Del m j) k =

@@ -13,8 +13,8 @@ abbrev pub alike : (map left other right : Tree) → Formula
 alike m j n k = And (Eq (Get m j) (Get n k)) (Eq (Has m j) (Has n k))
 
 -- the key is there, with this value
-abbrev pub is_there : (map key value : Tree) → Formula
-is_there m k w = And (Eq (Get m k) w) (Eq (Has m k) one)
+abbrev pub is_found : (map key value : Tree) → Formula
+is_found m k w = And (Eq (Get m k) w) (Eq (Has m k) one)
 
 -- the key is not there
 abbrev pub is_gone : (map key : Tree) → Formula
@@ -34,12 +34,12 @@ changed_read m k inner j change = Or (And (Eq k j) change) (And (Not (Eq k j)) (
 
 -- the key is there with the raised value, where that is positive, and else not there
 abbrev pub is_raised : (map key raised : Tree) → Formula
-is_raised m k w = Or (And (Lt zero w) (is_there m k w)) (And (Le w zero) (is_gone m k))
+is_raised m k w = Or (And (Lt zero w) (is_found m k w)) (And (Le w zero) (is_gone m k))
 
 -- what a map has at a key
 abbrev pub read_fact : (map key : Tree) → Formula
 read_fact Nil k = is_gone Nil k
-read_fact (Put m j w) k = changed_read (Put m j w) k m j (is_there (Put m j w) k w)
+read_fact (Put m j w) k = changed_read (Put m j w) k m j (is_found (Put m j w) k w)
 read_fact (Del m j) k = changed_read (Del m j) k m j (is_gone (Del m j) k)
 read_fact (Bump m j n) k = changed_read (Bump m j n) k m j (is_raised (Bump m j n) k (Add (Get m j) n))
 read_fact m k = any_read m k

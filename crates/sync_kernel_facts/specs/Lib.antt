@@ -1,5 +1,4 @@
 pub mod Lemmas
-pub mod Building
 pub mod Drafts
 pub mod Changes
 pub mod Laws

@@ -1,9 +1,10 @@
 //! Numbers and formulas over terms of a store, before they are built in it.
-ghost use Rattle.sync_terms.specs.Stored.{tree, Extends, HasChildren, HasParts, IsTerm};
+ghost use Rattle.sync_terms.specs.Stored.{Extends};
 ghost use Rattle.sync_terms.specs.Trees.{Add, Sub};
-ghost use Rattle.sync_kernel_facts.specs.Building.{BuildsTerm, BuildsForm, node_tree, node_formula};
+ghost use Rattle.sync_terms.specs.Building.{BuildsTerm, BuildsForm};
 ghost use Rattle.sync_kernel_facts.specs.Drafts.{part_tree, IsPart, value_tree, IsValue, compared, draft_formula, IsDraft};
 
+use sync_terms::building::{form, stored_term, term};
 use sync_terms::{FormId, FormNode, Node, TermId, TermStop, Terms};
 
 /// A number: a stored term, or one node over stored terms.
@@ -50,33 +51,6 @@ pub(crate) enum Draft<'a> {
     Join(Connective, &'a Draft<'a>, &'a Draft<'a>),
 }
 
-/// The term with this node.
-fn term(terms: &mut Terms, node: Node) -> Result<TermId, TermStop>
-    requires { HasChildren terms.old node }
-    ensures built { BuildsTerm terms.new (node_tree terms.old node) result }
-    ensures keeps { Extends terms.old terms.new }
-{
-    terms.add_term(node)
-}
-
-/// The formula with this node.
-fn form(terms: &mut Terms, node: FormNode) -> Result<FormId, TermStop>
-    requires { HasParts terms.old node }
-    ensures built { BuildsForm terms.new (node_formula terms.old node) result }
-    ensures keeps { Extends terms.old terms.new }
-{
-    terms.add_form(node)
-}
-
-/// A term that is stored, which is never too large.
-fn stored(terms: &Terms, term: TermId) -> Result<TermId, TermStop>
-    requires { IsTerm terms.now term }
-    ensures { BuildsTerm terms.now (tree terms.now term) result }
-{
-    prove!(terms.term_size(term) <= 1_000_000);
-    Ok(term)
-}
-
 /// Builds a part.
 fn single(terms: &mut Terms, part: Part) -> Result<TermId, TermStop>
     requires { IsPart terms.old part }
@@ -84,7 +58,7 @@ fn single(terms: &mut Terms, part: Part) -> Result<TermId, TermStop>
     ensures keeps { Extends terms.old terms.new }
 {
     match part {
-        Part::Stored(id) => stored(terms, id),
+        Part::Stored(id) => stored_term(terms, id),
         Part::Number(number) => term(terms, Node::Lit(number)),
         Part::Get(map, key) => term(terms, Node::Get(map, key)),
         Part::Has(map, key) => term(terms, Node::Has(map, key)),

@@ -2,10 +2,10 @@
 ghost use Rattle.std.specs.Prelude.{◌≡◌};
 ghost use Rattle.sync_terms.specs.Stored.{Extends, IsTerm, tree};
 ghost use Rattle.sync_terms.specs.Trees.{Add, And, Get};
-ghost use Rattle.sync_kernel_facts.specs.Building.{BuildsForm};
-ghost use Rattle.sync_kernel_facts.specs.Changes.{IsChange};
+ghost use Rattle.sync_terms.specs.Building.{BuildsForm};
+ghost use Rattle.sync_kernel_facts.specs.Changes.{IsChange, change_form};
 ghost use Rattle.sync_kernel_facts.specs.Drafts.{draft_formula, IsDraft};
-ghost use Rattle.sync_kernel_facts.specs.Lemmas.{is_there, is_gone, is_raised, is_present_within, small_sums, cong_fact as cong_form, any_read as any_form, changed_read as changed_form, read_fact as read_form, size_fact as size_form, size_law as size_law_form, sum_law as sum_law_form, total_fact as total_form};
+ghost use Rattle.sync_kernel_facts.specs.Lemmas.{is_found, is_gone, is_raised, is_present_within, small_sums, cong_fact as cong_form, any_read as any_form, read_fact as read_form, size_fact as size_form, size_law as size_law_form, sum_law as sum_law_form, total_fact as total_form};
 
 use crate::drafts::{Connective, Draft, Part, Relation, Value, formula};
 use Connective::{And, Implies, Or};
@@ -76,7 +76,7 @@ struct Change {
 fn changed_read(terms: &mut Terms, of: Change, change: &Draft<'_>) -> Result<FormId, TermStop>
     requires of { IsChange terms.old of }
     requires change { IsDraft terms.old change.now }
-    ensures built { BuildsForm terms.new (changed_form (tree terms.old of.map) (tree terms.old of.key) (tree terms.old of.inner) (tree terms.old of.at) (draft_formula terms.old change.now)) result }
+    ensures built { BuildsForm terms.new (change_form terms.old of (draft_formula terms.old change.now)) result }
     ensures keeps { Extends terms.old terms.new }
 {
     let same = Draft::Test(Equal, Only(Stored(of.key)), Only(Stored(of.at)));
@@ -101,7 +101,7 @@ fn changed_read(terms: &mut Terms, of: Change, change: &Draft<'_>) -> Result<For
 fn put_read(terms: &mut Terms, of: Change, value: TermId) -> Result<FormId, TermStop>
     requires of { IsChange terms.old of }
     requires value { IsTerm terms.old value }
-    ensures built { BuildsForm terms.new (changed_form (tree terms.old of.map) (tree terms.old of.key) (tree terms.old of.inner) (tree terms.old of.at) (is_there (tree terms.old of.map) (tree terms.old of.key) (tree terms.old value))) result }
+    ensures built { BuildsForm terms.new (change_form terms.old of (is_found (tree terms.old of.map) (tree terms.old of.key) (tree terms.old value))) result }
     ensures keeps { Extends terms.old terms.new }
 {
     let agrees = Draft::Test(Equal, Only(Get(of.map, of.key)), Only(Stored(value)));
@@ -112,7 +112,7 @@ fn put_read(terms: &mut Terms, of: Change, value: TermId) -> Result<FormId, Term
 /// A map behind `del`, at a key.
 fn del_read(terms: &mut Terms, of: Change) -> Result<FormId, TermStop>
     requires { IsChange terms.old of }
-    ensures built { BuildsForm terms.new (changed_form (tree terms.old of.map) (tree terms.old of.key) (tree terms.old of.inner) (tree terms.old of.at) (is_gone (tree terms.old of.map) (tree terms.old of.key))) result }
+    ensures built { BuildsForm terms.new (change_form terms.old of (is_gone (tree terms.old of.map) (tree terms.old of.key))) result }
     ensures keeps { Extends terms.old terms.new }
 {
     let nothing = Draft::Test(Equal, Only(Get(of.map, of.key)), Only(Number(0)));
@@ -124,7 +124,7 @@ fn del_read(terms: &mut Terms, of: Change) -> Result<FormId, TermStop>
 fn bump_read(terms: &mut Terms, of: Change, count: TermId) -> Result<FormId, TermStop>
     requires of { IsChange terms.old of }
     requires count { IsTerm terms.old count }
-    ensures built { BuildsForm terms.new (changed_form (tree terms.old of.map) (tree terms.old of.key) (tree terms.old of.inner) (tree terms.old of.at) (is_raised (tree terms.old of.map) (tree terms.old of.key) (Add (Get (tree terms.old of.inner) (tree terms.old of.at)) (tree terms.old count)))) result }
+    ensures built { BuildsForm terms.new (change_form terms.old of (is_raised (tree terms.old of.map) (tree terms.old of.key) (Add (Get (tree terms.old of.inner) (tree terms.old of.at)) (tree terms.old count)))) result }
     ensures keeps { Extends terms.old terms.new }
 {
     let raised = Plus(Get(of.inner, of.at), Stored(count));

@@ -8,7 +8,7 @@ use Rattle.sync_terms.specs.declared.nodes.FormNode.{FormNode}
 use Rattle.sync_terms.specs.declared.nodes.FormNode.TheVariants as form
 use Rattle.sync_terms.specs.Trees.{Tree, Nil, Formula, Eq}
 use Rattle.sync_terms.specs.Stored.{grown, next_tree, trees, grown_form, next_formula, formulas, ChildrenBelow, PartsBelow}
-use Rattle.sync_terms.specs.Kept.{form_at}
+use Rattle.sync_terms.specs.StoreLists.{form_at}
 
 module _ {A B : Type 0} (make : List B → A → B) where
   abbrev next : List B → A → List B

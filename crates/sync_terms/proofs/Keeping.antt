@@ -1,7 +1,7 @@
 -- What adding a node to a store keeps.
 use Rattle.std.proofs.Common.{◌≡◌, ℕ, pos, zero, suc, ◌<◌, ◌≤◌, List, [], ◌∷◌, ◌++◌, length, get_or, map, refl, sym, ap, ◌∙◌, subst, arith, below_more, inl, inr}
 use Rattle.std.proofs.lemmas.List.{length_push, get_or_push, get_or_append_left, map_push}
-use Rattle.sync_terms.specs.Placed.{IsPlaced}
+use Rattle.sync_terms.specs.Inserted.{IsInserted}
 use Rattle.sync_terms.proofs.Growth.{length-trees, trees-push, grown-stay, ChildrenBelow-more, PartsBelow-more, Stay-push, length-formulas, formulas-push, StayForms-push, grown_form-stay, formulas-stay}
 use Rattle.sync_terms.specs.declared.nodes.TermId.{TermId}
 use Rattle.sync_terms.specs.declared.nodes.FormId.{FormId}
@@ -11,7 +11,8 @@ use Rattle.sync_terms.specs.declared.nodes.FormNode.{FormNode}
 use Rattle.sync_terms.specs.declared.nodes.FormNode.TheVariants as form
 use Rattle.sync_terms.specs.Trees.{Nil, Eq, tree_size, formula_size}
 use Rattle.sync_terms.specs.Stored.{Stored, grown, trees, tree, formula_at, grown_form, formulas, formula, shape, form_shape, ChildrenBelow, PartsBelow, HasChildren, HasParts, Extends, GainsTerm, GainsForm}
-use Rattle.sync_terms.specs.Kept.{limit, node_at, form_at, AreTerms, AreForms, IsKept}
+use Rattle.sync_terms.specs.Trees.{most_nodes}
+use Rattle.sync_terms.specs.StoreLists.{node_at, form_at, AreTerms, AreForms, AreInOrder}
 
 abbrev no_node : Node
 no_node = node.Lit (pos 0)
@@ -26,7 +27,7 @@ Once ns = (i j : ℕ) → i < length ns → j < length ns → node_at ns i ≡ n
 abbrev pub OnceForms : List FormNode → Type 0
 OnceForms fs = (i j : ℕ) → i < length fs → j < length fs → form_at fs i ≡ form_at fs j → i ≡ j
 
-small-push : (ss : List ℕ) (s : ℕ) → ((k : ℕ) → get_or ss k 0 ≤ limit) → s ≤ limit → (k : ℕ) → get_or (ss ++ s ∷ []) k 0 ≤ limit
+small-push : (ss : List ℕ) (s : ℕ) → ((k : ℕ) → get_or ss k 0 ≤ most_nodes) → s ≤ most_nodes → (k : ℕ) → get_or (ss ++ s ∷ []) k 0 ≤ most_nodes
 small-push [] s h l zero = l
 small-push [] s h l (suc k) = omega arith
 small-push (y ∷ ys) s h l zero = h 0
@@ -36,7 +37,7 @@ small-push (y ∷ ys) s h l (suc k) = small-push ys s (λ i. h (suc i)) l k
 each-push : {A : Type 0} (P : ℕ → Type 0) (xs : List A) (y : A) → ((k : ℕ) → k < length xs → P k) → P (length xs) → (k : ℕ) → k < length (xs ++ y ∷ []) → P k
 each-push P xs y below here k h = below_more P (length xs) below here k (omega (arith, length_push xs y))
 
-module _ (ns : List Node) (sizes : List ℕ) (x : Node) (kept : AreTerms ns sizes) (below : ChildrenBelow (length ns) x) (fits : tree_size (grown (trees ns) x) ≤ limit) where
+module _ (ns : List Node) (sizes : List ℕ) (x : Node) (kept : AreTerms ns sizes) (below : ChildrenBelow (length ns) x) (fits : tree_size (grown (trees ns) x) ≤ most_nodes) where
   AreTerms-push : Once (ns ++ x ∷ []) → AreTerms (ns ++ x ∷ []) (sizes ++ tree_size (grown (trees ns) x) ∷ [])
   AreTerms-push once =
       let ms = ns ++ x ∷ [] in
@@ -68,7 +69,7 @@ module _ (ns : List Node) (sizes : List ℕ) (x : Node) (kept : AreTerms ns size
       }
 
 module _ (ns : List Node) (fs : List FormNode) (fsizes : List ℕ) (x : FormNode) (kept : AreForms ns fs fsizes) (below : PartsBelow (length ns) (length fs) x)
-    (fits : formula_size (grown_form (trees ns) (formulas (trees ns) fs) x) ≤ limit) where
+    (fits : formula_size (grown_form (trees ns) (formulas (trees ns) fs) x) ≤ most_nodes) where
   AreForms-push : OnceForms (fs ++ x ∷ []) → AreForms ns (fs ++ x ∷ []) (fsizes ++ formula_size (grown_form (trees ns) (formulas (trees ns) fs) x) ∷ [])
   AreForms-push once =
       let ts = trees ns in
@@ -98,79 +99,79 @@ abbrev with_forms : Stored → List FormNode → Stored
 with_forms s ms = record { nodes = s.nodes; forms = ms }
 
 module _ (s : Stored) (sizes fsizes : List ℕ) (x : Node) (size : ℕ) (ms : List Node) (msizes : List ℕ)
-    (kept : IsKept s sizes fsizes) (below : HasChildren s x) (placed : IsPlaced s.nodes sizes x size ms msizes) where
-  pub IsKept-place_term : size ≡ tree_size (shape s x) → size ≤ limit → Once ms → IsKept (with_nodes s ms) msizes fsizes
+    (kept : AreInOrder s sizes fsizes) (below : HasChildren s x) (placed : IsInserted s.nodes sizes x size ms msizes) where
+  pub AreInOrder-insert_term : size ≡ tree_size (shape s x) → size ≤ most_nodes → Once ms → AreInOrder (with_nodes s ms) msizes fsizes
   unfolding shape
-  IsKept-place_term is fits once = by placed
+  AreInOrder-insert_term is fits once = by placed
     where
-      by : IsPlaced s.nodes sizes x size ms msizes → IsKept (with_nodes s ms) msizes fsizes
+      by : IsInserted s.nodes sizes x size ms msizes → AreInOrder (with_nodes s ms) msizes fsizes
       by (inl e) = rw (e.0, e.1) kept
       by (inr e) =
-          let counted : tree_size (grown (trees s.nodes) x) ≤ limit = subst (λ n. n ≤ limit) is fits in
+          let counted : tree_size (grown (trees s.nodes) x) ≤ most_nodes = subst (λ n. n ≤ most_nodes) is fits in
           let alone : Once (s.nodes ++ x ∷ []) = subst Once e.0 once in
           rw (e.0, e.1, is) (record {
             terms = AreTerms-push s.nodes sizes x kept.terms below counted alone;
             forms = AreForms-more_terms s.nodes sizes x kept.terms below counted s.forms fsizes kept.forms;
           })
 
-  pub Extends-place_term : Extends s (with_nodes s ms)
+  pub Extends-insert_term : Extends s (with_nodes s ms)
   unfolding tree formula
-  Extends-place_term = by placed
+  Extends-insert_term = by placed
     where
-      by : IsPlaced s.nodes sizes x size ms msizes → Extends s (with_nodes s ms)
+      by : IsInserted s.nodes sizes x size ms msizes → Extends s (with_nodes s ms)
       by (inl e) = rw e.0 (record { terms = λ id h. (h, refl); forms = λ id h. (h, refl) })
       by (inr e) = rw e.0 (record {
         terms = λ id h. (omega (arith, length_push s.nodes x), Stay-push s.nodes x id.0 h);
         forms = λ id h. (h, ap (λ gs. formula_at gs id) (formulas-stay (length s.nodes) (trees s.nodes) (trees (s.nodes ++ x ∷ [])) (Stay-push s.nodes x) s.forms kept.forms.earlier));
       })
 
-  pub GainsTerm-place_term : GainsTerm s x (with_nodes s ms)
-  GainsTerm-place_term = by placed
+  pub GainsTerm-insert_term : GainsTerm s x (with_nodes s ms)
+  GainsTerm-insert_term = by placed
     where
-      by : IsPlaced s.nodes sizes x size ms msizes → GainsTerm s x (with_nodes s ms)
+      by : IsInserted s.nodes sizes x size ms msizes → GainsTerm s x (with_nodes s ms)
       by (inl e) = inl (ap (with_nodes s) e.0)
       by (inr e) = inr (ap (with_nodes s) e.0)
 
-  pub tree-place_term : IsKept (with_nodes s ms) msizes fsizes → (i : ℕ) → i < length ms → node_at ms i ≡ x → tree (with_nodes s ms) (record { 0 = i }) ≡ shape s x
+  pub tree-insert_term : AreInOrder (with_nodes s ms) msizes fsizes → (i : ℕ) → i < length ms → node_at ms i ≡ x → tree (with_nodes s ms) (record { 0 = i }) ≡ shape s x
   unfolding tree shape
-  tree-place_term new i h at =
-      let stay : (k : ℕ) → k < length s.nodes → get_or (trees ms) k Nil ≡ get_or (trees s.nodes) k Nil = λ k l. let id : TermId = record { 0 = k } in unfold tree in ((Extends-place_term.terms id l).1) in
+  tree-insert_term new i h at =
+      let stay : (k : ℕ) → k < length s.nodes → get_or (trees ms) k Nil ≡ get_or (trees s.nodes) k Nil = λ k l. let id : TermId = record { 0 = k } in unfold tree in ((Extends-insert_term.terms id l).1) in
       new.terms.made i h ∙ ap (grown (trees ms)) at ∙ grown-stay (length s.nodes) (trees s.nodes) (trees ms) stay x below
 
 module _ (s : Stored) (sizes fsizes : List ℕ) (x : FormNode) (size : ℕ) (ms : List FormNode) (msizes : List ℕ)
-    (kept : IsKept s sizes fsizes) (below : HasParts s x) (placed : IsPlaced s.forms fsizes x size ms msizes) where
-  pub IsKept-place_form : size ≡ formula_size (form_shape s x) → size ≤ limit → OnceForms ms → IsKept (with_forms s ms) sizes msizes
+    (kept : AreInOrder s sizes fsizes) (below : HasParts s x) (placed : IsInserted s.forms fsizes x size ms msizes) where
+  pub AreInOrder-insert_form : size ≡ formula_size (form_shape s x) → size ≤ most_nodes → OnceForms ms → AreInOrder (with_forms s ms) sizes msizes
   unfolding form_shape
-  IsKept-place_form is fits once = by placed
+  AreInOrder-insert_form is fits once = by placed
     where
-      by : IsPlaced s.forms fsizes x size ms msizes → IsKept (with_forms s ms) sizes msizes
+      by : IsInserted s.forms fsizes x size ms msizes → AreInOrder (with_forms s ms) sizes msizes
       by (inl e) = rw (e.0, e.1) kept
       by (inr e) =
-          let counted : formula_size (grown_form (trees s.nodes) (formulas (trees s.nodes) s.forms) x) ≤ limit = subst (λ n. n ≤ limit) is fits in
+          let counted : formula_size (grown_form (trees s.nodes) (formulas (trees s.nodes) s.forms) x) ≤ most_nodes = subst (λ n. n ≤ most_nodes) is fits in
           let alone : OnceForms (s.forms ++ x ∷ []) = subst OnceForms e.0 once in
           rw (e.0, e.1, is) (record { terms = kept.terms; forms = AreForms-push s.nodes s.forms fsizes x kept.forms below counted alone })
 
-  pub Extends-place_form : Extends s (with_forms s ms)
+  pub Extends-insert_form : Extends s (with_forms s ms)
   unfolding tree formula
-  Extends-place_form = by placed
+  Extends-insert_form = by placed
     where
-      by : IsPlaced s.forms fsizes x size ms msizes → Extends s (with_forms s ms)
+      by : IsInserted s.forms fsizes x size ms msizes → Extends s (with_forms s ms)
       by (inl e) = rw e.0 (record { terms = λ id h. (h, refl); forms = λ id h. (h, refl) })
       by (inr e) = rw e.0 (record {
         terms = λ id h. (h, refl);
         forms = λ id h. (omega (arith, length_push s.forms x), StayForms-push (trees s.nodes) s.forms x id.0 h);
       })
 
-  pub GainsForm-place_form : GainsForm s x (with_forms s ms)
-  GainsForm-place_form = by placed
+  pub GainsForm-insert_form : GainsForm s x (with_forms s ms)
+  GainsForm-insert_form = by placed
     where
-      by : IsPlaced s.forms fsizes x size ms msizes → GainsForm s x (with_forms s ms)
+      by : IsInserted s.forms fsizes x size ms msizes → GainsForm s x (with_forms s ms)
       by (inl e) = inl (ap (with_forms s) e.0)
       by (inr e) = inr (ap (with_forms s) e.0)
 
-  pub formula-place_form : IsKept (with_forms s ms) sizes msizes → (i : ℕ) → i < length ms → form_at ms i ≡ x → formula (with_forms s ms) (record { 0 = i }) ≡ form_shape s x
+  pub formula-insert_form : AreInOrder (with_forms s ms) sizes msizes → (i : ℕ) → i < length ms → form_at ms i ≡ x → formula (with_forms s ms) (record { 0 = i }) ≡ form_shape s x
   unfolding formula form_shape
-  formula-place_form new i h at =
+  formula-insert_form new i h at =
       let ts = trees s.nodes in
-      let stay : (k : ℕ) → k < length s.forms → get_or (formulas ts ms) k (Eq Nil Nil) ≡ get_or (formulas ts s.forms) k (Eq Nil Nil) = λ k l. let id : FormId = record { 0 = k } in unfold formula in ((Extends-place_form.forms id l).1) in
+      let stay : (k : ℕ) → k < length s.forms → get_or (formulas ts ms) k (Eq Nil Nil) ≡ get_or (formulas ts s.forms) k (Eq Nil Nil) = λ k l. let id : FormId = record { 0 = k } in unfold formula in ((Extends-insert_form.forms id l).1) in
       new.forms.made i h ∙ ap (grown_form ts (formulas ts ms)) at ∙ grown_form-stay (length s.nodes) (length s.forms) ts ts (formulas ts s.forms) (formulas ts ms) (λ k l. refl) stay x below

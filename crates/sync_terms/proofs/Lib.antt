@@ -8,3 +8,4 @@ pub mod Steps
 pub mod Extending
 pub mod Walking
 pub mod Meaning
+pub mod BuildingLemmas

@@ -6,9 +6,10 @@ use Rattle.sync_terms.specs.declared.nodes.TermId.{TermId}
 use Rattle.sync_terms.specs.declared.nodes.FormId.{FormId}
 use Rattle.sync_terms.specs.Trees.{Tree, Lit, Name, Add, Sub, Scale, Get, Has, Size, Sum, Nil, Put, Del, Bump, Formula, Le, Lt, Eq, Not, And, Or, Imp, tree_size, formula_size}
 use Rattle.sync_terms.specs.Stored.{Stored, trees, tree, formulas, formula, IsTerm, IsForm, shape, form_shape}
-use Rattle.sync_terms.specs.Kept.{limit, node_at, form_at, IsKept}
+use Rattle.sync_terms.specs.Trees.{most_nodes}
+use Rattle.sync_terms.specs.StoreLists.{node_at, form_at, AreInOrder}
 
-module _ (s : Stored) (sizes fsizes : List ℕ) (kept : IsKept s sizes fsizes) where
+module _ (s : Stored) (sizes fsizes : List ℕ) (kept : AreInOrder s sizes fsizes) where
   pub shape-node : (id : TermId) → IsTerm s id → shape s (node_at s.nodes id.0) ≡ tree s id
   unfolding shape tree
   shape-node id h = sym (kept.terms.made id.0 h)
@@ -36,11 +37,11 @@ module _ (s : Stored) (sizes fsizes : List ℕ) (kept : IsKept s sizes fsizes) w
       let within : id.0 < length gs = omega (arith, length-formulas (trees s.nodes) s.forms) in
       ap (λ ss. get_or ss id.0 0) kept.forms.counted ∙ get_or-map formula_size gs id.0 (Eq Nil Nil) 0 within
 
-  pub size-term-le : (id : TermId) → IsTerm s id → tree_size (tree s id) ≤ limit
-  size-term-le id h = subst (λ n. n ≤ limit) (size-term id h) (kept.terms.small id.0)
+  pub size-term-le : (id : TermId) → IsTerm s id → tree_size (tree s id) ≤ most_nodes
+  size-term-le id h = subst (λ n. n ≤ most_nodes) (size-term id h) (kept.terms.small id.0)
 
-  pub size-form-le : (id : FormId) → IsForm s id → formula_size (formula s id) ≤ limit
-  size-form-le id h = subst (λ n. n ≤ limit) (size-form id h) (kept.forms.small id.0)
+  pub size-form-le : (id : FormId) → IsForm s id → formula_size (formula s id) ≤ most_nodes
+  size-form-le id h = subst (λ n. n ≤ most_nodes) (size-form id h) (kept.forms.small id.0)
 
 pub tree_size-some : (t : Tree) → 1 ≤ tree_size t
 unfolding tree_size
@@ -68,9 +69,9 @@ formula_size-some (And f g) = omega arith
 formula_size-some (Or f g) = omega arith
 formula_size-some (Imp f g) = omega arith
 
-pub IsKept-empty : IsKept (record { nodes = []; forms = [] }) [] []
+pub AreInOrder-empty : AreInOrder (record { nodes = []; forms = [] }) [] []
 unfolding trees formulas
-IsKept-empty = record {
+AreInOrder-empty = record {
   terms = record {
     earlier = λ k h. absurd (omega arith);
     made = λ k h. absurd (omega arith);

@@ -10,7 +10,7 @@ use Rattle.sync_terms.specs.declared.nodes.FormNode.{FormNode}
 use Rattle.sync_terms.specs.declared.nodes.FormNode.TheVariants as form
 use Rattle.sync_terms.specs.Trees.{Tree, Nil, Formula, Eq}
 use Rattle.sync_terms.specs.Stored.{Stored, grown, trees, tree, grown_form, formulas, formula, ChildrenBelow, PartsBelow, IsShared}
-use Rattle.sync_terms.specs.Kept.{node_at, form_at, AreTerms, AreForms, IsKept}
+use Rattle.sync_terms.specs.StoreLists.{node_at, form_at, AreTerms, AreForms, AreInOrder}
 
 -- the number is one of these
 abbrev Apart : ℕ → List Tree → Type 0
@@ -136,7 +136,7 @@ apart-forms-below ns fs sizes fsizes t k (suc n) l f g h i e =
     let forms = apart-forms-below ns fs sizes fsizes t k n (omega arith) in
     k.once f g wf wg (same-form (length ns) n (trees ns) gs terms forms (form_at fs f) (form_at fs g) pf pg both)
 
-pub IsShared-from_kept : (s : Stored) (sizes fsizes : List ℕ) → IsKept s sizes fsizes → IsShared s
+pub IsShared-from_kept : (s : Stored) (sizes fsizes : List ℕ) → AreInOrder s sizes fsizes → IsShared s
 unfolding tree formula
 IsShared-from_kept s sizes fsizes k = record {
   terms = λ a b h i e. ap (λ (n : ℕ). record { 0 = n }) (apart-below s.nodes sizes k.terms (length s.nodes) (omega arith) a.0 b.0 h i e);

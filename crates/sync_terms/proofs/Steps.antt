@@ -13,7 +13,7 @@ use Rattle.sync_terms.specs.declared.nodes.FormNode.TheVariants as form
 use Rattle.sync_terms.specs.declared.subst.Part.{Part}
 use Rattle.sync_terms.specs.declared.subst.Part.TheVariants as part
 use Rattle.sync_terms.specs.declared.subst.Replaced.{Replaced}
-use Rattle.sync_terms.specs.Kept.{limit}
+use Rattle.sync_terms.specs.Trees.{most_nodes}
 use Rattle.sync_terms.specs.Trees.{Tree, Name, tree_size, formula_size, replaced, replaced_in}
 use Rattle.sync_terms.specs.Stored.{Stored, tree, formula, IsTerm, IsForm, shape, form_shape, EachChild, EachPart, ChildrenBelow, PartsBelow, HasChildren, HasParts, Extends}
 use Rattle.sync_terms.specs.Replacing.{symbol_at, term_at, form_at, new_term, new_form, renamed, renamed_form, IsChild, IsPartOf, is_replaced, InRange, rank, new_size, under_way, IsDone, Waits, Replaces}
@@ -244,7 +244,7 @@ module _ (s t : Stored) (d : Replaced) (done : IsDone s d) (more : Extends s t) 
       let n = more.forms new h.1 in
       (i.0, n.0, n.1 ∙ h.2 ∙ ap (replaced_in (under_way s d)) (sym i.1))
 
-  pub Replaces-term : (e : Replaced) (id new : TermId) → IsTerm s id → IsTerm t new → tree t new ≡ replaced (under_way s d) (tree s id) → tree_size (replaced (under_way s d) (tree s id)) ≤ limit → e.symbols ≡ d.symbols → e.forms ≡ d.forms
+  pub Replaces-term : (e : Replaced) (id new : TermId) → IsTerm s id → IsTerm t new → tree t new ≡ replaced (under_way s d) (tree s id) → tree_size (replaced (under_way s d) (tree s id)) ≤ most_nodes → e.symbols ≡ d.symbols → e.forms ≡ d.forms
       → ((q : TermId) → term_at e q ≡ cond (nat_eq id.0 q.0) (Some new) (term_at d q)) → Replaces s d (part.Term id) t e
   unfolding new_size
   Replaces-term e id new old here is fits symbols forms at =
@@ -270,7 +270,7 @@ module _ (s t : Stored) (d : Replaced) (done : IsDone s d) (more : Extends s t) 
       eachform : (q n : FormId) → form_at e q ≡ Some n → IsForm t q × IsForm t n × (formula t n ≡ replaced_in (under_way t e) (formula t q))
       eachform q n f = rw (under_way-more e symbols) (still-form q n (ap (get_by (λ (k : FormId). nat_eq q.0 k.0)) (sym forms) ∙ f))
 
-      small : new_size (under_way s d) s (part.Term id) ≤ limit
+      small : new_size (under_way s d) s (part.Term id) ≤ most_nodes
       small = fits
 
       made : is_replaced e (part.Term id) ≡ true
@@ -284,7 +284,7 @@ module _ (s t : Stored) (d : Replaced) (done : IsDone s d) (more : Extends s t) 
           by false b = ap is_some (at q ∙ ap (λ c. cond c (Some new) (term_at d q)) b)
       others (part.Form q) other = ap (λ m. is_some (get_by (λ (k : FormId). nat_eq q.0 k.0) m)) forms
 
-  pub Replaces-form : (e : Replaced) (id new : FormId) → IsForm s id → IsForm t new → formula t new ≡ replaced_in (under_way s d) (formula s id) → formula_size (replaced_in (under_way s d) (formula s id)) ≤ limit → e.symbols ≡ d.symbols → e.terms ≡ d.terms
+  pub Replaces-form : (e : Replaced) (id new : FormId) → IsForm s id → IsForm t new → formula t new ≡ replaced_in (under_way s d) (formula s id) → formula_size (replaced_in (under_way s d) (formula s id)) ≤ most_nodes → e.symbols ≡ d.symbols → e.terms ≡ d.terms
       → ((q : FormId) → form_at e q ≡ cond (nat_eq id.0 q.0) (Some new) (form_at d q)) → Replaces s d (part.Form id) t e
   unfolding new_size
   Replaces-form e id new old here is fits symbols terms at =
@@ -310,7 +310,7 @@ module _ (s t : Stored) (d : Replaced) (done : IsDone s d) (more : Extends s t) 
       each : (q n : TermId) → term_at e q ≡ Some n → IsTerm t q × IsTerm t n × (tree t n ≡ replaced (under_way t e) (tree t q))
       each q n f = rw (under_way-more e symbols) (still-term q n (ap (get_by (λ (k : TermId). nat_eq q.0 k.0)) (sym terms) ∙ f))
 
-      small : new_size (under_way s d) s (part.Form id) ≤ limit
+      small : new_size (under_way s d) s (part.Form id) ≤ most_nodes
       small = fits
 
       made : is_replaced e (part.Form id) ≡ true

@@ -8,7 +8,7 @@ use Rattle.sync_terms.specs.declared.nodes.FormId.{FormId}
 use Rattle.sync_terms.specs.declared.subst.Part.{Part}
 use Rattle.sync_terms.specs.declared.subst.Part.TheVariants as part
 use Rattle.sync_terms.specs.declared.subst.Replaced.{Replaced}
-use Rattle.sync_terms.specs.Kept.{limit}
+use Rattle.sync_terms.specs.Trees.{most_nodes}
 use Rattle.sync_terms.specs.Trees.{Tree, Name, tree_size, formula_size, replaced, replaced_in}
 use Rattle.sync_terms.specs.Stored.{Stored, tree, formula, IsTerm, IsForm, Extends}
 use Rattle.sync_terms.specs.Replacing.{form_at, new_form, is_replaced, IsPart, InRange, rank, new_size, under_way, IsDone, IsStart, Waits, Replaces}
@@ -238,11 +238,11 @@ module _ (first : Stored) (start : Replaced) (form : FormId) (s t : Stored) (d e
           (h.1, h.2 ∙ ap (λ r. replaced_in r (formula t form)) same ∙ ap (replaced_in (under_way first start)) old))
       by None f i = absurd (false≢true i)
 
-  pub fits-end : formula_size (replaced_in (under_way first start) (formula first form)) ≤ limit
+  pub fits-end : formula_size (replaced_in (under_way first start) (formula first form)) ≤ most_nodes
   unfolding new_size
   fits-end =
       let old = (way.extends.forms form here).1 in
-      subst (λ x. formula_size (replaced_in (under_way first start) x) ≤ limit) old (subst (λ r. formula_size (replaced_in r (formula s form)) ≤ limit) way.same made.fits)
+      subst (λ x. formula_size (replaced_in (under_way first start) x) ≤ most_nodes) old (subst (λ r. formula_size (replaced_in r (formula s form)) ≤ most_nodes) way.same made.fits)
 
 -- ---- the start
 

@@ -1,10 +1,12 @@
 pub mod Trees
+pub mod Symbols
 pub mod Maps
 pub mod Values
 pub mod Stored
-pub mod Placed
-pub mod Kept
+pub mod Inserted
+pub mod StoreLists
 pub mod Substitution
 pub mod Replacing
 pub mod Plans
+pub mod Building
 pub mod Proofs

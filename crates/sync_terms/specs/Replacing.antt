@@ -12,7 +12,7 @@ use Rattle.sync_terms.specs.declared.nodes.FormNode.TheVariants as form
 use Rattle.sync_terms.specs.declared.subst.Part.{Part}
 use Rattle.sync_terms.specs.declared.subst.Part.TheVariants as part
 use Rattle.sync_terms.specs.declared.subst.Replaced.{Replaced}
-use Rattle.sync_terms.specs.Kept.{limit}
+use Rattle.sync_terms.specs.Trees.{most_nodes}
 use Rattle.sync_terms.specs.Substitution.{term_of}
 use Rattle.sync_terms.specs.Trees.{Tree, Name, tree_size, formula_size, replaced, replaced_in}
 use Rattle.sync_terms.specs.Stored.{Stored, tree, formula, IsTerm, IsForm}
@@ -135,7 +135,7 @@ pub record Replaces (s : Stored) (d : Replaced) (p : Part) (t : Stored) (e : Rep
   pub done : IsDone t e
   pub same : under_way t e ≡ under_way s d
   pub made : is_replaced e p ≡ true
-  pub fits : new_size (under_way s d) s p ≤ limit
+  pub fits : new_size (under_way s d) s p ≤ most_nodes
   pub others : (q : Part) → q ≢ p → is_replaced e q ≡ is_replaced d q
 
 -- a step on a part

@@ -1,5 +1,6 @@
 -- Terms and formulas as trees, apart from any store.
 use Rattle.std.specs.Prelude.{ℕ, ◌+◌, ℤ}
+use Rattle.sync_terms.specs.declared.store.TheConstants.{MOST_NODES}
 
 -- a term: a number or a finite map. A name is a symbol's number
 pub data Tree : Type 0 where
@@ -52,6 +53,10 @@ formula_size (Not f) = formula_size f + 1
 formula_size (And f g) = formula_size f + formula_size g + 1
 formula_size (Or f g) = formula_size f + formula_size g + 1
 formula_size (Imp f g) = formula_size f + formula_size g + 1
+
+-- the most nodes that a term or a formula of a store has
+abbrev pub most_nodes : ℕ
+most_nodes = MOST_NODES
 
 -- the negation of a formula, where a double negation is none
 abbrev pub neg : Formula → Formula

@@ -69,10 +69,10 @@ HoldsForAll [] v f = Holds v f
 HoldsForAll (p ∷ ps) v f = (n : ℤ) (m : maps.Map) → HoldsForAll ps (with_value p n m v) f
 
 -- a hypothesis, with its parameters, without a name
-pub record Given : Type 0 where
+pub record Hypothesis : Type 0 where
   pub params : List ℕ
   pub form : Formula
 
 -- The claim is true wherever the hypotheses are, those with parameters for all that these may stand for.
-abbrev pub IsValid : List Given → Formula → Type 0
+abbrev pub IsValid : List Hypothesis → Formula → Type 0
 IsValid hyps claim = (v : Valuation) → AllByRecursion (λ h. HoldsForAll h.params v h.form) hyps → Holds v claim

@@ -1,6 +1,7 @@
 //! Terms and formulas: a store in which equal trees are one, and the trees of proof scripts.
 #![tactic(auto)]
 
+pub mod building;
 mod nodes;
 mod proofs;
 mod scripts;
@@ -10,7 +11,4 @@ mod subst;
 pub use nodes::{FormId, FormNode, Node, Sym, TermId};
 pub use proofs::{Claim, Obligation, Proof, Proofs};
 pub use scripts::{Block, HypName, Part, Script, ScriptStep, StepKind};
-pub use store::{TermStop, Terms};
-
-#[cfg(test)]
-mod tests;
+pub use store::{MOST_NODES, TermStop, Terms};

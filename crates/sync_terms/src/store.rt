@@ -2,8 +2,8 @@
 ghost use Rattle.std.specs.Prelude.{◌≡◌, ◌+◌, ◌<◌, ◌≤◌, ◌↔◌, ◌⊎◌, ◌++◌, [], ◌∷◌, length, slice_get, vec_len, IfOk, OnOk, OnErr, Err};
 ghost use Rattle.indexmap.specs.IndexSet.{IsUnique, index_set_len};
 ghost use Rattle.sync_terms.specs.declared.store.TermStop.TheVariants.{TooLarge, Memory};
-ghost use Rattle.sync_terms.specs.Kept.{limit};
-ghost use Rattle.sync_terms.specs.Placed.{IsPlaced, IsAt};
+ghost use Rattle.sync_terms.specs.Trees.{most_nodes};
+ghost use Rattle.sync_terms.specs.Inserted.{IsInserted, IsAt};
 ghost use Rattle.sync_terms.specs.Stored.{tree, formula, shape, form_shape, IsTerm, IsForm, ChildrenBelow, PartsBelow, HasChildren, HasParts, Extends, GainsTerm, GainsForm, IsShared};
 ghost use Rattle.sync_terms.specs.Trees.{tree_size, formula_size};
 
@@ -15,13 +15,13 @@ use std::marker::Model;
 use sync_base::NoMemory;
 use thiserror::Error;
 
-/// The most nodes that a tree of a store has.
-const LIMIT: u64 = 1_000_000;
+/// The most nodes that a term or a formula of a store has.
+pub const MOST_NODES: u64 = 1_000_000;
 
 /// Why a store takes no tree.
 #[derive(Clone, Copy, PartialEq, Eq, Debug, Error)]
 pub enum TermStop {
-    /// The tree has more than 1,000,000 nodes, those of its parts each time that they occur.
+    /// The tree has more than `MOST_NODES` nodes, those of its parts each time that they occur.
     #[error("a tree of more than 1,000,000 nodes")]
     TooLarge,
     /// Memory is wanting, or the numbers that ids have.
@@ -65,13 +65,13 @@ pub struct Terms {
 
 impl Model for Terms {
     ghost use Rattle.sync_terms.specs.Stored.{Stored};
-    ghost use Rattle.sync_terms.specs.Kept.{IsKept};
+    ghost use Rattle.sync_terms.specs.StoreLists.{AreInOrder};
 
     ghost Value = { Stored };
 
     ghost view = { λ t. record { nodes = t.nodes.keys; forms = t.forms.keys } };
 
-    ghost invariant = { λ t. IsKept (record { nodes = t.nodes.keys; forms = t.forms.keys }) t.sizes.items t.form_sizes.items };
+    ghost invariant = { λ t. AreInOrder (record { nodes = t.nodes.keys; forms = t.forms.keys }) t.sizes.items t.form_sizes.items };
 }
 
 impl Terms {
@@ -135,7 +135,7 @@ impl Terms {
         requires { IsTerm self.now id }
         ensures size { result ≡ tree_size (tree self.now id) }
         ensures some { 1 ≤ result }
-        ensures bound { result ≤ limit }
+        ensures bound { result ≤ most_nodes }
     {
         u64::from(self.sizes[id.0 as usize])
     }
@@ -145,7 +145,7 @@ impl Terms {
         requires { IsForm self.now id }
         ensures size { result ≡ formula_size (formula self.now id) }
         ensures some { 1 ≤ result }
-        ensures bound { result ≤ limit }
+        ensures bound { result ≤ most_nodes }
     {
         u64::from(self.form_sizes[id.0 as usize])
     }
@@ -198,17 +198,17 @@ impl Terms {
     pub fn add_term(&mut self, node: Node) -> Result<TermId, TermStop>
         requires children { HasChildren self.old node }
         ensures id { IfOk result (λ id. IsTerm self.new id × (tree self.new id ≡ shape self.old node)) }
-        ensures too_large { (result ≡ Err TermStop.TooLarge) ↔ (limit < tree_size (shape self.old node)) }
+        ensures too_large { (result ≡ Err TermStop.TooLarge) ↔ (most_nodes < tree_size (shape self.old node)) }
         ensures keeps { Extends self.old self.new }
         ensures gains { OnOk result (GainsTerm self.old node self.new) }
         ensures shared { OnOk result (IsShared self.new) }
         ensures err { OnErr result (self.new ≡ self.old) }
     {
         let size = self.node_size(node);
-        if size > LIMIT {
+        if size > MOST_NODES {
             return Err(TermStop::TooLarge);
         }
-        let Ok(at) = place(&mut self.nodes, &mut self.sizes, node, size as u32) else {
+        let Ok(at) = insert_node(&mut self.nodes, &mut self.sizes, node, size as u32) else {
             return Err(TermStop::Memory);
         };
         Ok(TermId(at))
@@ -218,17 +218,17 @@ impl Terms {
     pub fn add_form(&mut self, node: FormNode) -> Result<FormId, TermStop>
         requires children { HasParts self.old node }
         ensures id { IfOk result (λ id. IsForm self.new id × (formula self.new id ≡ form_shape self.old node)) }
-        ensures too_large { (result ≡ Err TermStop.TooLarge) ↔ (limit < formula_size (form_shape self.old node)) }
+        ensures too_large { (result ≡ Err TermStop.TooLarge) ↔ (most_nodes < formula_size (form_shape self.old node)) }
         ensures keeps { Extends self.old self.new }
         ensures gains { OnOk result (GainsForm self.old node self.new) }
         ensures shared { OnOk result (IsShared self.new) }
         ensures err { OnErr result (self.new ≡ self.old) }
     {
         let size = self.form_node_size(node);
-        if size > LIMIT {
+        if size > MOST_NODES {
             return Err(TermStop::TooLarge);
         }
-        let Ok(at) = place(&mut self.forms, &mut self.form_sizes, node, size as u32) else {
+        let Ok(at) = insert_node(&mut self.forms, &mut self.form_sizes, node, size as u32) else {
             return Err(TermStop::Memory);
         };
         Ok(FormId(at))
@@ -236,13 +236,13 @@ impl Terms {
 }
 
 /// The place of a node in a set, to which it is added, with its size, if no node there is equal to it.
-fn place<N: Eq + Hash + Drop>(
+fn insert_node<N: Eq + Hash + Drop>(
     nodes: &mut IndexSet<N>,
     sizes: &mut Vec<u32>,
     node: N,
     size: u32,
 ) -> Result<u32, NoMemory>
-    ensures placed { IfOk result (λ _. IsPlaced nodes.old.keys sizes.old.items node size nodes.new.keys sizes.new.items) }
+    ensures placed { IfOk result (λ _. IsInserted nodes.old.keys sizes.old.items node size nodes.new.keys sizes.new.items) }
     ensures at { IfOk result (λ at. IsAt N.eq node nodes.new.keys at) }
     ensures unique { IfOk result (λ _. IsUnique N.eq nodes.new) }
     ensures err_nodes { OnErr result (nodes.new.keys ≡ nodes.old.keys) }

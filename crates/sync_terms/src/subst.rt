@@ -1,6 +1,6 @@
 //! Substitution: terms in the places of symbols.
 ghost use Rattle.std.specs.Prelude.{◌≡◌, ◌<◌, ◌≤◌, All, IfOk, OnOk, IfNone, IfSome, OnErr, IsOk, IsTrue, IsSome, None, Some, Err, true, false};
-ghost use Rattle.sync_terms.specs.Kept.{limit};
+ghost use Rattle.sync_terms.specs.Trees.{most_nodes};
 ghost use Rattle.sync_terms.specs.Replacing.{symbol_at, term_at, form_at, new_term, new_form, renamed, renamed_form, is_replaced, new_size, under_way, IsChild, IsPartOf, IsPart, InRange, IsDone, IsStart, Steps};
 ghost use Rattle.sync_terms.specs.Stored.{tree, formula, shape, form_shape, IsTerm, IsForm, EachChild, EachPart, HasChildren, HasParts, Extends};
 ghost use Rattle.sync_terms.specs.Substitution.{substitution};
@@ -168,13 +168,13 @@ impl Terms {
     /// The formula with each symbol of the map replaced at once by the symbol's term, the first where a symbol
     /// stands twice.
     ///
-    /// `TooLarge` is for a formula of more than 1,000,000 nodes. After `Memory` the store may have gained nodes.
+    /// `TooLarge` is for a formula of more than `MOST_NODES` nodes. After `Memory` the store may have gained nodes.
     pub fn subst(&mut self, form: FormId, map: &[(Sym, TermId)]) -> Result<FormId, TermStop>
         requires form { IsForm self.old form }
         requires terms { All (λ p. IsTerm self.old p.1) map.now }
         ensures value { IfOk result (λ id. IsForm self.new id × (formula self.new id ≡ replaced_in (substitution self.old map.now) (formula self.old form))) }
-        ensures fits { IsOk result → formula_size (replaced_in (substitution self.old map.now) (formula self.old form)) ≤ limit }
-        ensures too_large { result ≡ Err TermStop.TooLarge → limit < formula_size (replaced_in (substitution self.old map.now) (formula self.old form)) }
+        ensures fits { IsOk result → formula_size (replaced_in (substitution self.old map.now) (formula self.old form)) ≤ most_nodes }
+        ensures too_large { result ≡ Err TermStop.TooLarge → most_nodes < formula_size (replaced_in (substitution self.old map.now) (formula self.old form)) }
         ensures keeps { Extends self.old self.new }
     {
         let Ok(mut done) = start(self.allocator(), map) else {
@@ -189,8 +189,8 @@ impl Terms {
         requires done { IsDone self.old done.old }
         requires missing { is_replaced done.old (Part.Form form) ≡ false }
         ensures value { IfOk result (λ id. IsForm self.new id × (formula self.new id ≡ replaced_in (under_way self.old done.old) (formula self.old form))) }
-        ensures fits { IsOk result → formula_size (replaced_in (under_way self.old done.old) (formula self.old form)) ≤ limit }
-        ensures too_large { result ≡ Err TermStop.TooLarge → limit < formula_size (replaced_in (under_way self.old done.old) (formula self.old form)) }
+        ensures fits { IsOk result → formula_size (replaced_in (under_way self.old done.old) (formula self.old form)) ≤ most_nodes }
+        ensures too_large { result ≡ Err TermStop.TooLarge → most_nodes < formula_size (replaced_in (under_way self.old done.old) (formula self.old form)) }
         ensures keeps { Extends self.old self.new }
     {
         let mut above = Vec::new(self.allocator());
@@ -236,7 +236,7 @@ impl Terms {
         requires done { IsDone self.old done.old }
         ensures keeps { Extends self.old self.new }
         ensures step { IfOk result (λ first. Steps self.old done.old (Part.Term id) self.new done.new first) }
-        ensures too_large { result ≡ Err TermStop.TooLarge → limit < new_size (under_way self.old done.old) self.old (Part.Term id) }
+        ensures too_large { result ≡ Err TermStop.TooLarge → most_nodes < new_size (under_way self.old done.old) self.old (Part.Term id) }
     {
         let node = self.term(id);
         if let Some(first) = done.wanted(node) {
@@ -259,7 +259,7 @@ impl Terms {
         requires done { IsDone self.old done.old }
         ensures keeps { Extends self.old self.new }
         ensures step { IfOk result (λ first. Steps self.old done.old (Part.Form id) self.new done.new first) }
-        ensures too_large { result ≡ Err TermStop.TooLarge → limit < new_size (under_way self.old done.old) self.old (Part.Form id) }
+        ensures too_large { result ≡ Err TermStop.TooLarge → most_nodes < new_size (under_way self.old done.old) self.old (Part.Form id) }
     {
         let node = self.form(id);
         if let Some(first) = done.wanted_part(node) {
@@ -281,7 +281,7 @@ impl Terms {
         requires done { IsDone self.old done.old }
         ensures keeps { Extends self.old self.new }
         ensures step { IfOk result (λ first. Steps self.old done.old part self.new done.new first) }
-        ensures too_large { result ≡ Err TermStop.TooLarge → limit < new_size (under_way self.old done.old) self.old part }
+        ensures too_large { result ≡ Err TermStop.TooLarge → most_nodes < new_size (under_way self.old done.old) self.old part }
     {
         match part {
             Part::Term(id) => self.step_term(done, id),

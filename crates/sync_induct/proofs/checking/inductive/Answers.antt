@@ -11,7 +11,7 @@ use Rattle.sync_terms.specs.declared.proofs.Proof.{Proof}
 use Rattle.sync_induct.specs.Checks.{has_title, stray_fault, checks_fault}
 use Rattle.sync_terms.specs.Proofs.{AreScriptsOf, titles_of, proofs_in}
 use Rattle.sync_induct.specs.Checklist.{Check, checks_of, AreShown}
-use Rattle.sync_induct.specs.Titles.{same_title}
+use Rattle.sync_induct.specs.Titles.{same_title, first_at}
 use Rattle.sync_induct.proofs.Deciding.{machine-stays, stray-answer, check-answer, no-answer, checks-are, met-keepable, met-ids, met-wanted}
 use Rattle.sync_induct.proofs.Law.{proved-machine-holds}
 use Rattle.sync_induct.proofs.Showing.{all-proved}
@@ -28,8 +28,11 @@ pub check_operations-requires-clause-ids : goal.check_operations-requires-clause
 check_operations-requires-clause-ids c =
     met-ids c.args.m c.as_slice-4.result.now c.as_slice-5.result.now c.as_slice-6.result.now c.as_slice-4.ensures c.as_slice-5.ensures c.as_slice-6.ensures c.requires.ids
 
-pub check_operations-requires-clause-scripts : goal.check_operations-requires-clause-scripts
-check_operations-requires-clause-scripts c = subst (λ (ps : List Proof). AreScriptsOf c.args.m.terms ps) (sym c.as_slice-3.ensures) c.requires.scripts
+pub check_operations-requires-clause-book : goal.check_operations-requires-clause-book
+check_operations-requires-clause-book c = record {
+  scripts = subst (λ (ps : List Proof). AreScriptsOf c.args.m.terms ps) (sym c.as_slice-3.ensures) c.requires.scripts;
+  placed = λ t. c.in_ok-placed.ensures.placed t ∙ ap (λ (ps : List Proof). first_at t 0 (titles_of ps)) (c.as_slice-2.ensures ∙ sym c.as_slice-3.ensures);
+}
 
 pub check_operations-requires-clause-wanted : goal.check_operations-requires-clause-wanted
 check_operations-requires-clause-wanted c =

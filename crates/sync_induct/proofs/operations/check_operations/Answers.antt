@@ -24,8 +24,10 @@ check_operation-requires c =
       ids = ids-then s t fs c.args.invariants.now c.args.operations.now ps c.loop-i.i c.in_ok-number.number x c.loop-i.invariant.keeps c.loop-i-test.true c.index-operations-i.is c.in_ok-number.ensures c.requires.invariants c.requires.ids;
       wanted = wanted-then s t fs c.args.invariants.now c.args.operations.now ps c.loop-i.i c.in_ok-number.number x c.loop-i.invariant.keeps c.loop-i-test.true c.index-operations-i.is c.in_ok-number.ensures c.requires.invariants c.requires.ids
           (contains same_title c.args.book.wanted.now) c.requires.wanted;
-      scripts = scripts-stay c.args.terms.now c.loop-i.terms c.loop-i.invariant.keeps c.args.book.proofs.now c.requires.scripts;
-      placed = c.requires.placed;
+      book = record {
+        scripts = scripts-stay c.args.terms.now c.loop-i.terms c.loop-i.invariant.keeps c.args.book.proofs.now c.requires.book.scripts;
+        placed = c.requires.book.placed;
+      };
     }
 
 pub returns-in_err-check_operation-clause-exact : goal.returns-in_err-check_operation-clause-exact
@@ -33,7 +35,7 @@ returns-in_err-check_operation-clause-exact c =
     let h = operations-refused c.args.terms.now c.loop-i.terms c.args.fields.now c.args.invariants.now c.args.operations.now (proofs_in c.args.terms.now c.args.book.proofs.now) c.loop-i.i c.in_ok-number.number c.index-operations-i.result
     c.loop-i.invariant.keeps c.loop-i-test.true c.index-operations-i.is c.in_ok-number.ensures c.requires.invariants c.requires.ids c.loop-i.invariant.left
     (Unit {0}) (Unit {0}) c.in_err-check_operation.field-0.0
-    (checks-over c.args.terms.now c.loop-i.terms c.loop-i.invariant.keeps c.args.book.proofs.now c.requires.scripts {A = Unit {0}} (Err c.in_err-check_operation.field-0.0) _ c.in_err-check_operation.ensures.exact) in
+    (checks-over c.args.terms.now c.loop-i.terms c.loop-i.invariant.keeps c.args.book.proofs.now c.requires.book.scripts {A = Unit {0}} (Err c.in_err-check_operation.field-0.0) _ c.in_err-check_operation.ensures.exact) in
     search rules
 
 pub returns-in_err-check_operation-clause-keeps : goal.returns-in_err-check_operation-clause-keeps
@@ -45,7 +47,7 @@ loop-i-preserved c =
     record {
       keeps = Extends-trans c.loop-i.invariant.keeps e.keeps;
       left = operations-past c.args.terms.now c.loop-i.terms c.args.fields.now c.args.invariants.now c.args.operations.now (proofs_in c.args.terms.now c.args.book.proofs.now) c.loop-i.i c.in_ok-number.number c.index-operations-i.result
-          c.loop-i.invariant.keeps c.loop-i-test.true c.index-operations-i.is c.in_ok-number.ensures c.requires.invariants c.requires.ids c.loop-i.invariant.left (none-over c.args.terms.now c.loop-i.terms c.loop-i.invariant.keeps c.args.book.proofs.now c.requires.scripts _ e.exact) e.shown;
+          c.loop-i.invariant.keeps c.loop-i-test.true c.index-operations-i.is c.in_ok-number.ensures c.requires.invariants c.requires.ids c.loop-i.invariant.left (none-over c.args.terms.now c.loop-i.terms c.loop-i.invariant.keeps c.args.book.proofs.now c.requires.book.scripts _ e.exact) e.shown;
     }
 
 pub returns : goal.returns

@@ -4,9 +4,9 @@ use Rattle.sync_terms.specs.Stored.{tree}
 use Rattle.sync_terms.proofs.Extending.{Extends-refl}
 use Rattle.sync_base.specs.declared.strategies.Strategy.{Strategy}
 use Rattle.sync_machine.specs.Statements.{zero, amount_is_natural}
-use Rattle.sync_induct_acts.specs.Building.{BuildsCondition}
+use Rattle.sync_induct_acts.specs.Conditions.{BuildsCondition}
 use Rattle.sync_induct_acts.proofs.Choices.{by1}
-use Rattle.sync_induct_acts.proofs.Making.{BuildsCondition-none, BuildsCondition-same}
+use Rattle.sync_induct_acts.proofs.ConditionLemmas.{BuildsCondition-none, BuildsCondition-same}
 use Rattle.sync_induct_acts.proofs.Otherwise.{natural-none}
 use Rattle.sync_induct_acts.proofs.conditions.amount_is_natural.Goals as goal
 

@@ -5,8 +5,8 @@ use Rattle.sync_terms.specs.Stored.{tree}
 use Rattle.sync_base.specs.declared.strategies.Strategy.{Strategy}
 use Rattle.sync_machine.specs.Views.{place_tree}
 use Rattle.sync_machine.specs.Statements.{zero, key_of, value_of, is_free, freshness}
-use Rattle.sync_induct_acts.specs.Building.{BuildsCondition}
-use Rattle.sync_induct_acts.proofs.Making.{BuildsForm-at}
+use Rattle.sync_induct_acts.specs.Conditions.{BuildsCondition}
+use Rattle.sync_induct_acts.proofs.ConditionLemmas.{BuildsForm-at}
 use Rattle.sync_induct_acts.proofs.Choices.{by1, by2, by3, by6}
 use Rattle.sync_induct_acts.proofs.conditions.freshness.Goals as goal
 

@@ -1,7 +1,7 @@
 use Rattle.std.proofs.Common.{arith}
 use Rattle.sync_terms.proofs.Extending.{Extends-trans}
 use Rattle.sync_terms.specs.Trees.{tree_size, formula_size}
-use Rattle.sync_induct_acts.proofs.Making.{BuildsForm-term}
+use Rattle.sync_terms.proofs.BuildingLemmas.{BuildsForm-term}
 use Rattle.sync_induct_acts.proofs.conditions.is_counted.Goals as goal
 
 pub returns-in_err-count-clause-built : goal.returns-in_err-count-clause-built

@@ -2,7 +2,7 @@ use Rattle.std.proofs.Common.{arith}
 use Rattle.sync_terms.proofs.Extending.{Extends-trans}
 use Rattle.sync_terms.specs.Trees.{formula_size}
 use Rattle.sync_induct_acts.proofs.Lasting.{agreement-stays}
-use Rattle.sync_induct_acts.proofs.Making.{BuildsForm-form, BuildsForm-same}
+use Rattle.sync_terms.proofs.BuildingLemmas.{BuildsForm-form, BuildsForm-same}
 use Rattle.sync_induct_acts.proofs.conditions.is_there_with.Goals as goal
 
 pub returns-in_err-there-clause-built : goal.returns-in_err-there-clause-built

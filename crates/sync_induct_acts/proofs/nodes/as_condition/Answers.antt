@@ -1,4 +1,4 @@
-use Rattle.sync_induct_acts.proofs.Making.{BuildsCondition-some}
+use Rattle.sync_induct_acts.proofs.ConditionLemmas.{BuildsCondition-some}
 use Rattle.sync_induct_acts.proofs.nodes.as_condition.Goals as goal
 
 pub returns : goal.returns

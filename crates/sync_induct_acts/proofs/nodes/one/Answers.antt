@@ -1,5 +1,5 @@
 use Rattle.std.proofs.Common.{refl}
-use Rattle.sync_induct_acts.proofs.Making.{FindsTerm-one}
+use Rattle.sync_terms.proofs.BuildingLemmas.{FindsTerm-one}
 use Rattle.sync_terms.specs.Trees.{tree_size}
 use Rattle.sync_induct_acts.proofs.nodes.one.Goals as goal
 

@@ -2,9 +2,9 @@ use Rattle.sync_terms.specs.Stored.{tree}
 use Rattle.sync_machine.specs.declared.machine.Act.{Act}
 use Rattle.sync_machine.specs.Statements.{condition}
 use Rattle.sync_machine.specs.Views.{act_tree}
-use Rattle.sync_induct_acts.specs.Building.{BuildsCondition}
+use Rattle.sync_induct_acts.specs.Conditions.{BuildsCondition}
 use Rattle.sync_induct_acts.proofs.Choices.{by2-of}
-use Rattle.sync_induct_acts.proofs.Making.{BuildsCondition-same}
+use Rattle.sync_induct_acts.proofs.ConditionLemmas.{BuildsCondition-same}
 use Rattle.sync_induct_acts.proofs.Otherwise.{condition-both}
 use Rattle.sync_induct_acts.proofs.statements.condition.Goals as goal
 

@@ -3,9 +3,9 @@ use Rattle.sync_terms.proofs.Extending.{Extends-refl}
 use Rattle.sync_machine.specs.declared.machine.Act.{Act}
 use Rattle.sync_machine.specs.Statements.{enabling}
 use Rattle.sync_machine.specs.Views.{act_tree}
-use Rattle.sync_induct_acts.specs.Building.{BuildsCondition}
+use Rattle.sync_induct_acts.specs.Conditions.{BuildsCondition}
 use Rattle.sync_induct_acts.proofs.Choices.{by1, by2-of}
-use Rattle.sync_induct_acts.proofs.Making.{BuildsCondition-none, BuildsCondition-same}
+use Rattle.sync_induct_acts.proofs.ConditionLemmas.{BuildsCondition-none, BuildsCondition-same}
 use Rattle.sync_induct_acts.proofs.Otherwise.{enabling-none}
 use Rattle.sync_induct_acts.proofs.statements.enabling.Goals as goal
 

@@ -4,7 +4,7 @@ use Rattle.sync_terms.specs.Stored.{tree}
 use Rattle.sync_machine.specs.Statements.{both, safety}
 use Rattle.sync_machine.specs.Views.{act_tree}
 use Rattle.sync_induct_acts.proofs.Lasting.{act-ids, enabling-stays}
-use Rattle.sync_induct_acts.proofs.Making.{BuildsCondition-condition, BuildsCondition-same, condition-value, condition-stored}
+use Rattle.sync_induct_acts.proofs.ConditionLemmas.{BuildsCondition-condition, BuildsCondition-same, condition-value, condition-stored}
 use Rattle.sync_induct_acts.proofs.Otherwise.{both-left, both-right}
 use Rattle.sync_induct_acts.proofs.statements.safety_and_enabling.Goals as goal
 

@@ -4,8 +4,8 @@ use Rattle.sync_terms.specs.Stored.{tree}
 use Rattle.sync_base.specs.declared.strategies.Strategy.{Strategy}
 use Rattle.sync_machine.specs.Views.{place_tree}
 use Rattle.sync_machine.specs.Statements.{one, key_of, value_of, added}
-use Rattle.sync_induct_acts.specs.Building.{BuildsTerm}
-use Rattle.sync_induct_acts.proofs.Making.{BuildsTerm-at}
+use Rattle.sync_terms.specs.Building.{BuildsTerm}
+use Rattle.sync_induct_acts.proofs.ConditionLemmas.{BuildsTerm-at}
 use Rattle.sync_induct_acts.proofs.Choices.{by1, by2, by4}
 use Rattle.sync_induct_acts.proofs.values.added.Goals as goal
 

@@ -2,9 +2,9 @@ use Rattle.sync_terms.specs.Stored.{tree}
 use Rattle.sync_machine.specs.declared.machine.Act.{Act}
 use Rattle.sync_machine.specs.Statements.{after}
 use Rattle.sync_machine.specs.Views.{act_tree}
-use Rattle.sync_induct_acts.specs.Building.{BuildsTerm}
+use Rattle.sync_terms.specs.Building.{BuildsTerm}
 use Rattle.sync_induct_acts.proofs.Choices.{by1, by2-of}
-use Rattle.sync_induct_acts.proofs.Making.{BuildsTerm-same}
+use Rattle.sync_terms.proofs.BuildingLemmas.{BuildsTerm-same}
 use Rattle.sync_induct_acts.proofs.Otherwise.{after-same}
 use Rattle.sync_induct_acts.proofs.values.after.Goals as goal
 

@@ -3,7 +3,7 @@ use Rattle.sync_terms.proofs.Extending.{Extends-trans}
 use Rattle.sync_terms.specs.Trees.{Sub, tree_size}
 use Rattle.sync_terms.specs.Stored.{tree}
 use Rattle.sync_machine.specs.Statements.{zero, one}
-use Rattle.sync_induct_acts.proofs.Making.{BuildsTerm-term, BuildsTerm-same}
+use Rattle.sync_terms.proofs.BuildingLemmas.{BuildsTerm-term, BuildsTerm-same}
 use Rattle.sync_induct_acts.proofs.values.once_less.Goals as goal
 
 pub returns-in_err-one-clause-keeps : goal.returns-in_err-one-clause-keeps

@@ -8,10 +8,11 @@ use Rattle.sync_terms.specs.declared.scripts.StepKind.TheVariants.{rolls-Inst, r
 use Rattle.sync_terms.specs.declared.scripts.StepKind as kind
 use Rattle.sync_terms.specs.declared.scripts.ScriptStep as step
 use Rattle.sync_terms.specs.declared.scripts.Block as block
-use Rattle.sync_terms.specs.Stored.{IsTerm, tree}
+use Rattle.sync_terms.specs.Stored.{IsTerm}
 use Rattle.sync_terms.specs.Plans.{plan_of}
 use Rattle.sync_terms.proofs.Extending.{Extends-trans}
-use Rattle.sync_kernel_facts.specs.Lemmas.{read_fact, size_fact, total_fact, cong_fact}
+use Rattle.sync_kernel.specs.declared.map_facts.MapFact.TheVariants as fact
+use Rattle.sync_kernel.specs.MapFacts.{map_form}
 use Rattle.sync_kernel.specs.declared.steps.Left.{Left}
 use Rattle.sync_kernel.specs.declared.branches.Said.{Said}
 use Rattle.sync_kernel.specs.Facts.{Fact}
@@ -217,111 +218,98 @@ check_step-returns-in_ok-push-in-Cut-clause-said t c =
     add_said w c.check_case-in-Cut.new.branch c.push.new.self c.said.result
     (subst (AreSaid w) (sym c.in_ok-check_case-in-Cut.ensures.branch) (AreSaid-more c.args.terms.now w c.args.branch.now c.check_case-in-Cut.ensures.keeps c.requires.branch)) c.said.ensures.said c.in_ok-push-in-Cut.ensures.ok
 
-pub check_step-read-requires-clause-map : goal.check_step-read-requires-clause-map
-check_step-read-requires-clause-map t c =
-    let i = c.in-Read in
-    (read_ids c.args.terms.now c.args.step.now c.requires.step i.map i.key i.name (i.is ∙ sym (rolls-Read i.map i.key i.name))).0
-
-pub check_step-read-requires-clause-key : goal.check_step-read-requires-clause-key
-check_step-read-requires-clause-key t c =
-    let i = c.in-Read in
-    (read_ids c.args.terms.now c.args.step.now c.requires.step i.map i.key i.name (i.is ∙ sym (rolls-Read i.map i.key i.name))).1
-
-pub check_step-returns-in_err-read-in-Read-clause-exact : goal.check_step-returns-in_err-read-in-Read-clause-exact
-check_step-returns-in_err-read-in-Read-clause-exact t c = λ rest.
-    (let s = c.args.terms.now in
-    let xs = c.args.branch.now in
-    let i = c.in-Read in
-    let e = c.in_err-read-in-Read.field-0.0 in
-    let q = err_from_is_err_and c.from_residual-in_err-read-in-Read.result c.from_residual-in_err-read-in-Read.ensures.1 in
-    step_err c.from_residual-in_err-read-in-Read.result e (block_fault (facts_in s xs) (then_of s c.args.step.now rest)) (block_fault (facts_in c.read.new.terms c.read.new.branch) rest) (after rest) (cc)
-    (fact_stops s xs c.args.step.now (StepKind-F.Read i.map i.key i.name) rest (fitting (with_fact (facts_in s xs) i.name (read_fact (tree s i.map) (tree s i.key)))) e (i.is ∙ sym (rolls-Read i.map i.key i.name)) refl
-    c.in_err-read-in-Read.ensures.leaves))
-
-pub check_step-size-requires-clause-map : goal.check_step-size-requires-clause-map
-check_step-size-requires-clause-map t c =
-    let i = c.in-Size in
-    (size_ids c.args.terms.now c.args.step.now c.requires.step i.map i.key i.name (i.is ∙ sym (rolls-Size i.map i.key i.name))).0
-
-pub check_step-size-requires-clause-key : goal.check_step-size-requires-clause-key
-check_step-size-requires-clause-key t c =
-    let i = c.in-Size in
-    (size_ids c.args.terms.now c.args.step.now c.requires.step i.map i.key i.name (i.is ∙ sym (rolls-Size i.map i.key i.name))).1
-
-pub check_step-returns-in_err-size-in-Size-clause-exact : goal.check_step-returns-in_err-size-in-Size-clause-exact
-check_step-returns-in_err-size-in-Size-clause-exact t c = λ rest.
-    (let s = c.args.terms.now in
-    let xs = c.args.branch.now in
-    let i = c.in-Size in
-    let e = c.in_err-size-in-Size.field-0.0 in
-    let q = err_from_is_err_and c.from_residual-in_err-size-in-Size.result c.from_residual-in_err-size-in-Size.ensures.1 in
-    step_err c.from_residual-in_err-size-in-Size.result e (block_fault (facts_in s xs) (then_of s c.args.step.now rest)) (block_fault (facts_in c.size.new.terms c.size.new.branch) rest) (after rest) (cc)
-    (fact_stops s xs c.args.step.now (StepKind-F.Size i.map i.key i.name) rest (fitting (with_fact (facts_in s xs) i.name (size_fact (tree s i.map) (tree s i.key)))) e (i.is ∙ sym (rolls-Size i.map i.key i.name)) refl
-    c.in_err-size-in-Size.ensures.leaves))
-
-pub check_step-total-requires-clause-map : goal.check_step-total-requires-clause-map
-check_step-total-requires-clause-map t c =
-    let i = c.in-Total in
-    (total_ids c.args.terms.now c.args.step.now c.requires.step i.map i.key i.name (i.is ∙ sym (rolls-Total i.map i.key i.name))).0
-
-pub check_step-total-requires-clause-key : goal.check_step-total-requires-clause-key
-check_step-total-requires-clause-key t c =
-    let i = c.in-Total in
-    (total_ids c.args.terms.now c.args.step.now c.requires.step i.map i.key i.name (i.is ∙ sym (rolls-Total i.map i.key i.name))).1
-
-pub check_step-returns-in_err-total-in-Total-clause-exact : goal.check_step-returns-in_err-total-in-Total-clause-exact
-check_step-returns-in_err-total-in-Total-clause-exact t c = λ rest.
-    (let s = c.args.terms.now in
-    let xs = c.args.branch.now in
-    let i = c.in-Total in
-    let e = c.in_err-total-in-Total.field-0.0 in
-    let q = err_from_is_err_and c.from_residual-in_err-total-in-Total.result c.from_residual-in_err-total-in-Total.ensures.1 in
-    step_err c.from_residual-in_err-total-in-Total.result e (block_fault (facts_in s xs) (then_of s c.args.step.now rest)) (block_fault (facts_in c.total.new.terms c.total.new.branch) rest) (after rest) (cc)
-    (fact_stops s xs c.args.step.now (StepKind-F.Total i.map i.key i.name) rest (fitting (with_fact (facts_in s xs) i.name (total_fact (tree s i.map) (tree s i.key)))) e (i.is ∙ sym (rolls-Total i.map i.key i.name)) refl
-    c.in_err-total-in-Total.ensures.leaves))
-
-pub check_step-cong-requires-clause-map : goal.check_step-cong-requires-clause-map
-check_step-cong-requires-clause-map t c =
-    let i = c.in-Cong in
-    (cong_ids c.args.terms.now c.args.step.now c.requires.step i.map i.left i.right i.name (i.is ∙ sym (rolls-Cong i.map i.left i.right i.name))).0
-
-pub check_step-cong-requires-clause-left : goal.check_step-cong-requires-clause-left
-check_step-cong-requires-clause-left t c =
-    let i = c.in-Cong in
-    (cong_ids c.args.terms.now c.args.step.now c.requires.step i.map i.left i.right i.name (i.is ∙ sym (rolls-Cong i.map i.left i.right i.name))).1
-
-pub check_step-cong-requires-clause-right : goal.check_step-cong-requires-clause-right
-check_step-cong-requires-clause-right t c =
-    let i = c.in-Cong in
-    (cong_ids c.args.terms.now c.args.step.now c.requires.step i.map i.left i.right i.name (i.is ∙ sym (rolls-Cong i.map i.left i.right i.name))).2
-
-pub check_step-returns-in_err-cong-in-Cong-clause-exact : goal.check_step-returns-in_err-cong-in-Cong-clause-exact
-check_step-returns-in_err-cong-in-Cong-clause-exact t c = λ rest.
-    (let s = c.args.terms.now in
-    let xs = c.args.branch.now in
-    let i = c.in-Cong in
-    let e = c.in_err-cong-in-Cong.field-0.0 in
-    let q = err_from_is_err_and c.from_residual-in_err-cong-in-Cong.result c.from_residual-in_err-cong-in-Cong.ensures.1 in
-    step_err c.from_residual-in_err-cong-in-Cong.result e (block_fault (facts_in s xs) (then_of s c.args.step.now rest)) (block_fault (facts_in c.cong.new.terms c.cong.new.branch) rest) (after rest) (cc)
-    (fact_stops s xs c.args.step.now (StepKind-F.Cong i.map i.left i.right i.name) rest (fitting (with_fact (facts_in s xs) i.name (cong_fact (tree s i.map) (tree s i.left) (tree s i.right)))) e (i.is ∙ sym (rolls-Cong i.map i.left i.right i.name)) refl
-    c.in_err-cong-in-Cong.ensures.leaves))
-
 pub check_step-returns-in_ok-inst-in-Inst-clause-seen : goal.check_step-returns-in_ok-inst-in-Inst-clause-seen
 check_step-returns-in_ok-inst-in-Inst-clause-seen t c =
     seen_grows c.args.terms.now c.inst.new.terms c.args.branch.now c.inst.new.branch c.args.seen.now c.inst.ensures.keeps c.requires.branch c.in_ok-inst-in-Inst.ensures.begins c.requires.seen
 
-pub check_step-returns-in_ok-read-in-Read-clause-seen : goal.check_step-returns-in_ok-read-in-Read-clause-seen
-check_step-returns-in_ok-read-in-Read-clause-seen t c =
-    seen_grows c.args.terms.now c.read.new.terms c.args.branch.now c.read.new.branch c.args.seen.now c.read.ensures.keeps c.requires.branch c.in_ok-read-in-Read.ensures.begins c.requires.seen
+pub check_step-learn-requires-clause-fact : goal.check_step-learn-requires-clause-fact
+check_step-learn-requires-clause-fact t c =
+    let i = c.in-Read in
+    read_ids c.args.terms.now c.args.step.now c.requires.step i.map i.key i.name (i.is ∙ sym (rolls-Read i.map i.key i.name))
 
-pub check_step-returns-in_ok-size-in-Size-clause-seen : goal.check_step-returns-in_ok-size-in-Size-clause-seen
-check_step-returns-in_ok-size-in-Size-clause-seen t c =
-    seen_grows c.args.terms.now c.size.new.terms c.args.branch.now c.size.new.branch c.args.seen.now c.size.ensures.keeps c.requires.branch c.in_ok-size-in-Size.ensures.begins c.requires.seen
+pub check_step-returns-in_err-learn-in-Read-clause-exact : goal.check_step-returns-in_err-learn-in-Read-clause-exact
+check_step-returns-in_err-learn-in-Read-clause-exact t c = λ rest.
+    (let s = c.args.terms.now in
+    let xs = c.args.branch.now in
+    let i = c.in-Read in
+    let f = map_form s (fact.Read i.map i.key) in
+    let e = c.in_err-learn-in-Read.field-0.0 in
+    let q = err_from_is_err_and c.from_residual-in_err-learn-in-Read.result c.from_residual-in_err-learn-in-Read.ensures.1 in
+    step_err c.from_residual-in_err-learn-in-Read.result e (block_fault (facts_in s xs) (then_of s c.args.step.now rest))
+    (block_fault (facts_in c.learn.new.terms c.learn.new.branch) rest) (after rest) (cc)
+    (fact_stops s xs c.args.step.now (StepKind-F.Read i.map i.key i.name) rest (fitting (with_fact (facts_in s xs) i.name f)) e
+    (i.is ∙ sym (rolls-Read i.map i.key i.name)) refl c.in_err-learn-in-Read.ensures.leaves))
 
-pub check_step-returns-in_ok-total-in-Total-clause-seen : goal.check_step-returns-in_ok-total-in-Total-clause-seen
-check_step-returns-in_ok-total-in-Total-clause-seen t c =
-    seen_grows c.args.terms.now c.total.new.terms c.args.branch.now c.total.new.branch c.args.seen.now c.total.ensures.keeps c.requires.branch c.in_ok-total-in-Total.ensures.begins c.requires.seen
+pub check_step-returns-in_ok-learn-in-Read-clause-seen : goal.check_step-returns-in_ok-learn-in-Read-clause-seen
+check_step-returns-in_ok-learn-in-Read-clause-seen t c =
+    seen_grows c.args.terms.now c.learn.new.terms c.args.branch.now c.learn.new.branch c.args.seen.now
+    c.learn.ensures.keeps c.requires.branch c.in_ok-learn-in-Read.ensures.begins c.requires.seen
 
-pub check_step-returns-in_ok-cong-in-Cong-clause-seen : goal.check_step-returns-in_ok-cong-in-Cong-clause-seen
-check_step-returns-in_ok-cong-in-Cong-clause-seen t c =
-    seen_grows c.args.terms.now c.cong.new.terms c.args.branch.now c.cong.new.branch c.args.seen.now c.cong.ensures.keeps c.requires.branch c.in_ok-cong-in-Cong.ensures.begins c.requires.seen
+pub check_step-learn-requires-in-Size-clause-fact : goal.check_step-learn-requires-in-Size-clause-fact
+check_step-learn-requires-in-Size-clause-fact t c =
+    let i = c.in-Size in
+    size_ids c.args.terms.now c.args.step.now c.requires.step i.map i.key i.name (i.is ∙ sym (rolls-Size i.map i.key i.name))
+
+pub check_step-returns-in_err-learn-in-Size-clause-exact : goal.check_step-returns-in_err-learn-in-Size-clause-exact
+check_step-returns-in_err-learn-in-Size-clause-exact t c = λ rest.
+    (let s = c.args.terms.now in
+    let xs = c.args.branch.now in
+    let i = c.in-Size in
+    let f = map_form s (fact.Size i.map i.key) in
+    let e = c.in_err-learn-in-Size.field-0.0 in
+    let q = err_from_is_err_and c.from_residual-in_err-learn-in-Size.result c.from_residual-in_err-learn-in-Size.ensures.1 in
+    step_err c.from_residual-in_err-learn-in-Size.result e (block_fault (facts_in s xs) (then_of s c.args.step.now rest))
+    (block_fault (facts_in c.learn-in-Size.new.terms c.learn-in-Size.new.branch) rest) (after rest) (cc)
+    (fact_stops s xs c.args.step.now (StepKind-F.Size i.map i.key i.name) rest (fitting (with_fact (facts_in s xs) i.name f)) e
+    (i.is ∙ sym (rolls-Size i.map i.key i.name)) refl c.in_err-learn-in-Size.ensures.leaves))
+
+pub check_step-returns-in_ok-learn-in-Size-clause-seen : goal.check_step-returns-in_ok-learn-in-Size-clause-seen
+check_step-returns-in_ok-learn-in-Size-clause-seen t c =
+    seen_grows c.args.terms.now c.learn-in-Size.new.terms c.args.branch.now c.learn-in-Size.new.branch c.args.seen.now
+    c.learn-in-Size.ensures.keeps c.requires.branch c.in_ok-learn-in-Size.ensures.begins c.requires.seen
+
+pub check_step-learn-requires-in-Total-clause-fact : goal.check_step-learn-requires-in-Total-clause-fact
+check_step-learn-requires-in-Total-clause-fact t c =
+    let i = c.in-Total in
+    total_ids c.args.terms.now c.args.step.now c.requires.step i.map i.key i.name (i.is ∙ sym (rolls-Total i.map i.key i.name))
+
+pub check_step-returns-in_err-learn-in-Total-clause-exact : goal.check_step-returns-in_err-learn-in-Total-clause-exact
+check_step-returns-in_err-learn-in-Total-clause-exact t c = λ rest.
+    (let s = c.args.terms.now in
+    let xs = c.args.branch.now in
+    let i = c.in-Total in
+    let f = map_form s (fact.Total i.map i.key) in
+    let e = c.in_err-learn-in-Total.field-0.0 in
+    let q = err_from_is_err_and c.from_residual-in_err-learn-in-Total.result c.from_residual-in_err-learn-in-Total.ensures.1 in
+    step_err c.from_residual-in_err-learn-in-Total.result e (block_fault (facts_in s xs) (then_of s c.args.step.now rest))
+    (block_fault (facts_in c.learn-in-Total.new.terms c.learn-in-Total.new.branch) rest) (after rest) (cc)
+    (fact_stops s xs c.args.step.now (StepKind-F.Total i.map i.key i.name) rest (fitting (with_fact (facts_in s xs) i.name f)) e
+    (i.is ∙ sym (rolls-Total i.map i.key i.name)) refl c.in_err-learn-in-Total.ensures.leaves))
+
+pub check_step-returns-in_ok-learn-in-Total-clause-seen : goal.check_step-returns-in_ok-learn-in-Total-clause-seen
+check_step-returns-in_ok-learn-in-Total-clause-seen t c =
+    seen_grows c.args.terms.now c.learn-in-Total.new.terms c.args.branch.now c.learn-in-Total.new.branch c.args.seen.now
+    c.learn-in-Total.ensures.keeps c.requires.branch c.in_ok-learn-in-Total.ensures.begins c.requires.seen
+
+pub check_step-learn-requires-in-Cong-clause-fact : goal.check_step-learn-requires-in-Cong-clause-fact
+check_step-learn-requires-in-Cong-clause-fact t c =
+    let i = c.in-Cong in
+    cong_ids c.args.terms.now c.args.step.now c.requires.step i.map i.left i.right i.name (i.is ∙ sym (rolls-Cong i.map i.left i.right i.name))
+
+pub check_step-returns-in_err-learn-in-Cong-clause-exact : goal.check_step-returns-in_err-learn-in-Cong-clause-exact
+check_step-returns-in_err-learn-in-Cong-clause-exact t c = λ rest.
+    (let s = c.args.terms.now in
+    let xs = c.args.branch.now in
+    let i = c.in-Cong in
+    let f = map_form s (fact.Cong i.map i.left i.right) in
+    let e = c.in_err-learn-in-Cong.field-0.0 in
+    let q = err_from_is_err_and c.from_residual-in_err-learn-in-Cong.result c.from_residual-in_err-learn-in-Cong.ensures.1 in
+    step_err c.from_residual-in_err-learn-in-Cong.result e (block_fault (facts_in s xs) (then_of s c.args.step.now rest))
+    (block_fault (facts_in c.learn-in-Cong.new.terms c.learn-in-Cong.new.branch) rest) (after rest) (cc)
+    (fact_stops s xs c.args.step.now (StepKind-F.Cong i.map i.left i.right i.name) rest (fitting (with_fact (facts_in s xs) i.name f)) e
+    (i.is ∙ sym (rolls-Cong i.map i.left i.right i.name)) refl c.in_err-learn-in-Cong.ensures.leaves))
+
+pub check_step-returns-in_ok-learn-in-Cong-clause-seen : goal.check_step-returns-in_ok-learn-in-Cong-clause-seen
+check_step-returns-in_ok-learn-in-Cong-clause-seen t c =
+    seen_grows c.args.terms.now c.learn-in-Cong.new.terms c.args.branch.now c.learn-in-Cong.new.branch c.args.seen.now
+    c.learn-in-Cong.ensures.keeps c.requires.branch c.in_ok-learn-in-Cong.ensures.begins c.requires.seen

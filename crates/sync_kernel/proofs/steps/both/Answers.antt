@@ -1,7 +1,7 @@
 use Rattle.std.proofs.Common.{◌≡◌, true, false, refl, sym, ◌∙◌}
 use Rattle.std.specs.Prelude.{not, nat_lt}
 use Rattle.sync_base.specs.declared.stops.Rule.TheVariants.{K8}
-use Rattle.sync_terms.specs.Kept.{limit}
+use Rattle.sync_terms.specs.Trees.{most_nodes}
 use Rattle.sync_kernel.specs.declared.splits.Pair.{Pair}
 use Rattle.sync_kernel.specs.Facts.{facts_size}
 use Rattle.sync_kernel.specs.Branches.{facts_in}
@@ -32,6 +32,6 @@ returns-else-fits-clause-leaves c = λ name.
       | else-fits-via-then-fits+else-fits-2 w ↦ both_if (facts_in s xs) name forms true false
           (fits_with s xs name c.size.result forms.left true c.requires.branch c.size.ensures.size (sym w.if-fits.true ∙ c.fits.ensures))
           (fits_with s xs name w.size-then-fits.result forms.right false c.requires.branch w.size-then-fits.ensures.size (sym w.if-fits-2.false ∙ w.fits-then-fits.ensures))
-      | else-fits-via-else-fits w ↦ both_if (facts_in s xs) name forms false (not (nat_lt limit (facts_size (with_fact (facts_in s xs) name forms.right))))
+      | else-fits-via-else-fits w ↦ both_if (facts_in s xs) name forms false (not (nat_lt most_nodes (facts_size (with_fact (facts_in s xs) name forms.right))))
           (fits_with s xs name c.size.result forms.left false c.requires.branch c.size.ensures.size (sym w.if-fits.false ∙ c.fits.ensures)) refl
     ]))

@@ -3,7 +3,7 @@ use Rattle.std.specs.List.{All, zip}
 use Rattle.sync_base.specs.declared.stops.Rule.TheVariants.{K1, K3}
 use Rattle.sync_terms.specs.declared.nodes.Sym.{Sym}
 use Rattle.sync_terms.specs.declared.nodes.TermId.{TermId}
-use Rattle.sync_terms.specs.Kept.{limit}
+use Rattle.sync_terms.specs.Trees.{most_nodes}
 use Rattle.sync_terms.specs.Trees.{formula_size, replaced_in}
 use Rattle.sync_terms.specs.Stored.{tree, formula, IsTerm}
 use Rattle.sync_terms.specs.Substitution.{substitution}
@@ -53,4 +53,4 @@ returns-clause-makes c =
     let pairs = c.as_slice.ensures.value ∙ c.in_ok-pairs.ensures ∙ ap (λ (ps : List Sym). zip ps c.args.list.now) c.as_slice-params.ensures in
     instance_stops s c.subst.new.self c.args.line x c.args.list.now (instance (newest c.args.hyp (facts_in s c.args.branch.now)) (map (tree s) c.args.list.now))
     (instance_is s c.args.branch.now c.args.hyp c.args.list.now x (sym c.in-Some.ensures) same) c.in-Err.stop c.too_large.result c.too_large.ensures
-    (λ e. subst (λ (ps : List (Sym × TermId)). limit < formula_size (replaced_in (substitution s ps) (formula s x.says.form))) pairs (c.in-Err.ensures.too_large (ap Err e)))
+    (λ e. subst (λ (ps : List (Sym × TermId)). most_nodes < formula_size (replaced_in (substitution s ps) (formula s x.says.form))) pairs (c.in-Err.ensures.too_large (ap Err e)))

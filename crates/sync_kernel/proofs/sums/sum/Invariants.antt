@@ -1,6 +1,6 @@
 use Rattle.std.proofs.Common.{drop}
 use Rattle.std.specs.HashMap.{get}
-use Rattle.sync_kernel.specs.Kept.{AreLines}
+use Rattle.sync_kernel.specs.SumLines.{AreLines}
 use Rattle.sync_kernel.specs.Literals.{same_literal}
 use Rattle.sync_kernel.specs.Branches.{facts_in}
 use Rattle.sync_kernel.proofs.Parts.{Summing}

@@ -3,7 +3,7 @@ use Rattle.sync_terms.proofs.Extending.{Extends-trans}
 use Rattle.sync_terms.specs.Trees.{And, Or, Imp}
 use Rattle.sync_kernel_facts.specs.Drafts.{connectives, joined, draft_formula, IsDraft}
 use Rattle.sync_kernel_facts.proofs.Drafting.{draft-stays, IsDraft-stays, left_joined, right_joined, within_not}
-use Rattle.sync_kernel_facts.proofs.Making.{BuildsForm-form, BuildsForm-by, BuildsForm-same, HasForm-same, both_forms}
+use Rattle.sync_terms.proofs.BuildingLemmas.{BuildsForm-form, BuildsForm-by, BuildsForm-same, HasForm-same, both_forms}
 use Rattle.sync_kernel_facts.proofs.drafts.+formula.Goals as goal
 
 pub returns-in_err-inner-in-Not-clause-built : goal.returns-in_err-inner-in-Not-clause-built

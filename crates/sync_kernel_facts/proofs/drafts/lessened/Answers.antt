@@ -2,7 +2,7 @@ use Rattle.std.proofs.Common.{arith}
 use Rattle.sync_terms.proofs.Extending.{Extends-trans}
 use Rattle.sync_terms.specs.Trees.{tree_size}
 use Rattle.sync_kernel_facts.proofs.Drafting.{part-stays, IsPart-stays}
-use Rattle.sync_kernel_facts.proofs.Making.{BuildsTerm-term, BuildsTerm-same}
+use Rattle.sync_terms.proofs.BuildingLemmas.{BuildsTerm-term, BuildsTerm-same}
 use Rattle.sync_kernel_facts.proofs.drafts.lessened.Goals as goal
 
 pub returns-in_err-left-clause-built : goal.returns-in_err-left-clause-built

@@ -2,7 +2,7 @@ use Rattle.std.proofs.Common.{subst, ap}
 use Rattle.sync_terms.proofs.Extending.{Extends-trans}
 use Rattle.sync_kernel_facts.specs.Drafts.{value_tree, IsValue}
 use Rattle.sync_kernel_facts.proofs.Drafting.{IsPart-stays, left_less}
-use Rattle.sync_kernel_facts.proofs.Making.{BuildsTerm-by, BuildsTerm-term}
+use Rattle.sync_terms.proofs.BuildingLemmas.{BuildsTerm-by, BuildsTerm-term}
 use Rattle.sync_kernel_facts.proofs.drafts.number.Goals as goal
 
 pub returns-in_err-more-in-PlusMinus-clause-built : goal.returns-in_err-more-in-PlusMinus-clause-built

@@ -3,7 +3,7 @@ use Rattle.sync_terms.proofs.Extending.{Extends-trans}
 use Rattle.sync_terms.specs.Trees.{Le, Lt, Eq}
 use Rattle.sync_kernel_facts.specs.Drafts.{value_tree, compared}
 use Rattle.sync_kernel_facts.proofs.Drafting.{value-stays, IsValue-stays, left_compared, right_compared}
-use Rattle.sync_kernel_facts.proofs.Making.{BuildsForm-term, BuildsForm-by, BuildsForm-same, BuildsTerm-same, HasTerm-same, both_terms}
+use Rattle.sync_terms.proofs.BuildingLemmas.{BuildsForm-term, BuildsForm-by, BuildsForm-same, BuildsTerm-same, HasTerm-same, both_terms}
 use Rattle.sync_kernel_facts.proofs.drafts.test.Goals as goal
 
 pub returns-in_err-left-clause-built : goal.returns-in_err-left-clause-built

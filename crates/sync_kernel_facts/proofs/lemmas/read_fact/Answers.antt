@@ -1,5 +1,5 @@
 use Rattle.std.proofs.Common.{sym, ◌∙◌}
-use Rattle.sync_kernel_facts.proofs.Making.{shape-node, BuildsForm-same}
+use Rattle.sync_terms.proofs.BuildingLemmas.{shape-node, BuildsForm-same}
 use Rattle.sync_kernel_facts.proofs.Origins.{read-nil, read-put, read-del, read-bump, read-any, plain}
 use Rattle.sync_kernel_facts.proofs.lemmas.read_fact.Goals as goal
 

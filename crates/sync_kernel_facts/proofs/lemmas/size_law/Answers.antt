@@ -1,5 +1,5 @@
 use Rattle.std.proofs.Common.{sym, ◌∙◌}
-use Rattle.sync_kernel_facts.proofs.Making.{shape-node}
+use Rattle.sync_terms.proofs.BuildingLemmas.{shape-node}
 use Rattle.sync_kernel_facts.proofs.Origins.{size-nil, size-put, size-del, size-bump, size-any, plain}
 use Rattle.sync_kernel_facts.proofs.lemmas.size_law.Goals as goal
 

@@ -1,5 +1,5 @@
 use Rattle.std.proofs.Common.{sym, ◌∙◌}
-use Rattle.sync_kernel_facts.proofs.Making.{shape-node}
+use Rattle.sync_terms.proofs.BuildingLemmas.{shape-node}
 use Rattle.sync_kernel_facts.proofs.Origins.{sum-nil, sum-put, sum-del, sum-bump, sum-any, plain}
 use Rattle.sync_kernel_facts.proofs.lemmas.sum_law.Goals as goal
 

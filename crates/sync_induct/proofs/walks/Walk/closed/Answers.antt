@@ -1,6 +1,6 @@
 use Rattle.std.proofs.Common.{◌<◌, subst}
 use Rattle.std.proofs.lemmas.List.Elements.{All-from_recursion}
-use Rattle.sync_terms.specs.Kept.{limit}
+use Rattle.sync_terms.specs.Trees.{most_nodes}
 use Rattle.sync_terms.specs.Trees.{Formula, formula_size}
 use Rattle.sync_terms.specs.Stored.{IsTerm}
 use Rattle.sync_terms.specs.declared.nodes.Sym.{Sym}
@@ -32,7 +32,7 @@ returns-clause-too_large c = λ large.
     let t = c.add_dollars.new.terms in
     let pairs = all-pairs s t c.args.self.now.current.items c.as_slice.result.now c.in_ok-pairs.pairs.items c.add_dollars.new.pairs.items c.as_slice-3.result.now c.args.invariant.now.params c.as_slice-2.result.now
     c.requires.walk.values c.in_ok-pairs.ensures c.as_slice.ensures.value c.in_ok-add_dollars.ensures.pairs c.as_slice-2.ensures c.as_slice-3.ensures.value in
-    subst (λ (f : Formula). limit < formula_size f)
+    subst (λ (f : Formula). most_nodes < formula_size f)
     (closes s t c.as_slice-3.result.now (values_of s c.args.self.now) c.args.invariant.now c.in_ok-add_dollars.ensures.keeps c.requires.invariant.form pairs)
     (c.subst.ensures.too_large large)
 

@@ -19,8 +19,8 @@ loop-j-init c =
     let s = c.args.terms.now in
     record { keeps = Extends-refl s; come = stands s s (Extends-refl s) c.args.self.now c.requires.walk; left = remains-whole (proofs_in c.args.terms.now c.args.book.proofs.now) _ }
 
-pub keep_one-requires-clause-scripts : goal.keep_one-requires-clause-scripts
-keep_one-requires-clause-scripts c = scripts-stay c.args.terms.now c.loop-j.terms c.loop-j.invariant.keeps c.args.book.proofs.now c.requires.scripts
+pub keep_one-requires-clause-book : goal.keep_one-requires-clause-book
+keep_one-requires-clause-book c = record { scripts = scripts-stay c.args.terms.now c.loop-j.terms c.loop-j.invariant.keeps c.args.book.proofs.now c.requires.book.scripts; placed = c.requires.book.placed }
 
 pub returns-in_err-keep_one-clause-exact : goal.returns-in_err-keep_one-clause-exact
 returns-in_err-keep_one-clause-exact c =
@@ -36,7 +36,7 @@ returns-in_err-keep_one-clause-exact c =
     let wanted = wanted-is s o c.args.op (known_of s w) (values_of s w) xs j x lt is (contains same_title c.args.book.wanted.now) c.in_ok-place_number.field-0 c.new.result c.contains.result true c.requires.wanted n c.new.ensures c.contains.ensures c.if-contains.true in
     let h = keeping-refused s c.loop-j.terms w c.loop-j.self o c.args.op xs (proofs_in c.args.terms.now c.args.book.proofs.now) j c.in_ok-place_number.field-0 x lt is n c.requires.invariants c.loop-j.invariant
     (Unit {0}) (Unit {0}) c.in_err-keep_one.field-0.0 wanted
-    (duty-over s c.loop-j.terms c.loop-j.invariant.keeps c.args.book.proofs.now c.requires.scripts {A = Unit {0}} (Err c.in_err-keep_one.field-0.0)
+    (duty-over s c.loop-j.terms c.loop-j.invariant.keeps c.args.book.proofs.now c.requires.book.scripts {A = Unit {0}} (Err c.in_err-keep_one.field-0.0)
     (kept_duty (record { op = c.args.op; claim = claims.Keeps c.in_ok-place_number.field-0; line = o.line }) (known_of c.loop-j.terms c.loop-j.self) (values_of c.loop-j.terms c.loop-j.self) (invariant_tree c.loop-j.terms x)) c.in_err-keep_one.ensures.exact) in
     search rules
 
@@ -62,7 +62,7 @@ loop-j-preserved c =
       | then-contains+in_ok-keep_one b ↦
           let e = b.in_ok-keep_one.ensures in
           same-keeping s b.keep_one.new.terms c.if-contains.terms w b.keep_one.new.self c.if-contains.self o c.args.op xs ps (j + 1) b.terms-is b.self-is
-          (keeping-passes s t w v o c.args.op xs ps j c.in_ok-place_number.field-0 x lt is n c.requires.invariants c.loop-j.invariant b.keep_one.new.terms b.keep_one.new.self (wanted true b.if-contains.true) e.keeps e.come (duty-none_over s t c.loop-j.invariant.keeps c.args.book.proofs.now c.requires.scripts
+          (keeping-passes s t w v o c.args.op xs ps j c.in_ok-place_number.field-0 x lt is n c.requires.invariants c.loop-j.invariant b.keep_one.new.terms b.keep_one.new.self (wanted true b.if-contains.true) e.keeps e.come (duty-none_over s t c.loop-j.invariant.keeps c.args.book.proofs.now c.requires.book.scripts
           (kept_duty (record { op = c.args.op; claim = claims.Keeps c.in_ok-place_number.field-0; line = o.line }) (known_of c.loop-j.terms c.loop-j.self) (values_of c.loop-j.terms c.loop-j.self) (invariant_tree c.loop-j.terms x)) e.exact) e.proved)
       | else-contains b ↦
           same-keeping s t c.if-contains.terms w v c.if-contains.self o c.args.op xs ps (j + 1) b.terms-is b.self-is

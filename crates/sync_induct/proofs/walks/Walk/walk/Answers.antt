@@ -20,8 +20,8 @@ pass-requires-clause-ids c =
     let d : Step = record { act = stored.Init 0 (record { 0 = 0 }); line = 0 } in
     act-ids s c.loop-i.terms c.loop-i.invariant.keeps _ (All-get_or (λ (x : Step). HasActIds s x.act) xs c.loop-i.i d c.loop-i-test.true c.requires.ids)
 
-pub pass-requires-clause-scripts : goal.pass-requires-clause-scripts
-pass-requires-clause-scripts c = scripts-stay c.args.terms.now c.loop-i.terms c.loop-i.invariant.keeps c.args.book.proofs.now c.requires.scripts
+pub pass-requires-clause-book : goal.pass-requires-clause-book
+pass-requires-clause-book c = record { scripts = scripts-stay c.args.terms.now c.loop-i.terms c.loop-i.invariant.keeps c.args.book.proofs.now c.requires.book.scripts; placed = c.requires.book.placed }
 
 pub loop-i-preserved : goal.loop-i-preserved
 loop-i-preserved c =
@@ -35,7 +35,7 @@ loop-i-preserved c =
       stands = e.come.walk;
       continues = step-passed s c.loop-i.terms c.loop-i.invariant.keeps c.args.fields.now c.args.op (proofs_in c.args.terms.now c.args.book.proofs.now) (place_at s s xs 0 c.args.self.now) xs i d c.loop-i.self c.in_ok-number.number
           c.loop-i-test.true c.in_ok-number.ensures (All-get_or (λ (x : Step). HasActIds s x.act) xs i d c.loop-i-test.true c.requires.ids) c.loop-i.invariant.continues
-          c.pass.new.terms c.pass.new.self e.come (none-over s c.loop-i.terms c.loop-i.invariant.keeps c.args.book.proofs.now c.requires.scripts _ e.exact) e.shown;
+          c.pass.new.terms c.pass.new.self e.come (none-over s c.loop-i.terms c.loop-i.invariant.keeps c.args.book.proofs.now c.requires.book.scripts _ e.exact) e.shown;
     }
 
 pub returns-in_err-pass-clause-exact : goal.returns-in_err-pass-clause-exact
@@ -47,7 +47,7 @@ returns-in_err-pass-clause-exact c =
     let h = step-refused s c.loop-i.terms c.loop-i.invariant.keeps c.args.fields.now c.args.op (proofs_in c.args.terms.now c.args.book.proofs.now) (place_at s s xs 0 c.args.self.now) xs i d c.loop-i.self c.in_ok-number.number
     c.loop-i-test.true c.in_ok-number.ensures (All-get_or (λ (x : Step). HasActIds s x.act) xs i d c.loop-i-test.true c.requires.ids) c.loop-i.invariant.continues
     (Unit {0}) (Unit {0}) c.in_err-pass.field-0.0
-    (checks-over s c.loop-i.terms c.loop-i.invariant.keeps c.args.book.proofs.now c.requires.scripts {A = Unit {0}} (Err c.in_err-pass.field-0.0) _ c.in_err-pass.ensures.exact) in
+    (checks-over s c.loop-i.terms c.loop-i.invariant.keeps c.args.book.proofs.now c.requires.book.scripts {A = Unit {0}} (Err c.in_err-pass.field-0.0) _ c.in_err-pass.ensures.exact) in
     search rules
 
 pub returns-in_err-pass-clause-keeps : goal.returns-in_err-pass-clause-keeps

@@ -2,7 +2,7 @@ use Rattle.std.proofs.Common.{◌≡◌, ◌<◌, length, Err, sym, ap, subst, a
 use Rattle.std.proofs.lemmas.List.{length_push, nil_from_length}
 use Rattle.sync_terms.specs.declared.store.TermStop.TheVariants.{TooLarge}
 use Rattle.sync_terms.specs.declared.subst.Part.TheVariants as part
-use Rattle.sync_terms.specs.Kept.{limit}
+use Rattle.sync_terms.specs.Trees.{most_nodes}
 use Rattle.sync_terms.specs.Replacing.{InRange, new_size, Steps}
 use Rattle.sync_terms.proofs.Extending.{Extends-trans}
 use Rattle.sync_terms.proofs.Walking.{IsWay, work, work-down, work-up, IsWay-start, OnWay-last, IsWay-push, IsWay-pop, way-end, formula-end, fits-end}
@@ -20,7 +20,7 @@ returns-in-Err-clause-too_large c = λ e.
     let l = c.loop-first in
     let stop : c.in-Err.stop ≡ TooLarge = cc in
     let large = c.in-Err.ensures.too_large (ap (λ x. Err x) stop) in
-    let here : limit < new_size _ l.self l.part = subst (λ f. limit < new_size f l.self l.part) l.invariant.same large in
+    let here : most_nodes < new_size _ l.self l.part = subst (λ f. most_nodes < new_size f l.self l.part) l.invariant.same large in
     let on = OnWay-last _ _ _ l.self l.done l.above.items l.part l.invariant in
     omega (arith, on.smaller, here)
 

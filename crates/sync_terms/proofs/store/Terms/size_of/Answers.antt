@@ -2,7 +2,7 @@ use Rattle.std.proofs.Common.{◌≡◌, ◌<◌, ◌≤◌, length, sym, ◌∙
 use Rattle.std.proofs.lemmas.List.{get_or_read}
 use Rattle.sync_terms.specs.Stored.{IsForm, formula}
 use Rattle.sync_terms.specs.Trees.{formula_size}
-use Rattle.sync_terms.specs.Kept.{limit}
+use Rattle.sync_terms.specs.Trees.{most_nodes}
 use Rattle.sync_terms.proofs.Reading.{size-form, size-form-le, length-form_sizes, formula_size-some}
 use Rattle.sync_terms.proofs.store.Terms.size_of.Goals as goal
 
@@ -28,5 +28,5 @@ returns-clause-some c = subst (λ n. 1 ≤ n) (sym (read c)) (formula_size-some 
 pub returns-clause-bound : goal.returns-clause-bound
 returns-clause-bound c =
     let here = subst (λ s. IsForm s c.args.id) (sym c.self.view_is) c.requires in
-    let bound = subst (λ s. formula_size (formula s c.args.id) ≤ limit) c.self.view_is (size-form-le _ _ _ c.self.invariant c.args.id here) in
-    subst (λ n. n ≤ limit) (sym (read c)) bound
+    let bound = subst (λ s. formula_size (formula s c.args.id) ≤ most_nodes) c.self.view_is (size-form-le _ _ _ c.self.invariant c.args.id here) in
+    subst (λ n. n ≤ most_nodes) (sym (read c)) bound

@@ -1,6 +1,6 @@
 use Rattle.std.proofs.Common.{◌≡◌, ◌<◌, ◌≤◌, Err, refl, ap, ◌∙◌, subst}
 use Rattle.sync_terms.specs.declared.store.TermStop.TheVariants.{TooLarge}
-use Rattle.sync_terms.specs.Kept.{limit}
+use Rattle.sync_terms.specs.Trees.{most_nodes}
 use Rattle.sync_terms.specs.Replacing.{new_size}
 use Rattle.sync_terms.specs.Stored.{form_shape}
 use Rattle.sync_terms.specs.Trees.{formula_size}
@@ -22,12 +22,12 @@ unfolding new_size
 returns-in-Err-clause-too_large c e =
     let stop : c.in-Err.stop ≡ TooLarge = cc in
     let made = renamed-form-is c.args.self.now c.args.done.now c.requires.done c.args.id c.form-node.result c.renamed_form.result c.renamed_form.ensures c.in_default.ensures.none c.form-node.ensures.value in
-    subst (λ t. limit < formula_size t) made.1 (c.in-Err.ensures.too_large.0 (ap (λ x. Err x) stop))
+    subst (λ t. most_nodes < formula_size t) made.1 (c.in-Err.ensures.too_large.0 (ap (λ x. Err x) stop))
 
 pub returns-clause-step : goal.returns-clause-step
 returns-clause-step c =
     let made = renamed-form-is c.args.self.now c.args.done.now c.requires.done c.args.id c.form-node.result c.renamed_form.result c.renamed_form.ensures c.in_default.ensures.none c.form-node.ensures.value in
     let new = c.in-Ok.ensures.id in
-    let large : limit < formula_size (form_shape c.args.self.now c.renamed_form.result) → ⊥ = λ h. ok_is_no_err c.in-Ok.new TooLarge (c.in-Ok.ensures.too_large.1 h) in
-    let fits = subst (λ t. formula_size t ≤ limit) made.1 (le_from_not large) in
+    let large : most_nodes < formula_size (form_shape c.args.self.now c.renamed_form.result) → ⊥ = λ h. ok_is_no_err c.in-Ok.new TooLarge (c.in-Ok.ensures.too_large.1 h) in
+    let fits = subst (λ t. formula_size t ≤ most_nodes) made.1 (le_from_not large) in
     Replaces-form c.args.self.now _ c.args.done.now c.requires.done c.in-Ok.ensures.keeps _ c.args.id c.in-Ok.new c.requires.form new.0 (new.1 ∙ made.1) fits refl refl c.in_default-insert.ensures.updates.0

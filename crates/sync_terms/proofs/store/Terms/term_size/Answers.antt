@@ -2,7 +2,7 @@ use Rattle.std.proofs.Common.{◌≡◌, ◌<◌, ◌≤◌, length, sym, ◌∙
 use Rattle.std.proofs.lemmas.List.{get_or_read}
 use Rattle.sync_terms.specs.Stored.{IsTerm, tree}
 use Rattle.sync_terms.specs.Trees.{tree_size}
-use Rattle.sync_terms.specs.Kept.{limit}
+use Rattle.sync_terms.specs.Trees.{most_nodes}
 use Rattle.sync_terms.proofs.Reading.{size-term, size-term-le, length-sizes, tree_size-some}
 use Rattle.sync_terms.proofs.store.Terms.term_size.Goals as goal
 
@@ -28,5 +28,5 @@ returns-clause-some c = subst (λ n. 1 ≤ n) (sym (read c)) (tree_size-some (tr
 pub returns-clause-bound : goal.returns-clause-bound
 returns-clause-bound c =
     let here = subst (λ s. IsTerm s c.args.id) (sym c.self.view_is) c.requires in
-    let bound = subst (λ s. tree_size (tree s c.args.id) ≤ limit) c.self.view_is (size-term-le _ _ _ c.self.invariant c.args.id here) in
-    subst (λ n. n ≤ limit) (sym (read c)) bound
+    let bound = subst (λ s. tree_size (tree s c.args.id) ≤ most_nodes) c.self.view_is (size-term-le _ _ _ c.self.invariant c.args.id here) in
+    subst (λ n. n ≤ most_nodes) (sym (read c)) bound

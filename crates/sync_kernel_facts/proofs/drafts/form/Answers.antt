@@ -1,5 +1,0 @@
-use Rattle.sync_kernel_facts.proofs.Making.{BuildsForm-added}
-use Rattle.sync_kernel_facts.proofs.drafts.form.Goals as goal
-
-pub returns-clause-built : goal.returns-clause-built
-returns-clause-built c = BuildsForm-added c.args.terms.now c.args.node c.add_form.result c.add_form.ensures.id c.add_form.ensures.too_large

@@ -1,5 +1,0 @@
-use Rattle.sync_kernel_facts.proofs.Making.{BuildsTerm-added}
-use Rattle.sync_kernel_facts.proofs.drafts.term.Goals as goal
-
-pub returns-clause-built : goal.returns-clause-built
-returns-clause-built c = BuildsTerm-added c.args.terms.now c.args.node c.add_term.result c.add_term.ensures.id c.add_term.ensures.too_large
