@@ -4,14 +4,14 @@ use Rattle.std.specs.Prelude.{FitsSigned}
 use Rattle.std.specs.Int.{w128}
 use Rattle.std.specs.Ordering.{int_eq}
 use Rattle.std.specs.List.{AllByRecursion, list_all, list_any}
-use Rattle.std.proofs.lemmas.Int.{ints}
-use borrow.Author.Differences.{up, down, product_is}
+use Rattle.std.proofs.Math.IntN.{+ℤ_idl, +ℤ_idr}
 use Rattle.std.proofs.lemmas.Bool.{and_parts, and_from, or_cases, or_left, or_right, or_parts, cases_Bool, cond-false, both_ways, ltb-true, lt-ltb}
 use Rattle.std.proofs.lemmas.Bool.Decides.{Decides-int_eq}
 use Rattle.sync_terms.specs.Trees.{Tree, Lit, Name, Add, Sub, Scale, Get, Has, Size, Sum, Nil, Put, Del, Bump}
 use Rattle.sync_terms.specs.Values.{Valuation, num}
 use Rattle.sync_linear.specs.Forms.{tree_eq, constant_of, weighed, one_at, coefficient_of, IsWithin, Narrow}
-use Rattle.sync_linear.proofs.Ring.{times_zero, times_one, distributes}
+use Rattle.sync_linear.proofs.Ring.{times_zero, times_one}
+use Rattle.sync_linear.proofs.Weighing.{plus, weighed_zero, value_is}
 use Rattle.sync_linear.proofs.Trees.{same_tree, tree_is, cases_tree, one_here, none_there}
 use Rattle.sync_kernel.specs.Rows.{atoms_of, fits, within, narrow, no_atom}
 
@@ -45,70 +45,6 @@ agree w v (Put m k n) h = refl
 agree w v (Del m k) h = refl
 agree w v (Bump m k n) h = refl
 
-pub weighed_zero : (t : Tree) → weighed (λ _. pos 0) t ≡ pos 0
-weighed_zero (Lit n) = refl
-weighed_zero (Name x) = refl
-weighed_zero (Add a b) = ap (λ (x : ℤ). x +ℤ weighed (λ _. pos 0) b) (weighed_zero a) ∙ ap (λ (x : ℤ). pos 0 +ℤ x) (weighed_zero b)
-weighed_zero (Sub a b) = ap (λ (x : ℤ). x -ℤ weighed (λ _. pos 0) b) (weighed_zero a) ∙ ap (λ (x : ℤ). pos 0 -ℤ x) (weighed_zero b)
-weighed_zero (Scale n a) = ap (λ (x : ℤ). n *ℤ x) (weighed_zero a) ∙ times_zero n
-weighed_zero (Get m k) = refl
-weighed_zero (Has m k) = refl
-weighed_zero (Size m) = refl
-weighed_zero (Sum m) = refl
-weighed_zero Nil = refl
-weighed_zero (Put m k n) = refl
-weighed_zero (Del m k) = refl
-weighed_zero (Bump m k n) = refl
-
-rearranged : (a b k m n : ℤ) → (a +ℤ (k *ℤ m)) +ℤ (b +ℤ (k *ℤ n)) ≡ (a +ℤ b) +ℤ (k *ℤ (m +ℤ n))
-rearranged a b k m n = omega (arith, ints, distributes k m n)
-
-taken : (a b k m n : ℤ) → (a +ℤ (k *ℤ m)) -ℤ (b +ℤ (k *ℤ n)) ≡ (a -ℤ b) +ℤ (k *ℤ (m -ℤ n))
-taken a b k m n = let back : (m -ℤ n) +ℤ n ≡ m = omega (arith, ints) in
-    omega (arith, ints, distributes k (m -ℤ n) n, ap (λ (z : ℤ). k *ℤ z) back)
-
--- products may be taken in another order
-swapped : (c k m : ℤ) → c *ℤ (k *ℤ m) ≡ k *ℤ (c *ℤ m)
-swapped c k m =
-    omega (
-      arith,
-      ints,
-      ap (λ (n : ℕ). up c * n) (product_is k m).0,
-      ap (λ (n : ℕ). down c * n) (product_is k m).0,
-      ap (λ (n : ℕ). up c * n) (product_is k m).1,
-      ap (λ (n : ℕ). down c * n) (product_is k m).1,
-      ap (λ (n : ℕ). up k * n) (product_is c m).0,
-      ap (λ (n : ℕ). down k * n) (product_is c m).0,
-      ap (λ (n : ℕ). up k * n) (product_is c m).1,
-      ap (λ (n : ℕ). down k * n) (product_is c m).1,
-    )
-
-scaled : (c a k m : ℤ) → c *ℤ (a +ℤ (k *ℤ m)) ≡ (c *ℤ a) +ℤ (k *ℤ (c *ℤ m))
-scaled c a k m = distributes c a (k *ℤ m) ∙ ap (λ (z : ℤ). (c *ℤ a) +ℤ z) (swapped c k m)
-
-nothing_more : (k : ℤ) → pos 0 ≡ pos 0 +ℤ (k *ℤ pos 0)
-nothing_more k = omega (arith, ints, times_zero k)
-
--- one more multiple of a weight
-plus : (k : ℤ) (w v : Tree → ℤ) (t : Tree) → weighed (λ x. w x +ℤ (k *ℤ v x)) t ≡ weighed w t +ℤ (k *ℤ weighed v t)
-plus k w v (Lit n) = nothing_more k
-plus k w v (Name x) = refl
-plus k w v (Add a b) =
-    ap (λ (x : ℤ). x +ℤ weighed (λ x. w x +ℤ (k *ℤ v x)) b) (plus k w v a) ∙ ap (λ (x : ℤ). (weighed w a +ℤ (k *ℤ weighed v a)) +ℤ x) (plus k w v b)
-    ∙ rearranged (weighed w a) (weighed w b) k (weighed v a) (weighed v b)
-plus k w v (Sub a b) =
-    ap (λ (x : ℤ). x -ℤ weighed (λ x. w x +ℤ (k *ℤ v x)) b) (plus k w v a) ∙ ap (λ (x : ℤ). (weighed w a +ℤ (k *ℤ weighed v a)) -ℤ x) (plus k w v b)
-    ∙ taken (weighed w a) (weighed w b) k (weighed v a) (weighed v b)
-plus k w v (Scale n a) = ap (λ (x : ℤ). n *ℤ x) (plus k w v a) ∙ scaled n (weighed w a) k (weighed v a)
-plus k w v (Get m j) = refl
-plus k w v (Has m j) = refl
-plus k w v (Size m) = refl
-plus k w v (Sum m) = refl
-plus k w v Nil = nothing_more k
-plus k w v (Put m j n) = nothing_more k
-plus k w v (Del m j) = nothing_more k
-plus k w v (Bump m j n) = nothing_more k
-
 -- ---- atoms in a list
 abbrev pub member : Tree → List Tree → Bool
 member x ts = list_any (λ a. tree_eq a x) ts
@@ -131,12 +67,6 @@ outside (a ∷ ts) w x h =
     ap (λ (z : ℤ). z +ℤ ((if member a ts then pos 0 else w a) *ℤ one_at a x)) (outside ts w x p.1)
     ∙ ap (λ (z : ℤ). pos 0 +ℤ ((if member a ts then pos 0 else w a) *ℤ z)) zero ∙ ap (λ (z : ℤ). pos 0 +ℤ z) (times_zero (if member a ts then pos 0 else w a))
 
-plus_zero : (x : ℤ) → pos 0 +ℤ x ≡ x
-plus_zero x = omega (arith, ints)
-
-zero_plus : (x : ℤ) → x +ℤ pos 0 ≡ x
-zero_plus x = omega (arith, ints)
-
 inside : (ts : List Tree) (w : Tree → ℤ) (x : Tree) → member x ts ≡ true → limited ts w x ≡ w x
 unfolding limited
 inside [] w x h = absurd (cc)
@@ -144,14 +74,14 @@ inside (a ∷ ts) w x h = elim (cases_tree a x) [
   | inl e ↦ (let here : one_at a x ≡ pos 1 = subst (λ (y : Tree). one_at a y ≡ pos 1) e (one_here a) in
       ap (λ (z : ℤ). limited ts w x +ℤ ((if member a ts then pos 0 else w a) *ℤ z)) here
       ∙ elim (cases_Bool (member a ts)) [
-        | inl m ↦ ap (λ (b : Bool). limited ts w x +ℤ ((if b then pos 0 else w a) *ℤ pos 1)) m ∙ zero_plus (limited ts w x) ∙ inside ts w x (subst (λ (y : Tree). member y ts ≡ true) e m)
+        | inl m ↦ ap (λ (b : Bool). limited ts w x +ℤ ((if b then pos 0 else w a) *ℤ pos 1)) m ∙ +ℤ_idr (limited ts w x) ∙ inside ts w x (subst (λ (y : Tree). member y ts ≡ true) e m)
         | inr m ↦ ap (λ (b : Bool). limited ts w x +ℤ ((if b then pos 0 else w a) *ℤ pos 1)) m
-            ∙ ap (λ (z : ℤ). z +ℤ (w a *ℤ pos 1)) (outside ts w x (subst (λ (y : Tree). member y ts ≡ false) e m)) ∙ plus_zero (w a *ℤ pos 1) ∙ times_one (w a) ∙ ap w e
+            ∙ ap (λ (z : ℤ). z +ℤ (w a *ℤ pos 1)) (outside ts w x (subst (λ (y : Tree). member y ts ≡ false) e m)) ∙ +ℤ_idl (w a *ℤ pos 1) ∙ times_one (w a) ∙ ap w e
       ])
   | inr ne ↦ (let zero = none_there a x ne in
       let m : member x ts ≡ true = elim (or_cases (tree_eq a x) (member x ts) h) [ inl e ↦ absurd (ne (same_tree a x e)) | inr m ↦ m ] in
       ap (λ (z : ℤ). limited ts w x +ℤ ((if member a ts then pos 0 else w a) *ℤ z)) zero
-      ∙ ap (λ (z : ℤ). limited ts w x +ℤ z) (times_zero (if member a ts then pos 0 else w a)) ∙ zero_plus (limited ts w x) ∙ inside ts w x m)
+      ∙ ap (λ (z : ℤ). limited ts w x +ℤ z) (times_zero (if member a ts then pos 0 else w a)) ∙ +ℤ_idr (limited ts w x) ∙ inside ts w x m)
 ]
 
 none_of : (ts : List Tree) (w : Tree → ℤ) (t : Tree) → AllByRecursion (λ a. coefficient_of a t ≡ pos 0) ts → weighed (limited ts w) t ≡ pos 0
@@ -260,20 +190,5 @@ no_atom_is t h w = nothing_weighed t w (coefficients t (atoms_of t) h)
 pub is_no_atom : (t : Tree) → ((a : Tree) → coefficient_of a t ≡ pos 0) → no_atom t ≡ true
 is_no_atom t h = all_from (λ a. int_eq (coefficient_of a t) (pos 0)) (atoms_of t) (λ a. (Decides-int_eq (coefficient_of a t) (pos 0)).1 (h a))
 
-pub value_is : (v : Valuation) (t : Tree) → num v t ≡ constant_of t +ℤ weighed (num v) t
-value_is v (Lit n) = sym (zero_plus n)
-value_is v (Name x) = sym (plus_zero (num v (Name x)))
-value_is v (Add a b) = omega (arith, ints, value_is v a, value_is v b)
-value_is v (Sub a b) = omega (arith, ints, value_is v a, value_is v b)
-value_is v (Scale n a) = ap (λ (z : ℤ). n *ℤ z) (value_is v a) ∙ distributes n (constant_of a) (weighed (num v) a)
-value_is v (Get m k) = sym (plus_zero (num v (Get m k)))
-value_is v (Has m k) = sym (plus_zero (num v (Has m k)))
-value_is v (Size m) = sym (plus_zero (num v (Size m)))
-value_is v (Sum m) = sym (plus_zero (num v (Sum m)))
-value_is v Nil = refl
-value_is v (Put m k n) = refl
-value_is v (Del m k) = refl
-value_is v (Bump m k n) = refl
-
 pub constant_value : (v : Valuation) (t : Tree) → no_atom t ≡ true → num v t ≡ constant_of t
-constant_value v t h = value_is v t ∙ ap (λ (z : ℤ). constant_of t +ℤ z) (no_atom_is t h (num v)) ∙ zero_plus (constant_of t)
+constant_value v t h = value_is v t ∙ ap (λ (z : ℤ). constant_of t +ℤ z) (no_atom_is t h (num v)) ∙ +ℤ_idr (constant_of t)

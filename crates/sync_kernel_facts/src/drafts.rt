@@ -1,8 +1,9 @@
 //! Numbers and formulas over terms of a store, before they are built in it.
-ghost use Rattle.sync_terms.specs.Stored.{Extends};
+ghost use Rattle.std.specs.Prelude.{◌≡◌};
+ghost use Rattle.sync_terms.specs.Stored.{Stored, tree, formula, Extends, HasParts, IsTerm, IsForm};
 ghost use Rattle.sync_terms.specs.Trees.{Add, Sub};
-ghost use Rattle.sync_terms.specs.Building.{BuildsTerm, BuildsForm};
-ghost use Rattle.sync_kernel_facts.specs.Drafts.{part_tree, IsPart, value_tree, IsValue, compared, draft_formula, IsDraft};
+ghost use Rattle.sync_terms.specs.Building.{BuildsTerm, BuildsForm, node_formula};
+ghost use Rattle.sync_kernel_facts.specs.Drafts.{part_tree, IsPart, value_tree, IsValue, compared, joined, draft_formula, IsDraft};
 
 use sync_terms::building::{form, stored_term, term};
 use sync_terms::{FormId, FormNode, Node, TermId, TermStop, Terms};
@@ -108,6 +109,30 @@ fn number(terms: &mut Terms, value: Value) -> Result<TermId, TermStop>
     }
 }
 
+/// The node of a comparison.
+fn test_node(relation: Relation, left: TermId, right: TermId) -> FormNode
+    ensures formula { (s : Stored) → node_formula s result ≡ compared relation (tree s left) (tree s right) }
+    ensures parts { (s : Stored) → IsTerm s left → IsTerm s right → HasParts s result }
+{
+    match relation {
+        Relation::AtMost => FormNode::Le(left, right),
+        Relation::Below => FormNode::Lt(left, right),
+        Relation::Equal => FormNode::Eq(left, right),
+    }
+}
+
+/// The node of two formulas that make one.
+fn join_node(connective: Connective, left: FormId, right: FormId) -> FormNode
+    ensures formula { (s : Stored) → node_formula s result ≡ joined connective (formula s left) (formula s right) }
+    ensures parts { (s : Stored) → IsForm s left → IsForm s right → HasParts s result }
+{
+    match connective {
+        Connective::And => FormNode::And(left, right),
+        Connective::Or => FormNode::Or(left, right),
+        Connective::Implies => FormNode::Imp(left, right),
+    }
+}
+
 /// Builds a comparison of two numbers.
 fn test(
     terms: &mut Terms,
@@ -122,11 +147,7 @@ fn test(
 {
     let left = number(terms, left)?;
     let right = number(terms, right)?;
-    match relation {
-        Relation::AtMost => form(terms, FormNode::Le(left, right)),
-        Relation::Below => form(terms, FormNode::Lt(left, right)),
-        Relation::Equal => form(terms, FormNode::Eq(left, right)),
-    }
+    form(terms, test_node(relation, left, right))
 }
 
 /// Builds a formula.
@@ -144,11 +165,7 @@ pub(crate) fn formula(terms: &mut Terms, draft: &Draft<'_>) -> Result<FormId, Te
         Draft::Join(connective, left, right) => {
             let left = formula(terms, left)?;
             let right = formula(terms, right)?;
-            match connective {
-                Connective::And => form(terms, FormNode::And(left, right)),
-                Connective::Or => form(terms, FormNode::Or(left, right)),
-                Connective::Implies => form(terms, FormNode::Imp(left, right)),
-            }
+            form(terms, join_node(*connective, left, right))
         }
     }
 }

@@ -8,3 +8,5 @@ pub mod AtomLines
 pub mod Scaling
 pub mod Multiples
 pub mod Spines
+pub mod Weighing
+pub mod Worths

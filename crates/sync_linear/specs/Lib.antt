@@ -4,3 +4,4 @@ pub mod Leaves
 pub mod Forms
 pub mod Stores
 pub mod Parts
+pub mod Worth

@@ -3,11 +3,13 @@
 
 mod atoms;
 mod changes;
+mod laws;
 mod leaves;
 mod lines;
 mod stops;
 mod terms;
 
 pub use changes::Change;
+pub use laws::lines_are_worth;
 pub use lines::Linear;
 pub use stops::LinearStop;

@@ -1,6 +1,5 @@
 use Rattle.std.proofs.Common.{subst, ap, ◌∙◌, arith}
 use Rattle.sync_terms.proofs.Extending.{Extends-trans}
-use Rattle.sync_terms.specs.Trees.{And, Or, Imp}
 use Rattle.sync_kernel_facts.specs.Drafts.{connectives, joined, draft_formula, IsDraft}
 use Rattle.sync_kernel_facts.proofs.Drafting.{draft-stays, IsDraft-stays, left_joined, right_joined, within_not}
 use Rattle.sync_terms.proofs.BuildingLemmas.{BuildsForm-form, BuildsForm-by, BuildsForm-same, HasForm-same, both_forms}
@@ -36,32 +35,19 @@ returns-in_err-right-in-Join-clause-keeps t c = Extends-trans c.formula-in-Join.
 pub returns-in_ok-inner-in-Not-clause-keeps : goal.returns-in_ok-inner-in-Not-clause-keeps
 returns-in_ok-inner-in-Not-clause-keeps t c = Extends-trans c.formula.ensures.keeps c.form.ensures.keeps
 
-pub returns-in-And-clause-built : goal.returns-in-And-clause-built
-returns-in-And-clause-built t c =
-    BuildsForm-by (ap (draft_formula c.args.terms.now) c.in-Join.is ∙ ap (λ k. joined k (draft_formula c.args.terms.now c.in-Join.left.now) (draft_formula c.args.terms.now c.in-Join.right.now)) c.in-And.is)
-    (BuildsForm-same c.form-in-And.ensures.built
-    (both_forms And c.in_ok-left-in-Join.ensures.built.value c.formula-in-Join-2.ensures.keeps
-    (HasForm-same c.in_ok-right-in-Join.ensures.built.value (draft-stays c.formula-in-Join.ensures.keeps c.in-Join.right.now (subst (IsDraft c.args.terms.now) c.in-Join.is c.requires).1))))
+pub form-requires-in-Join : goal.form-requires-in-Join
+form-requires-in-Join t c =
+    c.join_node.ensures.parts _ (c.formula-in-Join-2.ensures.keeps.forms _ c.in_ok-left-in-Join.ensures.built.value.stored).0
+    c.in_ok-right-in-Join.ensures.built.value.stored
 
-pub returns-in-And-clause-keeps : goal.returns-in-And-clause-keeps
-returns-in-And-clause-keeps t c = Extends-trans c.formula-in-Join.ensures.keeps (Extends-trans c.formula-in-Join-2.ensures.keeps c.form-in-And.ensures.keeps)
+pub returns-in_ok-right-in-Join-clause-built : goal.returns-in_ok-right-in-Join-clause-built
+returns-in_ok-right-in-Join-clause-built t c =
+    BuildsForm-by (ap (draft_formula c.args.terms.now) c.in-Join.is)
+    (BuildsForm-same c.form-in-Join.ensures.built
+    (c.join_node.ensures.formula _
+    ∙ both_forms (joined c.in-Join.connective) c.in_ok-left-in-Join.ensures.built.value c.formula-in-Join-2.ensures.keeps
+    (HasForm-same c.in_ok-right-in-Join.ensures.built.value
+    (draft-stays c.formula-in-Join.ensures.keeps c.in-Join.right.now (subst (IsDraft c.args.terms.now) c.in-Join.is c.requires).1))))
 
-pub returns-in-Or-clause-built : goal.returns-in-Or-clause-built
-returns-in-Or-clause-built t c =
-    BuildsForm-by (ap (draft_formula c.args.terms.now) c.in-Join.is ∙ ap (λ k. joined k (draft_formula c.args.terms.now c.in-Join.left.now) (draft_formula c.args.terms.now c.in-Join.right.now)) c.in-Or.is)
-    (BuildsForm-same c.form-in-Or.ensures.built
-    (both_forms Or c.in_ok-left-in-Join.ensures.built.value c.formula-in-Join-2.ensures.keeps
-    (HasForm-same c.in_ok-right-in-Join.ensures.built.value (draft-stays c.formula-in-Join.ensures.keeps c.in-Join.right.now (subst (IsDraft c.args.terms.now) c.in-Join.is c.requires).1))))
-
-pub returns-in-Or-clause-keeps : goal.returns-in-Or-clause-keeps
-returns-in-Or-clause-keeps t c = Extends-trans c.formula-in-Join.ensures.keeps (Extends-trans c.formula-in-Join-2.ensures.keeps c.form-in-Or.ensures.keeps)
-
-pub returns-in-Implies-clause-built : goal.returns-in-Implies-clause-built
-returns-in-Implies-clause-built t c =
-    BuildsForm-by (ap (draft_formula c.args.terms.now) c.in-Join.is ∙ ap (λ k. joined k (draft_formula c.args.terms.now c.in-Join.left.now) (draft_formula c.args.terms.now c.in-Join.right.now)) c.in-Implies.is)
-    (BuildsForm-same c.form-in-Implies.ensures.built
-    (both_forms Imp c.in_ok-left-in-Join.ensures.built.value c.formula-in-Join-2.ensures.keeps
-    (HasForm-same c.in_ok-right-in-Join.ensures.built.value (draft-stays c.formula-in-Join.ensures.keeps c.in-Join.right.now (subst (IsDraft c.args.terms.now) c.in-Join.is c.requires).1))))
-
-pub returns-in-Implies-clause-keeps : goal.returns-in-Implies-clause-keeps
-returns-in-Implies-clause-keeps t c = Extends-trans c.formula-in-Join.ensures.keeps (Extends-trans c.formula-in-Join-2.ensures.keeps c.form-in-Implies.ensures.keeps)
+pub returns-in_ok-right-in-Join-clause-keeps : goal.returns-in_ok-right-in-Join-clause-keeps
+returns-in_ok-right-in-Join-clause-keeps t c = Extends-trans c.formula-in-Join.ensures.keeps (Extends-trans c.formula-in-Join-2.ensures.keeps c.form-in-Join.ensures.keeps)
