@@ -7,17 +7,12 @@ use Rattle.sync_terms.specs.Trees.{Tree}
 use Rattle.sync_terms.specs.declared.nodes.TermId.{TermId}
 use Rattle.sync_terms.specs.Stored.{Stored, tree, IsTerm, IsForm, Extends}
 use Rattle.sync_terms.proofs.Extending.{Extends-trans}
-use Rattle.sync_machine.specs.declared.machine.Pattern.{Pattern}
-use Rattle.sync_machine.specs.declared.machine.Pattern.TheVariants as patterns
-use Rattle.sync_machine.specs.declared.machine.Place.{Place}
-use Rattle.sync_machine.specs.declared.machine.Act.{Act}
-use Rattle.sync_machine.specs.declared.machine.Act.TheVariants.{Init, Require, Assert, Update, HaveVariable, Add, Remove, Have, Deposit, Withdraw, Guard}
 use Rattle.sync_machine.specs.declared.machine.Step.{Step}
 use Rattle.sync_machine.specs.declared.machine.Invariant.{Invariant}
 use Rattle.sync_machine.specs.Machines.{ActTree, StepTree}
-use Rattle.sync_machine.specs.Machines as trees
 use Rattle.sync_machine.specs.declared.machine.Operation.{Operation}
-use Rattle.sync_machine.specs.Views.{invariant_tree, operation_tree, symbols_of, key_tree, pattern_tree, place_tree, act_tree, step_tree, steps_tree, HasKeyId, HasPatternId, HasPlaceIds, HasActIds}
+use Rattle.sync_machine.specs.Views.{invariant_tree, operation_tree, symbols_of, step_tree, steps_tree, HasActIds}
+use Rattle.sync_induct_acts.proofs.Lasting.{act-stays}
 use Rattle.sync_kernel.specs.Facts.{Fact}
 use Rattle.sync_kernel.specs.Hypotheses.{AreReady, known_in}
 use Rattle.sync_kernel.proofs.Assuming.{AreReady-more, known_in-more}
@@ -26,55 +21,8 @@ use Rattle.sync_induct.specs.Closing.{IsKeepable}
 use Rattle.sync_induct.specs.Walks.{values_of, known_of, IsWalk, HasCome}
 
 module _ (s t : Stored) (e : Extends s t) where
-  key-stays : (o : Option TermId) → HasKeyId s o → key_tree t o ≡ key_tree s o
-  key-stays None h = refl
-  key-stays (Some x) h = ap Some (e.terms x h).1
-
-  pattern-stays : (o : Option Pattern) → HasPatternId s o → pattern_tree t o ≡ pattern_tree s o
-  pattern-stays None h = refl
-  pattern-stays (Some (patterns.Bind x)) h = refl
-  pattern-stays (Some (patterns.Term x)) h = ap (λ (y : Tree). Some (trees.Term y)) (e.terms x h).1
-
-  place-stays : (p : Place) → HasPlaceIds s p → place_tree t p ≡ place_tree s p
-  place-stays p h = let k = key-stays p.key h.0 in let v = pattern-stays p.value h.1 in λ i. record { key = k i; value = v i }
-
-  pub act-stays : (a : Act) → HasActIds s a → act_tree t a ≡ act_tree s a
-  act-stays (Init f x) h = ap (trees.Init f) (e.terms x h).1
-  act-stays (Require x) h = ap trees.Require (e.forms x h).1
-  act-stays (Assert x) h = ap trees.Assert (e.forms x h).1
-  act-stays (Update f x) h = ap (trees.Update f) (e.terms x h).1
-  act-stays (HaveVariable f) h = refl
-  act-stays (Add f p) h = ap (trees.Add f) (place-stays p h)
-  act-stays (Remove f p) h = ap (trees.Remove f) (place-stays p h)
-  act-stays (Have f p) h = ap (trees.Have f) (place-stays p h)
-  act-stays (Deposit f p) h = ap (trees.Deposit f) (place-stays p h)
-  act-stays (Withdraw f p) h = ap (trees.Withdraw f) (place-stays p h)
-  act-stays (Guard f p) h = ap (trees.Guard f) (place-stays p h)
-
-  key-ids : (o : Option TermId) → HasKeyId s o → HasKeyId t o
-  key-ids None h = tt
-  key-ids (Some x) h = (e.terms x h).0
-
-  pattern-ids : (o : Option Pattern) → HasPatternId s o → HasPatternId t o
-  pattern-ids None h = tt
-  pattern-ids (Some (patterns.Bind x)) h = tt
-  pattern-ids (Some (patterns.Term x)) h = (e.terms x h).0
-
-  pub act-ids : (a : Act) → HasActIds s a → HasActIds t a
-  act-ids (Init f x) h = (e.terms x h).0
-  act-ids (Require x) h = (e.forms x h).0
-  act-ids (Assert x) h = (e.forms x h).0
-  act-ids (Update f x) h = (e.terms x h).0
-  act-ids (HaveVariable f) h = tt
-  act-ids (Add f p) h = (key-ids p.key h.0, pattern-ids p.value h.1)
-  act-ids (Remove f p) h = (key-ids p.key h.0, pattern-ids p.value h.1)
-  act-ids (Have f p) h = (key-ids p.key h.0, pattern-ids p.value h.1)
-  act-ids (Deposit f p) h = (key-ids p.key h.0, pattern-ids p.value h.1)
-  act-ids (Withdraw f p) h = (key-ids p.key h.0, pattern-ids p.value h.1)
-  act-ids (Guard f p) h = (key-ids p.key h.0, pattern-ids p.value h.1)
-
   pub step-stays : (x : Step) → HasActIds s x.act → step_tree t x ≡ step_tree s x
-  step-stays x h = ap (λ (a : ActTree). record { act = a; line = x.line }) (act-stays x.act h)
+  step-stays x h = ap (λ (a : ActTree). record { act = a; line = x.line }) (act-stays s t e x.act h)
 
   pub steps-stay : (xs : List Step) → AllByRecursion (λ (x : Step). HasActIds s x.act) xs → steps_tree t xs ≡ steps_tree s xs
   steps-stay [] h = refl

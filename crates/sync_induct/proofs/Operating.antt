@@ -27,7 +27,8 @@ use Rattle.sync_terms.specs.Proofs.{ProofTree}
 use Rattle.sync_induct.specs.Closing.{IsKeepable, AreWanted}
 use Rattle.sync_induct.specs.Duties.{facts_behind, keeps_duties, base_facts}
 use Rattle.sync_induct.specs.Walks.{HasCome, values_of, known_of}
-use Rattle.sync_induct.proofs.Lasting.{steps-stay, act-ids, operation-stays, invariants-stay, keepable-stays}
+use Rattle.sync_induct_acts.proofs.Lasting.{act-ids}
+use Rattle.sync_induct.proofs.Lasting.{steps-stay, operation-stays, invariants-stay, keepable-stays}
 use Rattle.sync_induct.proofs.Remaining.{Remains, fault-append, shown-append, remains-whole, remains-same, remains-past, remains-refused}
 
 -- a statement's ids are of the store

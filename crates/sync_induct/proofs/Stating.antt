@@ -34,7 +34,8 @@ use Rattle.sync_induct.specs.Checklist.{Check, Proves, Fits, proves, AreShown}
 use Rattle.sync_induct.specs.Checks.{duty_of, duty_fault, size_fault, check_fault, checks_fault}
 use Rattle.sync_terms.specs.Proofs.{ProofTree}
 use Rattle.sync_induct.specs.Walks.{IsWalk, HasCome, IsStatement, values_of, known_of, safety_at, condition_at, value_at, owed, tree_or_nil, values_with, checks_at, facts_after, values_after}
-use Rattle.sync_induct.proofs.Lasting.{act-ids, step-stays, known-stays, values-stay, as-come}
+use Rattle.sync_induct_acts.proofs.Lasting.{act-ids}
+use Rattle.sync_induct.proofs.Lasting.{step-stays, known-stays, values-stay, as-come}
 use Rattle.sync_induct.proofs.Remaining.{Remains, remains-whole, remains-past, remains-refused, remains-past_one, remains-refused_one}
 
 on-ok : {A E : Type 0} (r : Result A E) (P Q : Type 0) → (P → Q) → OnOk r P → OnOk r Q

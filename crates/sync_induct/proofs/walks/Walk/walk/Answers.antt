@@ -6,7 +6,7 @@ use Rattle.sync_machine.specs.Views.{steps_tree, HasActIds}
 use Rattle.sync_machine.specs.declared.machine.Step.{Step}
 use Rattle.sync_machine.specs.declared.machine.Act.TheVariants as stored
 use Rattle.sync_terms.specs.Proofs.{proofs_in}
-use Rattle.sync_induct.proofs.Lasting.{act-ids}
+use Rattle.sync_induct_acts.proofs.Lasting.{act-ids}
 use Rattle.sync_induct.proofs.Remaining.{remains-none, remains-shown}
 use Rattle.sync_induct.proofs.Scripts.{scripts-stay, checks-over, none-over}
 use Rattle.sync_induct.proofs.Stepping.{checks_left, ends, ends-facts, ends-values}
