@@ -131,7 +131,14 @@ fn check_step(
             learn(alloc, terms, branch, MapFact::Size(*map, *key), *name, line)?;
         }
         StepKind::Total(map, key, name) => {
-            learn(alloc, terms, branch, MapFact::Total(*map, *key), *name, line)?;
+            learn(
+                alloc,
+                terms,
+                branch,
+                MapFact::Total(*map, *key),
+                *name,
+                line,
+            )?;
         }
         StepKind::Cong(map, left, right, name) => {
             let fact = MapFact::Cong(*map, *left, *right);

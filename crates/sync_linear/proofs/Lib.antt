@@ -7,6 +7,7 @@ pub mod Joins
 pub mod AtomLines
 pub mod Scaling
 pub mod Multiples
+pub mod Signs
 pub mod Spines
 pub mod Weighing
 pub mod Worths

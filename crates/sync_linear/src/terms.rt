@@ -1,18 +1,18 @@
 //! The line of a stored term.
-ghost use Rattle.std.specs.Prelude.{◌≡◌, ◌<◌, length, IfOk, OnOk, Err};
+ghost use Rattle.std.specs.Prelude.{◌≡◌, ◌<◌, length, IfOk, OnOk, IsTrue, Err};
 ghost use Rattle.sync_terms.specs.Stored.{tree, IsTerm};
 ghost use Rattle.sync_linear.specs.declared.stops.LinearStop.TheVariants.{Width};
 ghost use Rattle.sync_linear.specs.Forms.{Narrow};
 ghost use Rattle.sync_terms.specs.Trees.{Tree};
 ghost use Rattle.sync_linear.specs.Leaves.{leaf_line};
 ghost use Rattle.sync_linear.specs.Stores.{IsLineOf, joined, JoinFits};
-ghost use Rattle.sync_linear.specs.Parts.{IsPartOf, IsTaken};
+ghost use Rattle.sync_linear.specs.Parts.{IsPartOf, IsTaken, TakesFrom, EndInSigns, IsPut};
 
 use crate::changes::Change;
 use crate::leaves::Leaf;
 use crate::lines::Linear;
 use crate::stops::LinearStop;
-use std::alloc::Global;
+use std::alloc::{AllocError, Global};
 use sync_terms::{Node, TermId, Terms};
 
 /// What is done with the line of the operand that is walked; the other operand's id stands with it.
@@ -28,6 +28,8 @@ pub(crate) enum Rest {
     AddedTo(TermId),
     /// It is taken from the first operand, a leaf.
     TakenFrom(TermId),
+    /// It is taken from 0, as a sign does.
+    Opposite,
 }
 
 /// The operand of a term that is walked, under what is done with its line; or a leaf that has the term's line.
@@ -85,6 +87,18 @@ fn is_leaf(terms: &Terms, t: TermId) -> bool
     matches!(part_of(terms, t), Part::Alone(_))
 }
 
+/// What is done with the line of a second operand that is taken from the first.
+#[tactic(auto, unfolding(sync_terms::specs::Stored::shape, sync_terms::specs::Stored::tree))]
+fn taken_from(terms: &Terms, first: TermId) -> Rest
+    requires { IsTerm terms.now first }
+    ensures { TakesFrom terms.now first result }
+{
+    match terms.term(first) {
+        Node::Lit(0) => Rest::Opposite,
+        _ => Rest::TakenFrom(first),
+    }
+}
+
 /// As `part_of`, but of a sum or a difference the second operand is walked where only the first is a leaf.
 fn step_of(terms: &Terms, t: TermId) -> Part
     requires { IsTerm terms.now t }
@@ -99,7 +113,7 @@ fn step_of(terms: &Terms, t: TermId) -> Part
         }
         Part::Under(Rest::Minus(second), first) => {
             if is_leaf(terms, first) && !is_leaf(terms, second) {
-                return Part::Under(Rest::TakenFrom(first), second);
+                return Part::Under(taken_from(terms, first), second);
             }
         }
         _ => {}
@@ -114,6 +128,29 @@ pub(crate) struct Taken {
     leaf: Leaf,
 }
 
+/// Whether the last two rests are signs.
+fn end_in_signs(rests: &[Rest]) -> bool
+    ensures { IsTrue result → EndInSigns rests.now }
+{
+    let len = rests.len();
+    len >= 2 && matches!(rests[len - 1], Rest::Opposite) && matches!(rests[len - 2], Rest::Opposite)
+}
+
+/// Puts a rest behind the others. A third sign takes the second away: one sign has the line of three, and is within
+/// signed 128 bits where they are.
+fn put(rests: &mut Vec<Rest>, rest: Rest) -> Result<(), AllocError>
+    ensures { OnOk result (IsPut rests.old.items rest rests.new.items) }
+{
+    if let Rest::Opposite = rest {
+        if end_in_signs(rests.as_slice()) {
+            rests.truncate(rests.len() - 1);
+            return Ok(());
+        }
+    }
+    rests.push(rest)?;
+    Ok(())
+}
+
 fn taken_apart(alloc: Global, terms: &Terms, t: TermId) -> Result<Taken, LinearStop>
     requires { IsTerm terms.now t }
     ensures taken { IfOk result (λ taken. IsTaken terms.now t taken.rests.items (leaf_line taken.leaf)) }
@@ -124,7 +161,7 @@ fn taken_apart(alloc: Global, terms: &Terms, t: TermId) -> Result<Taken, LinearS
     loop {
         match step_of(terms, at) {
             Part::Under(rest, walked) => {
-                rests.push(rest)?;
+                put(&mut rests, rest)?;
                 at = walked;
             }
             Part::Alone(leaf) => return Ok(Taken { rests, leaf }),
@@ -157,6 +194,7 @@ impl Linear {
                     let first = Linear::of_term(alloc, terms, first)?;
                     first.changed(Change::Minus, &line)?
                 }
+                Rest::Opposite => Linear::zero(alloc).changed(Change::Minus, &line)?,
             };
         }
         Ok(line)

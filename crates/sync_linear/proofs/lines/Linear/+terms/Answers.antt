@@ -10,7 +10,7 @@ use Rattle.sync_linear.specs.Lines.{IsChanged, LineFits}
 use Rattle.sync_linear.specs.Leaves.{leaf_line}
 use Rattle.sync_linear.proofs.Whole.{line_of_zero}
 use Rattle.sync_linear.proofs.Joins.{join_line, join_fits, fits_line}
-use Rattle.sync_linear.proofs.Spines.{popped, all_last, up_plus, up_minus, up_times, up_added, up_taken, wide_plus, wide_minus, wide_times, wide_added, wide_first, wide_taken}
+use Rattle.sync_linear.proofs.Spines.{popped, all_last, up_plus, up_minus, up_times, up_added, up_taken, wide_plus, wide_minus, wide_times, wide_added, wide_first, wide_taken, up_opposite, wide_opposite}
 use Rattle.sync_linear.proofs.lines.Linear.+terms.Goals as goal
 
 pub changed_by-returns-in-Alone-clause-line : goal.changed_by-returns-in-Alone-clause-line
@@ -116,9 +116,21 @@ of_term-returns-in_err-line-in-TakenFrom-clause-width t c =
     let first = c.in_ok-first-in-TakenFrom in
     λ e n. wide_taken c.args.terms.now c.args.t c.in-TakenFrom.first c.pop.new.self.items c.loop-rest.line first.first h first.ensures.line (c.changed.ensures.width (cc)) n
 
-pub of_term-loop-rest-preserved : goal.of_term-loop-rest-preserved
-of_term-loop-rest-preserved t c =
+pub of_term-loop-rest-preserved-in_ok-line-in-TakenFrom : goal.of_term-loop-rest-preserved-in_ok-line-in-TakenFrom
+of_term-loop-rest-preserved-in_ok-line-in-TakenFrom t c =
     let h = popped c.args.terms.now c.args.t c.loop-rest.rests.items c.pop.new.self.items (rest.TakenFrom c.in-TakenFrom.first) c.in-Some.rest c.loop-rest.line c.in-Some.ensures.items c.in-TakenFrom.is c.loop-rest.invariant in
     let first = c.in_ok-first-in-TakenFrom in
     let n = c.in_ok-line-in-TakenFrom.ensures in
     up_taken c.args.terms.now c.args.t c.in-TakenFrom.first c.pop.new.self.items c.loop-rest.line first.first c.in_ok-line-in-TakenFrom.line h first.ensures.line first.ensures.narrow n.changed n.fits
+
+pub of_term-returns-in_err-line-in-Opposite-clause-width : goal.of_term-returns-in_err-line-in-Opposite-clause-width
+of_term-returns-in_err-line-in-Opposite-clause-width t c =
+    let p = err_from_is_err_and c.from_residual-in_err-line-in-Opposite.result c.from_residual-in_err-line-in-Opposite.ensures.1 in
+    let h = popped c.args.terms.now c.args.t c.loop-rest.rests.items c.pop.new.self.items rest.Opposite c.in-Some.rest c.loop-rest.line c.in-Some.ensures.items c.in-Opposite.is c.loop-rest.invariant in
+    λ e n. wide_opposite c.args.terms.now c.args.t c.pop.new.self.items c.loop-rest.line c.zero.result h c.zero.ensures (c.changed-in-Opposite.ensures.width (cc)) n
+
+pub of_term-loop-rest-preserved : goal.of_term-loop-rest-preserved
+of_term-loop-rest-preserved t c =
+    let h = popped c.args.terms.now c.args.t c.loop-rest.rests.items c.pop.new.self.items rest.Opposite c.in-Some.rest c.loop-rest.line c.in-Some.ensures.items c.in-Opposite.is c.loop-rest.invariant in
+    let n = c.in_ok-line-in-Opposite.ensures in
+    up_opposite c.args.terms.now c.args.t c.pop.new.self.items c.loop-rest.line c.zero.result c.in_ok-line-in-Opposite.line h c.zero.ensures n.changed n.fits
