@@ -2,8 +2,8 @@
 use Rattle.sync_terms.specs.Stored.{Stored, tree, IsTerm}
 use Rattle.sync_terms.specs.Trees.{Formula}
 use Rattle.sync_kernel_facts.specs.Lemmas.{cong_fact, read_fact, size_fact, total_fact}
-use Rattle.sync_kernel.specs.declared.map_facts.MapFact.{MapFact}
-use Rattle.sync_kernel.specs.declared.map_facts.MapFact.TheVariants.{Read, Size, Total, Cong}
+use Rattle.sync_kernel.specs.declared.steps.MapFact.{MapFact}
+use Rattle.sync_kernel.specs.declared.steps.MapFact.TheVariants.{Read, Size, Total, Cong}
 
 abbrev pub map_form : Stored → MapFact → Formula
 map_form s (Read map key) = read_fact (tree s map) (tree s key)

@@ -11,10 +11,9 @@ ghost use Rattle.sync_kernel.specs.Seen.{IsSeen};
 
 use crate::branches::Branch;
 use crate::literals::Literal;
-use crate::map_facts::{MapFact, learn};
 use crate::sames::same;
 use crate::seen::Seen;
-use crate::steps::{Left, cut, inst, parts, said, split};
+use crate::steps::{Left, MapFact, cut, inst, learn, parts, said, split};
 use crate::stops::refusal;
 use crate::sums::sum;
 use std::alloc::Global;
@@ -131,14 +130,8 @@ fn check_step(
             learn(alloc, terms, branch, MapFact::Size(*map, *key), *name, line)?;
         }
         StepKind::Total(map, key, name) => {
-            learn(
-                alloc,
-                terms,
-                branch,
-                MapFact::Total(*map, *key),
-                *name,
-                line,
-            )?;
+            let fact = MapFact::Total(*map, *key);
+            learn(alloc, terms, branch, fact, *name, line)?;
         }
         StepKind::Cong(map, left, right, name) => {
             let fact = MapFact::Cong(*map, *left, *right);

@@ -6,7 +6,6 @@ mod branches;
 mod hypotheses;
 mod lines;
 mod literals;
-mod map_facts;
 mod provers;
 mod rows;
 mod sames;

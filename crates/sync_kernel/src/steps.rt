@@ -8,6 +8,7 @@ ghost use Rattle.sync_kernel.specs.Literals.{literal_form, IsLiteral, pair_forms
 ghost use Rattle.sync_kernel.specs.Branches.{facts_in, said_fact, IsSaid, AreSaid, Begins};
 ghost use Rattle.sync_kernel.specs.Taking.{plain_fact, instance};
 ghost use Rattle.sync_kernel.specs.Scripts.{fitting, both_fitting, with_fact, with_instance, with_parts, with_cases, with_cut};
+ghost use Rattle.sync_kernel.specs.MapFacts.{map_form, HasMapIds};
 ghost use Rattle.sync_kernel.specs.Holding.{Leaves, LeavesFacts, LeavesCases, Makes};
 
 use crate::branches::{Branch, Said};
@@ -17,6 +18,7 @@ use crate::stops::{refusal, too_large};
 use sqlite_items::Items;
 use std::alloc::{AllocError, Global};
 use sync_base::{Rule, Stop};
+use sync_kernel_facts::{cong_fact, read_fact, size_fact, total_fact};
 use sync_terms::{FormId, HypName, Sym, TermId, TermStop, Terms};
 
 /// Whether a step leaves its branch open, or has closed it.
@@ -59,7 +61,7 @@ fn add(
 }
 
 /// Adds a formula that was built; K8 where it, or the facts of the branch with it, are too large.
-pub(crate) fn add_built(
+fn add_built(
     alloc: Global,
     terms: &Terms,
     branch: &mut Branch,
@@ -222,4 +224,47 @@ pub(crate) fn cut(terms: &Terms, branch: &Branch, form: FormId, line: u32) -> Re
         right: Literal::plain(form),
     };
     both(terms, branch, pair, line)
+}
+
+/// What a step says of a map: at a key, or at two keys.
+#[derive(Clone, Copy, Debug)]
+pub(crate) enum MapFact {
+    Read(TermId, TermId),
+    Size(TermId, TermId),
+    Total(TermId, TermId),
+    Cong(TermId, TermId, TermId),
+}
+
+/// The formula of what is said.
+fn built(terms: &mut Terms, fact: MapFact) -> Result<FormId, TermStop>
+    requires { HasMapIds terms.old fact }
+    ensures built { BuildsForm terms.new (map_form terms.old fact) result }
+    ensures keeps { Extends terms.old terms.new }
+{
+    match fact {
+        MapFact::Read(map, key) => read_fact(terms, map, key),
+        MapFact::Size(map, key) => size_fact(terms, map, key),
+        MapFact::Total(map, key) => total_fact(terms, map, key),
+        MapFact::Cong(map, left, right) => cong_fact(terms, map, left, right),
+    }
+}
+
+/// `read`, `size`, `total` and `cong`: adds what is true of a map.
+pub(crate) fn learn(
+    alloc: Global,
+    terms: &mut Terms,
+    branch: &mut Branch,
+    fact: MapFact,
+    name: u32,
+    line: u32,
+) -> Result<(), Stop>
+    requires branch { AreSaid terms.old branch.old }
+    requires fact { HasMapIds terms.old fact }
+    ensures leaves { LeavesFacts line result terms.new branch.new (fitting (with_fact (facts_in terms.old branch.old) name (map_form terms.old fact))) }
+    ensures said { OnOk result (AreSaid terms.new branch.new) }
+    ensures begins { OnOk result (Begins branch.old branch.new) }
+    ensures keeps { Extends terms.old terms.new }
+{
+    let form = built(terms, fact);
+    add_built(alloc, terms, branch, form, name, line)
 }

@@ -11,7 +11,7 @@ use Rattle.sync_terms.specs.declared.scripts.Block as block
 use Rattle.sync_terms.specs.Stored.{IsTerm}
 use Rattle.sync_terms.specs.Plans.{plan_of}
 use Rattle.sync_terms.proofs.Extending.{Extends-trans}
-use Rattle.sync_kernel.specs.declared.map_facts.MapFact.TheVariants as fact
+use Rattle.sync_kernel.specs.declared.steps.MapFact.TheVariants as fact
 use Rattle.sync_kernel.specs.MapFacts.{map_form}
 use Rattle.sync_kernel.specs.declared.steps.Left.{Left}
 use Rattle.sync_kernel.specs.declared.branches.Said.{Said}

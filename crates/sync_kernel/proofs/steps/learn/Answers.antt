@@ -1,7 +1,7 @@
 use Rattle.sync_kernel.specs.MapFacts.{map_form}
 use Rattle.sync_kernel.proofs.Fitting.{AreSaid-more}
 use Rattle.sync_kernel.proofs.Adding.{built_form, leaves_from}
-use Rattle.sync_kernel.proofs.map_facts.learn.Goals as goal
+use Rattle.sync_kernel.proofs.steps.learn.Goals as goal
 
 pub add_built-requires-clause-branch : goal.add_built-requires-clause-branch
 add_built-requires-clause-branch c = AreSaid-more c.args.terms.now c.built-form.new.terms c.args.branch.now c.built-form.ensures.keeps c.requires.branch
