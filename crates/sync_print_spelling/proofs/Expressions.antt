@@ -9,18 +9,20 @@ use Rattle.sync_parse_exprs.specs.declared.expressions.RawExpr.{RawExpr}
 use Rattle.sync_parse_exprs.specs.declared.expressions.RawExprKind.{RawExprKind}
 use Rattle.sync_parse_exprs.specs.declared.expressions.Special.{Special}
 use Rattle.sync_parse_exprs.specs.declared.expressions.Function.{Function}
+use Rattle.sync_parse_exprs.specs.declared.expressions.Operator.{Operator}
 use Rattle.sync_parse_exprs.specs.declared.expressions.Operator.TheVariants as operator
 use Rattle.sync_parse_grammar.specs.Relations.{Spelled, The, the_one, the_other, Many, nothing, more as another, Series, Listed, ◌>>◌}
 use Rattle.sync_parse_grammar.specs.Expressions.{placed_at, Whole, Unary, SumSign, RelationSign, Implied, Nested, AnExpr}
-use Rattle.sync_print.specs.Exprs.{implies, either, both, equal, at_most, below, plus, minus, Plain, number, name, param, nil, special, call, negation, times, two, Plains, none, more, plain, plains_of}
+use Rattle.sync_print.specs.Exprs.{implies, either, both, equal, at_most, below, plus, minus, Plain, number, name, param, nil, special, call, negation, times, two, Plains, none, more, joined, plain, plains_of}
 use Rattle.sync_print.specs.Lexemes.{Lexeme, one, one_name, one_number, needed, with_commas, listed}
 use Rattle.sync_print.specs.ShowExprs.{shown, all_shown, show_expr, function_sign, special_sign, before, behind}
+use Rattle.sync_print_spelling.specs.Levels.{Level, l0, l1, l2, l3, l4, l5, l6, rank, level}
 use Rattle.sync_print_spelling.specs.Says.{Says, no_more}
 use Rattle.sync_print_spelling.specs.Limits.{ExprFits, AllFit}
 use Rattle.sync_print_spelling.specs.Laws.{Derives, ShownIsDerived}
 use Rattle.sync_print_spelling.proofs.Terminals.{split, the_sign, the_number, the_name, yields, seq, whole}
-use Rattle.sync_print_spelling.proofs.Levels.{Spelt, says_placed, Level, l0, l1, l2, l3, l4, l5, l6, rank, level, lift, sums, ands, ors, relations, implications, joins}
-use Rattle.sync_print_spelling.proofs.Operands.{bracketed, a_name_operand, a_number_operand, a_param_operand, nil_operand, special_operand, Args, call_operand, negations, products}
+use Rattle.sync_print_spelling.proofs.Levels.{Spelt, says_placed, Twofold, spelt_two, lift, sums, ands, ors, relations, implications, joins}
+use Rattle.sync_print_spelling.proofs.Operands.{bracketed, a_name_operand, a_number_operand, a_param_operand, nil_operand, special_operand, Args, call_operand, negations, Multiple, products, spelt_times}
 
 -- ---- brackets where a place wants a higher level
 
@@ -29,10 +31,10 @@ record Core (own : Level) (high : ℕ) (e : Plain) (xs : List Lexeme) : Type 0 w
   pub reads : (d : ℕ) → high ≤ d → (ts rest : List Terminal) → Says xs ts rest → Spelt (level own (Nested d)) e ts rest
 
 -- these lexemes spell an expression at each place
-record Placed (high : ℕ) (e : Plain) (at : ℕ → List Lexeme) : Type 0 where
+pub record Placed (high : ℕ) (e : Plain) (at : ℕ → List Lexeme) : Type 0 where
   pub reads : (d : ℕ) → high ≤ d → (k : Level) (ts rest : List Terminal) → Says (at (rank k)) ts rest → Spelt (level k (Nested d)) e ts rest
 
-never_above : (k : Level) → nat_lt 6 (rank k) ≡ false
+pub never_above : (k : Level) → nat_lt 6 (rank k) ≡ false
 never_above l0 = refl
 never_above l1 = refl
 never_above l2 = refl
@@ -41,7 +43,7 @@ never_above l4 = refl
 never_above l5 = refl
 never_above l6 = refl
 
-lowest : (own : Level) → nat_lt (rank own) 0 ≡ false
+pub lowest : (own : Level) → nat_lt (rank own) 0 ≡ false
 lowest l0 = refl
 lowest l1 = refl
 lowest l2 = refl
@@ -80,7 +82,7 @@ placed_between {high} {e} {xs} own core = record { reads = λ d enough k ts rest
     go d enough k ts rest false is says =
         lift (Nested d) own k is (core.reads d (omega arith) ts rest (subst (λ zs. Says zs ts rest) (append-nil xs) says))
 
-regroup : (p a s b q : List Lexeme) → p ++ a ++ s ++ b ++ q ≡ p ++ (a ++ s ++ b) ++ q
+pub regroup : (p a s b q : List Lexeme) → p ++ a ++ s ++ b ++ q ≡ p ++ (a ++ s ++ b) ++ q
 regroup p a s b q = simp append_assoc
 
 banged_core : {high : ℕ} {e : Plain} {at : ℕ → List Lexeme} → Placed high e at → Core l6 high (negation e) (one sign.Bang ++ at 6)
@@ -95,10 +97,17 @@ bangs p = operands (banged_core p)
 
 -- ---- two with a sign between
 
-abbrev Joined : Level → ℕ → Plain → (ℕ → List Lexeme) → Sign → (ℕ → List Lexeme) → Level → Level → Type 0
-Joined own high e a s b left right = Core own high e (a (rank left) ++ one s ++ b (rank right))
+-- these lexemes spell two with an operator between
+pub record CoreTwo (own : Level) (high : ℕ) (o : Operator) (e f : Plain) (xs : List Lexeme) : Type 0 where
+  pub reads : (d : ℕ) → high ≤ d → (ts rest : List Terminal) → Says xs ts rest → Twofold (level own (Nested d)) o e f ts rest
 
-core_implies : {hx hy : ℕ} {x y : Plain} {a b : ℕ → List Lexeme} → Placed hx x a → Placed hy y b → Joined l0 (hx + hy) (two implies x y) a sign.Implies b l1 l0
+core_of : {own : Level} {high : ℕ} (o : Operator) {e f : Plain} {xs : List Lexeme} → CoreTwo own high o e f xs → Core own high (joined o e f) xs
+core_of o core = record { reads = λ d enough ts rest h. spelt_two o (core.reads d enough ts rest h) }
+
+abbrev Joined : Level → ℕ → Operator → Plain → Plain → (ℕ → List Lexeme) → Sign → (ℕ → List Lexeme) → Level → Level → Type 0
+Joined own high o e f a s b left right = CoreTwo own high o e f (a (rank left) ++ one s ++ b (rank right))
+
+pub core_implies : {hx hy : ℕ} {x y : Plain} {a b : ℕ → List Lexeme} → Placed hx x a → Placed hy y b → Joined l0 (hx + hy) operator.Implies x y a sign.Implies b l1 l0
 core_implies {a = a} {b = b} p q = record {
   reads = λ d enough ts rest h.
       let r = split (a (rank l1) ++ one sign.Implies) (b (rank l0)) h in
@@ -106,7 +115,7 @@ core_implies {a = a} {b = b} p q = record {
       implications (Nested d) (p.reads d (omega arith) l1 ts t.0 t.1) (the_sign t.2).1 (q.reads d (omega arith) l0 r.0 rest r.2);
 }
 
-core_either : {hx hy : ℕ} {x y : Plain} {a b : ℕ → List Lexeme} → Placed hx x a → Placed hy y b → Joined l1 (hx + hy) (two either x y) a sign.Or b l1 l2
+pub core_either : {hx hy : ℕ} {x y : Plain} {a b : ℕ → List Lexeme} → Placed hx x a → Placed hy y b → Joined l1 (hx + hy) operator.Or x y a sign.Or b l1 l2
 core_either {a = a} {b = b} p q = record {
   reads = λ d enough ts rest h.
       let r = split (a (rank l1) ++ one sign.Or) (b (rank l2)) h in
@@ -114,7 +123,7 @@ core_either {a = a} {b = b} p q = record {
       ors (Nested d) (p.reads d (omega arith) l1 ts t.0 t.1) (joins t.2) (q.reads d (omega arith) l2 r.0 rest r.2);
 }
 
-core_both : {hx hy : ℕ} {x y : Plain} {a b : ℕ → List Lexeme} → Placed hx x a → Placed hy y b → Joined l2 (hx + hy) (two both x y) a sign.And b l2 l3
+pub core_both : {hx hy : ℕ} {x y : Plain} {a b : ℕ → List Lexeme} → Placed hx x a → Placed hy y b → Joined l2 (hx + hy) operator.And x y a sign.And b l2 l3
 core_both {a = a} {b = b} p q = record {
   reads = λ d enough ts rest h.
       let r = split (a (rank l2) ++ one sign.And) (b (rank l3)) h in
@@ -122,7 +131,7 @@ core_both {a = a} {b = b} p q = record {
       ands (Nested d) (p.reads d (omega arith) l2 ts t.0 t.1) (joins t.2) (q.reads d (omega arith) l3 r.0 rest r.2);
 }
 
-core_equal : {hx hy : ℕ} {x y : Plain} {a b : ℕ → List Lexeme} → Placed hx x a → Placed hy y b → Joined l3 (hx + hy) (two equal x y) a sign.Equal b l4 l4
+pub core_equal : {hx hy : ℕ} {x y : Plain} {a b : ℕ → List Lexeme} → Placed hx x a → Placed hy y b → Joined l3 (hx + hy) operator.Equal x y a sign.Equal b l4 l4
 unfolding RelationSign
 core_equal {a = a} {b = b} p q = record {
   reads = λ d enough ts rest h.
@@ -131,7 +140,7 @@ core_equal {a = a} {b = b} p q = record {
       relations (Nested d) operator.Equal (p.reads d (omega arith) l4 ts t.0 t.1) (the_one (joins t.2)) (q.reads d (omega arith) l4 r.0 rest r.2);
 }
 
-core_unequal : {hx hy : ℕ} {x y : Plain} {a b : ℕ → List Lexeme} → Placed hx x a → Placed hy y b → Joined l3 (hx + hy) (negation (two equal x y)) a sign.NotEqual b l4 l4
+pub core_unequal : {hx hy : ℕ} {x y : Plain} {a b : ℕ → List Lexeme} → Placed hx x a → Placed hy y b → Joined l3 (hx + hy) operator.NotEqual x y a sign.NotEqual b l4 l4
 unfolding RelationSign
 core_unequal {a = a} {b = b} p q = record {
   reads = λ d enough ts rest h.
@@ -140,7 +149,7 @@ core_unequal {a = a} {b = b} p q = record {
       relations (Nested d) operator.NotEqual (p.reads d (omega arith) l4 ts t.0 t.1) (the_other (the_one (joins t.2))) (q.reads d (omega arith) l4 r.0 rest r.2);
 }
 
-core_at_most : {hx hy : ℕ} {x y : Plain} {a b : ℕ → List Lexeme} → Placed hx x a → Placed hy y b → Joined l3 (hx + hy) (two at_most x y) a sign.AtMost b l4 l4
+pub core_at_most : {hx hy : ℕ} {x y : Plain} {a b : ℕ → List Lexeme} → Placed hx x a → Placed hy y b → Joined l3 (hx + hy) operator.AtMost x y a sign.AtMost b l4 l4
 unfolding RelationSign
 core_at_most {a = a} {b = b} p q = record {
   reads = λ d enough ts rest h.
@@ -149,7 +158,7 @@ core_at_most {a = a} {b = b} p q = record {
       relations (Nested d) operator.AtMost (p.reads d (omega arith) l4 ts t.0 t.1) (the_other (the_other (the_one (joins t.2)))) (q.reads d (omega arith) l4 r.0 rest r.2);
 }
 
-core_below : {hx hy : ℕ} {x y : Plain} {a b : ℕ → List Lexeme} → Placed hx x a → Placed hy y b → Joined l3 (hx + hy) (two below x y) a sign.Below b l4 l4
+pub core_below : {hx hy : ℕ} {x y : Plain} {a b : ℕ → List Lexeme} → Placed hx x a → Placed hy y b → Joined l3 (hx + hy) operator.Below x y a sign.Below b l4 l4
 unfolding RelationSign
 core_below {a = a} {b = b} p q = record {
   reads = λ d enough ts rest h.
@@ -158,7 +167,7 @@ core_below {a = a} {b = b} p q = record {
       relations (Nested d) operator.Below (p.reads d (omega arith) l4 ts t.0 t.1) (the_other (the_other (the_other (joins t.2)))) (q.reads d (omega arith) l4 r.0 rest r.2);
 }
 
-core_plus : {hx hy : ℕ} {x y : Plain} {a b : ℕ → List Lexeme} → Placed hx x a → Placed hy y b → Joined l4 (hx + hy) (two plus x y) a sign.Plus b l4 l5
+pub core_plus : {hx hy : ℕ} {x y : Plain} {a b : ℕ → List Lexeme} → Placed hx x a → Placed hy y b → Joined l4 (hx + hy) operator.Plus x y a sign.Plus b l4 l5
 unfolding SumSign
 core_plus {a = a} {b = b} p q = record {
   reads = λ d enough ts rest h.
@@ -167,7 +176,7 @@ core_plus {a = a} {b = b} p q = record {
       sums (Nested d) operator.Plus (p.reads d (omega arith) l4 ts t.0 t.1) (the_one (joins t.2)) (q.reads d (omega arith) l5 r.0 rest r.2);
 }
 
-core_minus : {hx hy : ℕ} {x y : Plain} {a b : ℕ → List Lexeme} → Placed hx x a → Placed hy y b → Joined l4 (hx + hy) (two minus x y) a sign.Minus b l4 l5
+pub core_minus : {hx hy : ℕ} {x y : Plain} {a b : ℕ → List Lexeme} → Placed hx x a → Placed hy y b → Joined l4 (hx + hy) operator.Minus x y a sign.Minus b l4 l5
 unfolding SumSign
 core_minus {a = a} {b = b} p q = record {
   reads = λ d enough ts rest h.
@@ -177,7 +186,7 @@ core_minus {a = a} {b = b} p q = record {
 }
 
 -- two at each place
-two_placed : {high : ℕ} {e : Plain} (a : ℕ → List Lexeme) (s : Sign) (b : ℕ → List Lexeme) (own left right : Level) → Joined own high e a s b left right
+two_placed : {high : ℕ} {e : Plain} (a : ℕ → List Lexeme) (s : Sign) (b : ℕ → List Lexeme) (own left right : Level) → Core own high e (a (rank left) ++ one s ++ b (rank right))
     → Placed (suc high) e (λ wanted. before (rank own) wanted ++ a (rank left) ++ one s ++ b (rank right) ++ behind (rank own) wanted)
 two_placed a s b own left right core = record {
   reads = λ d enough k ts rest h.
@@ -185,13 +194,15 @@ two_placed a s b own left right core = record {
       (subst (λ zs. Says zs ts rest) (regroup (before (rank own) (rank k)) (a (rank left)) (one s) (b (rank right)) (behind (rank own) (rank k))) h);
 }
 
+pub times_read : {high n : ℕ} {e : Plain} {a : ℕ → List Lexeme} → n ≤ largest → Placed high e a → (d : ℕ) → high ≤ d → (ts rest : List Terminal)
+    → Says (one_number n ++ one sign.Star ++ a 6) ts rest → Multiple (level l5 (Nested d)) n e ts rest
+times_read {n = n} {a = a} fits p d enough ts rest h =
+    let r = split (one_number n ++ one sign.Star) (a 6) h in
+    let t = split (one_number n) (one sign.Star) r.1 in
+    products fits (the_number t.1) (the_sign t.2).1 (p.reads d enough l6 r.0 rest r.2)
+
 core_times : {high n : ℕ} {e : Plain} {a : ℕ → List Lexeme} → n ≤ largest → Placed high e a → Core l5 high (times n e) (one_number n ++ one sign.Star ++ a 6)
-core_times {n = n} {a = a} fits p = record {
-  reads = λ d enough ts rest h.
-      let r = split (one_number n ++ one sign.Star) (a 6) h in
-      let t = split (one_number n) (one sign.Star) r.1 in
-      products fits (the_number t.1) (the_sign t.2).1 (p.reads d enough l6 r.0 rest r.2);
-}
+core_times fits p = record { reads = λ d enough ts rest h. spelt_times (times_read fits p d enough ts rest h) }
 
 times_placed : {high n : ℕ} {e : Plain} {a : ℕ → List Lexeme} → n ≤ largest → Placed high e a
     → Placed (suc high) (times n e) (λ wanted. before 5 wanted ++ one_number n ++ one sign.Star ++ a 6 ++ behind 5 wanted)
@@ -205,7 +216,7 @@ times_placed {n = n} {a = a} fits p = record {
 
 abbrev mutual
   -- so deep brackets may have to stand in it
-  height : Plain → ℕ
+  pub height : Plain → ℕ
   height (number n) = 0
   height (name x) = 0
   height (param x) = 0
@@ -216,11 +227,11 @@ abbrev mutual
   height (times n e) = suc (height e)
   height (two o a b) = suc (height a + height b)
 
-  heights : Plains → ℕ
+  pub heights : Plains → ℕ
   heights none = 0
   heights (more e es) = height e + heights es
 
-record Both (e : Plain) : Type 0 where
+pub record Both (e : Plain) : Type 0 where
   pub at : Placed (height e) e (shown e).at
   pub negated : Placed (height e) (negation e) (shown e).negated
 
@@ -307,7 +318,7 @@ more_args : (e : Plain) (es : Plains) → Both e → AllPlaced es → AllPlaced 
 more_args e es p ps = record { first = more_first e es p ps; behind = more_behind e es p ps }
 
 mutual
-  all_placed : (e : Plain) → ExprFits e → Both e
+  pub all_placed : (e : Plain) → ExprFits e → Both e
   all_placed (number n) fits = record { at = number_placed n fits; negated = bangs (number_placed n fits) }
   all_placed (name x) fits = record { at = name_placed x; negated = bangs (name_placed x) }
   all_placed (param x) fits = record { at = param_placed x; negated = bangs (param_placed x) }
@@ -316,16 +327,16 @@ mutual
   all_placed (call f es) fits = let p = call_placed f es (args_placed es fits) in record { at = p; negated = bangs p }
   all_placed (negation e) fits = let p = all_placed e fits in record { at = p.negated; negated = bangs p.negated }
   all_placed (times n e) fits = let p = times_placed fits.0 (all_placed e fits.1).at in record { at = p; negated = bangs p }
-  all_placed (two implies a b) fits = let p = two_placed (shown a).at sign.Implies (shown b).at l0 l1 l0 (core_implies (all_placed a fits.0).at (all_placed b fits.1).at) in record { at = p; negated = bangs p }
-  all_placed (two either a b) fits = let p = two_placed (shown a).at sign.Or (shown b).at l1 l1 l2 (core_either (all_placed a fits.0).at (all_placed b fits.1).at) in record { at = p; negated = bangs p }
-  all_placed (two both a b) fits = let p = two_placed (shown a).at sign.And (shown b).at l2 l2 l3 (core_both (all_placed a fits.0).at (all_placed b fits.1).at) in record { at = p; negated = bangs p }
-  all_placed (two at_most a b) fits = let p = two_placed (shown a).at sign.AtMost (shown b).at l3 l4 l4 (core_at_most (all_placed a fits.0).at (all_placed b fits.1).at) in record { at = p; negated = bangs p }
-  all_placed (two below a b) fits = let p = two_placed (shown a).at sign.Below (shown b).at l3 l4 l4 (core_below (all_placed a fits.0).at (all_placed b fits.1).at) in record { at = p; negated = bangs p }
-  all_placed (two plus a b) fits = let p = two_placed (shown a).at sign.Plus (shown b).at l4 l4 l5 (core_plus (all_placed a fits.0).at (all_placed b fits.1).at) in record { at = p; negated = bangs p }
-  all_placed (two minus a b) fits = let p = two_placed (shown a).at sign.Minus (shown b).at l4 l4 l5 (core_minus (all_placed a fits.0).at (all_placed b fits.1).at) in record { at = p; negated = bangs p }
+  all_placed (two implies a b) fits = let p = two_placed (shown a).at sign.Implies (shown b).at l0 l1 l0 (core_of operator.Implies (core_implies (all_placed a fits.0).at (all_placed b fits.1).at)) in record { at = p; negated = bangs p }
+  all_placed (two either a b) fits = let p = two_placed (shown a).at sign.Or (shown b).at l1 l1 l2 (core_of operator.Or (core_either (all_placed a fits.0).at (all_placed b fits.1).at)) in record { at = p; negated = bangs p }
+  all_placed (two both a b) fits = let p = two_placed (shown a).at sign.And (shown b).at l2 l2 l3 (core_of operator.And (core_both (all_placed a fits.0).at (all_placed b fits.1).at)) in record { at = p; negated = bangs p }
+  all_placed (two at_most a b) fits = let p = two_placed (shown a).at sign.AtMost (shown b).at l3 l4 l4 (core_of operator.AtMost (core_at_most (all_placed a fits.0).at (all_placed b fits.1).at)) in record { at = p; negated = bangs p }
+  all_placed (two below a b) fits = let p = two_placed (shown a).at sign.Below (shown b).at l3 l4 l4 (core_of operator.Below (core_below (all_placed a fits.0).at (all_placed b fits.1).at)) in record { at = p; negated = bangs p }
+  all_placed (two plus a b) fits = let p = two_placed (shown a).at sign.Plus (shown b).at l4 l4 l5 (core_of operator.Plus (core_plus (all_placed a fits.0).at (all_placed b fits.1).at)) in record { at = p; negated = bangs p }
+  all_placed (two minus a b) fits = let p = two_placed (shown a).at sign.Minus (shown b).at l4 l4 l5 (core_of operator.Minus (core_minus (all_placed a fits.0).at (all_placed b fits.1).at)) in record { at = p; negated = bangs p }
   all_placed (two equal a b) fits = record {
-    at = two_placed (shown a).at sign.Equal (shown b).at l3 l4 l4 (core_equal (all_placed a fits.0).at (all_placed b fits.1).at);
-    negated = two_placed (shown a).at sign.NotEqual (shown b).at l3 l4 l4 (core_unequal (all_placed a fits.0).at (all_placed b fits.1).at);
+    at = two_placed (shown a).at sign.Equal (shown b).at l3 l4 l4 (core_of operator.Equal (core_equal (all_placed a fits.0).at (all_placed b fits.1).at));
+    negated = two_placed (shown a).at sign.NotEqual (shown b).at l3 l4 l4 (core_of operator.NotEqual (core_unequal (all_placed a fits.0).at (all_placed b fits.1).at));
   }
 
   args_placed : (es : Plains) → AllFit es → AllPlaced es

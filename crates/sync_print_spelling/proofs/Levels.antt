@@ -14,6 +14,7 @@ use Rattle.sync_parse_grammar.specs.Expressions.{placed_at, Whole, Unary, Produc
 use Rattle.sync_print.specs.Exprs.{implies, either, both, Plain, two, joined, plain, plain_kind, plain_at}
 use Rattle.sync_print.specs.Lexemes.{one}
 use Rattle.sync_print.proofs.Saying.{said, said-Two}
+use Rattle.sync_print_spelling.specs.Levels.{Level, l0, l1, l2, l3, l4, l5, l6, rank, level}
 use Rattle.sync_print_spelling.specs.Says.{Says}
 use Rattle.sync_print_spelling.proofs.Terminals.{the_sign, here_is, yields, seq, whole}
 
@@ -29,56 +30,54 @@ says_placed x line = fold-roll-RawExpr Plain Plain plain_kind plain_at (record {
 
 -- ---- levels
 
-pub data Level : Type 0 where
-  l0 : Level
-  l1 : Level
-  l2 : Level
-  l3 : Level
-  l4 : Level
-  l5 : Level
-  l6 : Level
+-- a derivation of a level is one of the level below
+pub as_product : (I : Spelled RawExprKind) {ts rest : List Terminal} {x : RawExprKind} → Unary I ts rest x → Product I ts rest x
+unfolding Product
+as_product inside d = the_one d
 
-abbrev pub rank : Level → ℕ
-rank l0 = 0
-rank l1 = 1
-rank l2 = 2
-rank l3 = 3
-rank l4 = 4
-rank l5 = 5
-rank l6 = 6
+pub as_chain : (Op : Spelled Operator) (Item : Spelled RawExprKind) {ts rest : List Terminal} {x : RawExprKind} → Item ts rest x → Chained Op Item ts rest x
+unfolding Chained
+as_chain op item {ts = ts} {rest = rest} {x = x} d = seq ts ts here_is (seq x rest d ends)
 
-abbrev pub level : Level → Spelled RawExprKind → Spelled RawExprKind
-level l0 = Implied
-level l1 = Or
-level l2 = And
-level l3 = Relation
-level l4 = Sum
-level l5 = Product
-level l6 = Unary
+pub as_sum : (I : Spelled RawExprKind) {ts rest : List Terminal} {x : RawExprKind} → Product I ts rest x → Sum I ts rest x
+unfolding Sum
+as_sum inside d = as_chain SumSign (Product inside) d
+
+pub as_relation : (I : Spelled RawExprKind) {ts rest : List Terminal} {x : RawExprKind} → Sum I ts rest x → Relation I ts rest x
+unfolding Relation
+as_relation inside {ts = ts} {rest = rest} {x = x} d = seq ts ts here_is (seq x rest d (the_one (yields x)))
+
+pub as_and : (I : Spelled RawExprKind) {ts rest : List Terminal} {x : RawExprKind} → Relation I ts rest x → And I ts rest x
+unfolding And
+as_and inside d = as_chain (Joins sign.And operator.And) (Relation inside) d
+
+pub as_or : (I : Spelled RawExprKind) {ts rest : List Terminal} {x : RawExprKind} → And I ts rest x → Or I ts rest x
+unfolding Or
+as_or inside d = as_chain (Joins sign.Or operator.Or) (And inside) d
+
+pub to_lowest : (I : Spelled RawExprKind) (k : Level) {ts rest : List Terminal} {x : RawExprKind} → level k I ts rest x → Implied I ts rest x
+to_lowest inside l0 d = d
+to_lowest inside l1 d = no_implies d
+to_lowest inside l2 d = no_implies (as_or inside d)
+to_lowest inside l3 d = no_implies (as_or inside (as_and inside d))
+to_lowest inside l4 d = no_implies (as_or inside (as_and inside (as_relation inside d)))
+to_lowest inside l5 d = no_implies (as_or inside (as_and inside (as_relation inside (as_sum inside d))))
+to_lowest inside l6 d = no_implies (as_or inside (as_and inside (as_relation inside (as_sum inside (as_product inside d)))))
 
 pub up6 : (I : Spelled RawExprKind) {e : Plain} {ts rest : List Terminal} → Spelt (Unary I) e ts rest → Spelt (Product I) e ts rest
-unfolding Product
-up6 inside x = record { kind = x.kind; spelled = the_one x.spelled; means = x.means }
-
-pub chained : (Op : Spelled Operator) (Item : Spelled RawExprKind) {e : Plain} {ts rest : List Terminal} → Spelt Item e ts rest → Spelt (Chained Op Item) e ts rest
-unfolding Chained
-chained op item {ts = ts} {rest = rest} x = record { kind = x.kind; spelled = seq ts ts here_is (seq x.kind rest x.spelled ends); means = x.means }
+up6 inside x = record { kind = x.kind; spelled = as_product inside x.spelled; means = x.means }
 
 pub up5 : (I : Spelled RawExprKind) {e : Plain} {ts rest : List Terminal} → Spelt (Product I) e ts rest → Spelt (Sum I) e ts rest
-unfolding Sum
-up5 inside x = chained SumSign (Product inside) x
+up5 inside x = record { kind = x.kind; spelled = as_sum inside x.spelled; means = x.means }
 
 pub up4 : (I : Spelled RawExprKind) {e : Plain} {ts rest : List Terminal} → Spelt (Sum I) e ts rest → Spelt (Relation I) e ts rest
-unfolding Relation
-up4 inside {ts = ts} {rest = rest} x = record { kind = x.kind; spelled = seq ts ts here_is (seq x.kind rest x.spelled (the_one (yields x.kind))); means = x.means }
+up4 inside x = record { kind = x.kind; spelled = as_relation inside x.spelled; means = x.means }
 
 pub up3 : (I : Spelled RawExprKind) {e : Plain} {ts rest : List Terminal} → Spelt (Relation I) e ts rest → Spelt (And I) e ts rest
-unfolding And
-up3 inside x = chained (Joins sign.And operator.And) (Relation inside) x
+up3 inside x = record { kind = x.kind; spelled = as_and inside x.spelled; means = x.means }
 
 pub up2 : (I : Spelled RawExprKind) {e : Plain} {ts rest : List Terminal} → Spelt (And I) e ts rest → Spelt (Or I) e ts rest
-unfolding Or
-up2 inside x = chained (Joins sign.Or operator.Or) (And inside) x
+up2 inside x = record { kind = x.kind; spelled = as_or inside x.spelled; means = x.means }
 
 pub up1 : (I : Spelled RawExprKind) {e : Plain} {ts rest : List Terminal} → Spelt (Or I) e ts rest → Spelt (Implied I) e ts rest
 up1 inside x = record { kind = x.kind; spelled = no_implies x.spelled; means = x.means }
@@ -142,55 +141,72 @@ pub chain_more : {Op : Spelled Operator} {Item : Spelled RawExprKind} {start ts 
 chain_more {y = y} ends op item = goes_on y op item ends
 chain_more (goes_on y' op' item' more') op item = goes_on y' op' item' (chain_more more' op item)
 
+-- two with an operator between, spelled by a production
+pub record Twofold (K : Spelled RawExprKind) (o : Operator) (e f : Plain) (ts rest : List Terminal) : Type 0 where
+  pub left : RawExpr
+  pub right : RawExpr
+  pub spelled : K ts rest (kinds.Two o left right)
+  pub left_means : plain left ≡ e
+  pub right_means : plain right ≡ f
+
+pub spelt_two : {K : Spelled RawExprKind} (o : Operator) {e f : Plain} {ts rest : List Terminal} → Twofold K o e f ts rest → Spelt K (joined o e f) ts rest
+spelt_two o {e = e} t = record {
+  kind = kinds.Two o t.left t.right;
+  spelled = t.spelled;
+  means = said-Two o t.left t.right ∙ (ap (λ z. joined o z (plain t.right)) t.left_means ∙ ap (joined o e) t.right_means);
+}
+
 -- two of a chain
-pub chained_more : (Op : Spelled Operator) (Item : Spelled RawExprKind) {e f : Plain} {ts us vs rest : List Terminal} {o : Operator}
-    → Spelt (Chained Op Item) e ts us → Op us vs o → Spelt Item f vs rest → Spelt (Chained Op Item) (joined o e f) ts rest
+pub chained_two : (Op : Spelled Operator) (Item : Spelled RawExprKind) {e f : Plain} {ts us vs rest : List Terminal} {o : Operator}
+    → Spelt (Chained Op Item) e ts us → Op us vs o → Spelt Item f vs rest → Twofold (Chained Op Item) o e f ts rest
 unfolding Chained
-chained_more ops item {e = e} {f = f} {vs = vs} {o = o} a op b =
+chained_two ops item {vs = vs} a op b =
     let c = a.spelled in
-    let y = placed_at b.kind vs in
     record {
-      kind = kinds.Two o (placed_at a.kind c.value) y;
+      left = placed_at a.kind c.value;
+      right = placed_at b.kind vs;
       spelled = seq c.value c.middle c.one (seq c.next.value c.next.middle c.next.one (chain_more c.next.next op (whole b.spelled)));
-      means = said-Two o (placed_at a.kind c.value) y ∙ (ap (λ z. joined o z (plain y)) (says_placed a.kind _ ∙ a.means) ∙ ap (joined o e) (says_placed b.kind _ ∙ b.means));
+      left_means = says_placed a.kind _ ∙ a.means;
+      right_means = says_placed b.kind _ ∙ b.means;
     }
 
 pub sums : (I : Spelled RawExprKind) (o : Operator) {e f : Plain} {ts us vs rest : List Terminal}
-    → Spelt (Sum I) e ts us → SumSign us vs o → Spelt (Product I) f vs rest → Spelt (Sum I) (joined o e f) ts rest
+    → Spelt (Sum I) e ts us → SumSign us vs o → Spelt (Product I) f vs rest → Twofold (Sum I) o e f ts rest
 unfolding Sum
-sums inside o a op b = chained_more SumSign (Product inside) a op b
+sums inside o a op b = chained_two SumSign (Product inside) a op b
 
 pub ands : (I : Spelled RawExprKind) {e f : Plain} {ts us vs rest : List Terminal}
-    → Spelt (And I) e ts us → Joins sign.And operator.And us vs operator.And → Spelt (Relation I) f vs rest → Spelt (And I) (two both e f) ts rest
+    → Spelt (And I) e ts us → Joins sign.And operator.And us vs operator.And → Spelt (Relation I) f vs rest → Twofold (And I) operator.And e f ts rest
 unfolding And
-ands inside a op b = chained_more (Joins sign.And operator.And) (Relation inside) a op b
+ands inside a op b = chained_two (Joins sign.And operator.And) (Relation inside) a op b
 
 pub ors : (I : Spelled RawExprKind) {e f : Plain} {ts us vs rest : List Terminal}
-    → Spelt (Or I) e ts us → Joins sign.Or operator.Or us vs operator.Or → Spelt (And I) f vs rest → Spelt (Or I) (two either e f) ts rest
+    → Spelt (Or I) e ts us → Joins sign.Or operator.Or us vs operator.Or → Spelt (And I) f vs rest → Twofold (Or I) operator.Or e f ts rest
 unfolding Or
-ors inside a op b = chained_more (Joins sign.Or operator.Or) (And inside) a op b
+ors inside a op b = chained_two (Joins sign.Or operator.Or) (And inside) a op b
 
 pub relations : (I : Spelled RawExprKind) (o : Operator) {e f : Plain} {ts us vs rest : List Terminal}
-    → Spelt (Sum I) e ts us → RelationSign us vs o → Spelt (Sum I) f vs rest → Spelt (Relation I) (joined o e f) ts rest
+    → Spelt (Sum I) e ts us → RelationSign us vs o → Spelt (Sum I) f vs rest → Twofold (Relation I) o e f ts rest
 unfolding Relation
-relations inside o {e = e} {f = f} {ts = ts} {us = us} {vs = vs} {rest = rest} a op b =
+relations inside o {ts = ts} {us = us} {vs = vs} {rest = rest} a op b =
     let y = placed_at b.kind vs in
     record {
-      kind = kinds.Two o (placed_at a.kind ts) y;
+      left = placed_at a.kind ts;
+      right = y;
       spelled = seq ts ts here_is (seq a.kind us a.spelled (the_other (seq o vs op (seq y rest (whole b.spelled) (yields _)))));
-      means = said-Two o (placed_at a.kind ts) y ∙ (ap (λ z. joined o z (plain y)) (says_placed a.kind _ ∙ a.means) ∙ ap (joined o e) (says_placed b.kind _ ∙ b.means));
+      left_means = says_placed a.kind _ ∙ a.means;
+      right_means = says_placed b.kind _ ∙ b.means;
     }
 
 pub implications : (I : Spelled RawExprKind) {e f : Plain} {ts us vs rest : List Terminal} {line : ℕ}
-    → Spelt (Or I) e ts us → The sign.Implies us vs line → Spelt (Implied I) f vs rest → Spelt (Implied I) (two implies e f) ts rest
-implications inside {e = e} {f = f} {ts = ts} {us = us} {vs = vs} {line = line} a op b =
-    let y = placed_at b.kind vs in
-    record {
-      kind = kinds.Two operator.Implies (placed_at a.kind ts) y;
-      spelled = and_implies a.kind us line a.spelled op b.spelled;
-      means = said-Two operator.Implies (placed_at a.kind ts) y
-          ∙ (ap (λ z. joined operator.Implies z (plain y)) (says_placed a.kind _ ∙ a.means) ∙ ap (joined operator.Implies e) (says_placed b.kind _ ∙ b.means));
-    }
+    → Spelt (Or I) e ts us → The sign.Implies us vs line → Spelt (Implied I) f vs rest → Twofold (Implied I) operator.Implies e f ts rest
+implications inside {ts = ts} {us = us} {vs = vs} {line = line} a op b = record {
+  left = placed_at a.kind ts;
+  right = placed_at b.kind vs;
+  spelled = and_implies a.kind us line a.spelled op b.spelled;
+  left_means = says_placed a.kind _ ∙ a.means;
+  right_means = says_placed b.kind _ ∙ b.means;
+}
 
 pub joins : {s : Sign} {o : Operator} {ts rest : List Terminal} → Says (one s) ts rest → Joins s o ts rest o
 joins {o = o} {rest = rest} h = let r = the_sign h in seq r.0 rest r.1 (yields o)

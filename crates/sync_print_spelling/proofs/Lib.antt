@@ -3,6 +3,7 @@ mod Terminals
 mod Levels
 mod Operands
 mod Expressions
+mod Brackets
 mod Lists
 mod Hyps
 mod Steps

@@ -1,5 +1,5 @@
 -- The operands of expressions: what each spells.
-use Rattle.std.proofs.Common.{◌≡◌, ◌≤◌, ℕ, unsigned_abs, List, map, Some, refl, ap, ◌∙◌, arith}
+use Rattle.std.proofs.Common.{◌≡◌, ◌≤◌, ℕ, ℤ, unsigned_abs, List, map, Some, refl, ap, ◌∙◌, arith}
 use Rattle.sync_lex.specs.declared.signs.Sign.TheVariants as sign
 use Rattle.sync_lex.specs.declared.terminals.Terminal.{Terminal}
 use Rattle.sync_base.specs.Limits.{largest}
@@ -122,13 +122,30 @@ negations {us = us} b x =
       means = said-Not (placed_at x.kind us) ∙ ap negation (says_placed x.kind _ ∙ x.means);
     }
 
+-- a number times something, spelled by a production
+pub record Multiple (K : Spelled RawExprKind) (n : ℕ) (e : Plain) (ts rest : List Terminal) : Type 0 where
+  pub factor : ℤ
+  pub inner : RawExpr
+  pub spelled : K ts rest (kinds.Times factor inner)
+  pub factor_is : unsigned_abs factor ≡ n
+  pub means : plain inner ≡ e
+
 pub products : {I : Spelled RawExprKind} {e : Plain} {ts us vs rest : List Terminal} {n line : ℕ} → n ≤ largest → ANumber ts us n → The sign.Star us vs line → Spelt (Unary I) e vs rest
-    → Spelt (Product I) (times n e) ts rest
+    → Multiple (Product I) n e ts rest
 unfolding Product
-products {e = e} {us = us} {vs = vs} {rest = rest} {n = n} {line = line} fits h s x =
+products {us = us} {vs = vs} {rest = rest} {n = n} {line = line} fits h s x =
     let y = placed_at x.kind vs in
     record {
-      kind = kinds.Times (signed n) y;
+      factor = signed n;
+      inner = y;
       spelled = the_other (seq n us h (seq line vs s (seq y rest (whole x.spelled) (yields _))));
-      means = said-Times (signed n) y ∙ (ap (λ m. times m (plain y)) (within n fits) ∙ ap (times n) (says_placed x.kind _ ∙ x.means));
+      factor_is = within n fits;
+      means = says_placed x.kind _ ∙ x.means;
     }
+
+pub spelt_times : {K : Spelled RawExprKind} {n : ℕ} {e : Plain} {ts rest : List Terminal} → Multiple K n e ts rest → Spelt K (times n e) ts rest
+spelt_times {n = n} {e = e} m = record {
+  kind = kinds.Times m.factor m.inner;
+  spelled = m.spelled;
+  means = said-Times m.factor m.inner ∙ (ap (λ k. times k (plain m.inner)) m.factor_is ∙ ap (times n) m.means);
+}

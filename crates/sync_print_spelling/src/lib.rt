@@ -1,6 +1,7 @@
 //! The canonical form and its laws: what it spells by the productions of the grammar, and what reading it gives.
 #![tactic(auto)]
 
+ghost use Rattle.sync_print_spelling.specs.Levels.{BracketsAreNeeded};
 ghost use Rattle.sync_print_spelling.specs.Laws.{OneTree, ReadIsSpelled, ShowSpells, SpelledFits, EachTreeIsSpelled};
 
 mod printing;
@@ -31,4 +32,10 @@ pub fn what_is_read_is_spelled()
 /// Each tree that a text can hold is spelled: its canonical bytes spell a tree that says the same, with the same names.
 pub fn each_tree_is_spelled()
     ensures { EachTreeIsSpelled }
+{}
+
+/// Brackets stand in a canonical text only round an expression of a lower level than its place wants, and without them the
+/// production of the place spells nothing there.
+pub fn brackets_are_needed()
+    ensures { BracketsAreNeeded }
 {}
