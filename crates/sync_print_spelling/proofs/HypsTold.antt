@@ -1,5 +1,5 @@
 -- What is read as a hypothesis or a part of a sum is within the limits, and its terminals name what is shown of it.
-use Rattle.std.proofs.Common.{◌≡◌, ◌≤◌, ℕ, zero, suc, ℤ, pos, neg_ℤ, unsigned_abs, Bool, true, false, List, ◌++◌, min, Option, Some, None, if◌then◌else◌, subst, arith}
+use Rattle.std.proofs.Common.{◌≡◌, ◌≤◌, ℕ, zero, suc, ℤ, pos, neg_ℤ, unsigned_abs, Bool, true, false, List, ◌++◌, min, Some, None, if◌then◌else◌, subst, arith}
 use Rattle.std.specs.Int.{is_negative}
 use Rattle.sync_base.proofs.Basics.{some_is}
 use Rattle.sync_base.specs.declared.names.NameList.{NameList}

@@ -11,7 +11,7 @@ use Rattle.sync_parse_exprs.specs.declared.expressions.Operator.TheVariants as o
 use Rattle.sync_parse_exprs.specs.Expressions.{placed}
 use Rattle.sync_parse_grammar.specs.Relations.{Spelled, The, the_one, the_other}
 use Rattle.sync_parse_grammar.specs.Expressions.{placed_at, Whole, Unary, Product, Chain, ends, goes_on, Chained, SumSign, Sum, RelationSign, Relation, And, Or, Implied, plain as no_implies, implies as and_implies, Joins}
-use Rattle.sync_print.specs.Exprs.{implies, either, both, Plain, two, joined, plain, plain_kind, plain_at}
+use Rattle.sync_print.specs.Exprs.{Plain, joined, plain, plain_kind, plain_at}
 use Rattle.sync_print.specs.Lexemes.{one}
 use Rattle.sync_print.proofs.Saying.{said, said-Two}
 use Rattle.sync_print_spelling.specs.Levels.{Level, l0, l1, l2, l3, l4, l5, l6, rank, level}
@@ -31,53 +31,54 @@ says_placed x line = fold-roll-RawExpr Plain Plain plain_kind plain_at (record {
 -- ---- levels
 
 -- a derivation of a level is one of the level below
-pub as_product : (I : Spelled RawExprKind) {ts rest : List Terminal} {x : RawExprKind} → Unary I ts rest x → Product I ts rest x
+pub as_product : (I : Spelled RawExprKind) (ts rest : List Terminal) (x : RawExprKind) → Unary I ts rest x → Product I ts rest x
 unfolding Product
-as_product inside d = the_one d
+as_product inside ts rest x d = the_one d
 
-pub as_chain : (Op : Spelled Operator) (Item : Spelled RawExprKind) {ts rest : List Terminal} {x : RawExprKind} → Item ts rest x → Chained Op Item ts rest x
+pub as_chain : (Op : Spelled Operator) (Item : Spelled RawExprKind) (ts rest : List Terminal) (x : RawExprKind) → Item ts rest x → Chained Op Item ts rest x
 unfolding Chained
-as_chain op item {ts = ts} {rest = rest} {x = x} d = seq ts ts here_is (seq x rest d ends)
+as_chain op item ts rest x d = seq ts ts here_is (seq x rest d ends)
 
-pub as_sum : (I : Spelled RawExprKind) {ts rest : List Terminal} {x : RawExprKind} → Product I ts rest x → Sum I ts rest x
+pub as_sum : (I : Spelled RawExprKind) (ts rest : List Terminal) (x : RawExprKind) → Product I ts rest x → Sum I ts rest x
 unfolding Sum
-as_sum inside d = as_chain SumSign (Product inside) d
+as_sum inside ts rest x d = as_chain SumSign (Product inside) ts rest x d
 
-pub as_relation : (I : Spelled RawExprKind) {ts rest : List Terminal} {x : RawExprKind} → Sum I ts rest x → Relation I ts rest x
+pub as_relation : (I : Spelled RawExprKind) (ts rest : List Terminal) (x : RawExprKind) → Sum I ts rest x → Relation I ts rest x
 unfolding Relation
-as_relation inside {ts = ts} {rest = rest} {x = x} d = seq ts ts here_is (seq x rest d (the_one (yields x)))
+as_relation inside ts rest x d = seq ts ts here_is (seq x rest d (the_one (yields x)))
 
-pub as_and : (I : Spelled RawExprKind) {ts rest : List Terminal} {x : RawExprKind} → Relation I ts rest x → And I ts rest x
+pub as_and : (I : Spelled RawExprKind) (ts rest : List Terminal) (x : RawExprKind) → Relation I ts rest x → And I ts rest x
 unfolding And
-as_and inside d = as_chain (Joins sign.And operator.And) (Relation inside) d
+as_and inside ts rest x d = as_chain (Joins sign.And operator.And) (Relation inside) ts rest x d
 
-pub as_or : (I : Spelled RawExprKind) {ts rest : List Terminal} {x : RawExprKind} → And I ts rest x → Or I ts rest x
+pub as_or : (I : Spelled RawExprKind) (ts rest : List Terminal) (x : RawExprKind) → And I ts rest x → Or I ts rest x
 unfolding Or
-as_or inside d = as_chain (Joins sign.Or operator.Or) (And inside) d
+as_or inside ts rest x d = as_chain (Joins sign.Or operator.Or) (And inside) ts rest x d
 
-pub to_lowest : (I : Spelled RawExprKind) (k : Level) {ts rest : List Terminal} {x : RawExprKind} → level k I ts rest x → Implied I ts rest x
-to_lowest inside l0 d = d
-to_lowest inside l1 d = no_implies d
-to_lowest inside l2 d = no_implies (as_or inside d)
-to_lowest inside l3 d = no_implies (as_or inside (as_and inside d))
-to_lowest inside l4 d = no_implies (as_or inside (as_and inside (as_relation inside d)))
-to_lowest inside l5 d = no_implies (as_or inside (as_and inside (as_relation inside (as_sum inside d))))
-to_lowest inside l6 d = no_implies (as_or inside (as_and inside (as_relation inside (as_sum inside (as_product inside d)))))
+pub to_lowest : (I : Spelled RawExprKind) (k : Level) (ts rest : List Terminal) (x : RawExprKind) → level k I ts rest x → Implied I ts rest x
+to_lowest inside l0 ts rest x d = d
+to_lowest inside l1 ts rest x d = no_implies d
+to_lowest inside l2 ts rest x d = no_implies (as_or inside ts rest x d)
+to_lowest inside l3 ts rest x d = no_implies (as_or inside ts rest x (as_and inside ts rest x d))
+to_lowest inside l4 ts rest x d = no_implies (as_or inside ts rest x (as_and inside ts rest x (as_relation inside ts rest x d)))
+to_lowest inside l5 ts rest x d = no_implies (as_or inside ts rest x (as_and inside ts rest x (as_relation inside ts rest x (as_sum inside ts rest x d))))
+to_lowest inside l6 ts rest x d =
+    no_implies (as_or inside ts rest x (as_and inside ts rest x (as_relation inside ts rest x (as_sum inside ts rest x (as_product inside ts rest x d)))))
 
 pub up6 : (I : Spelled RawExprKind) {e : Plain} {ts rest : List Terminal} → Spelt (Unary I) e ts rest → Spelt (Product I) e ts rest
-up6 inside x = record { kind = x.kind; spelled = as_product inside x.spelled; means = x.means }
+up6 inside {ts = ts} {rest = rest} x = record { kind = x.kind; spelled = as_product inside ts rest x.kind x.spelled; means = x.means }
 
 pub up5 : (I : Spelled RawExprKind) {e : Plain} {ts rest : List Terminal} → Spelt (Product I) e ts rest → Spelt (Sum I) e ts rest
-up5 inside x = record { kind = x.kind; spelled = as_sum inside x.spelled; means = x.means }
+up5 inside {ts = ts} {rest = rest} x = record { kind = x.kind; spelled = as_sum inside ts rest x.kind x.spelled; means = x.means }
 
 pub up4 : (I : Spelled RawExprKind) {e : Plain} {ts rest : List Terminal} → Spelt (Sum I) e ts rest → Spelt (Relation I) e ts rest
-up4 inside x = record { kind = x.kind; spelled = as_relation inside x.spelled; means = x.means }
+up4 inside {ts = ts} {rest = rest} x = record { kind = x.kind; spelled = as_relation inside ts rest x.kind x.spelled; means = x.means }
 
 pub up3 : (I : Spelled RawExprKind) {e : Plain} {ts rest : List Terminal} → Spelt (Relation I) e ts rest → Spelt (And I) e ts rest
-up3 inside x = record { kind = x.kind; spelled = as_and inside x.spelled; means = x.means }
+up3 inside {ts = ts} {rest = rest} x = record { kind = x.kind; spelled = as_and inside ts rest x.kind x.spelled; means = x.means }
 
 pub up2 : (I : Spelled RawExprKind) {e : Plain} {ts rest : List Terminal} → Spelt (And I) e ts rest → Spelt (Or I) e ts rest
-up2 inside x = record { kind = x.kind; spelled = as_or inside x.spelled; means = x.means }
+up2 inside {ts = ts} {rest = rest} x = record { kind = x.kind; spelled = as_or inside ts rest x.kind x.spelled; means = x.means }
 
 pub up1 : (I : Spelled RawExprKind) {e : Plain} {ts rest : List Terminal} → Spelt (Or I) e ts rest → Spelt (Implied I) e ts rest
 up1 inside x = record { kind = x.kind; spelled = no_implies x.spelled; means = x.means }

@@ -3,7 +3,7 @@ mod Terminals
 mod Levels
 mod Operands
 mod Expressions
-mod Brackets
+mod NeededBrackets
 mod Lists
 mod Hyps
 mod Steps

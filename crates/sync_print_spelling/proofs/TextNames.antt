@@ -1,5 +1,5 @@
 -- The names of a text are names, and no two are spelled alike.
-use Rattle.std.proofs.Common.{◌≡◌, ◌≢◌, ◌+◌, ◌-◌, ◌<◌, ◌≤◌, ℕ, zero, suc, Bool, true, false, cond, ◌&&◌, if◌then◌else◌, nat_eq, codes, AllPairs, Contains, List, [], ◌∷◌, ◌++◌, length, get_or, drop, slice_range, Option, Some, None, Ok, Err, refl, sym, subst, is_some, arith, le-leb, length-take, length-drop}
+use Rattle.std.proofs.Common.{◌≡◌, ◌≢◌, ◌+◌, ◌-◌, ◌<◌, ◌≤◌, ℕ, zero, suc, Bool, true, false, cond, if◌then◌else◌, nat_eq, codes, AllPairs, Contains, List, [], ◌∷◌, ◌++◌, length, get_or, drop, slice_range, Option, Some, None, Ok, Err, refl, sym, subst, is_some, arith, le-leb, length-take, length-drop}
 use Rattle.std.specs.Prelude.{nat_lt}
 use Rattle.std.specs.Char.{is_ascii_digit}
 use Rattle.std.specs.List.{AllByRecursion, list_all, list_any, take_while, starts_with}

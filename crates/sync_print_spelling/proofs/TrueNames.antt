@@ -1,5 +1,5 @@
 -- What is printed of lexemes, and terminals that are true to a list of names.
-use Rattle.std.specs.Prelude.{◌≡◌, ℕ, ◌≤◌, ◌<◌, List, [], length, Ok, All}
+use Rattle.std.specs.Prelude.{◌≡◌, ◌≤◌, ◌<◌, List, [], length, Ok, All}
 use Rattle.sync_base.specs.Limits.{largest}
 use Rattle.sync_base.specs.declared.names.NameList.{NameList}
 use Rattle.sync_lex.specs.declared.terminals.Terminals.{Terminals}

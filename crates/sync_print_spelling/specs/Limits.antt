@@ -1,5 +1,5 @@
 -- What a text can hold: numbers up to 2 ^ 127 - 1, statements with numbers up to 4,294,967,295, and no sum of nothing.
-use Rattle.std.specs.Prelude.{ℕ, ◌≤◌, length, unsigned_abs}
+use Rattle.std.specs.Prelude.{◌≤◌, length, unsigned_abs}
 use Rattle.std.specs.List.{All}
 use Rattle.sync_base.specs.Limits.{largest}
 use Rattle.sync_parse.specs.Scripts.{last_statement}

@@ -18,8 +18,8 @@ use Rattle.sync_parse_exprs.specs.declared.raw_names.RawName.{RawName}
 use Rattle.sync_parse_exprs.specs.Expressions.{signed}
 use Rattle.sync_parse_grammar.specs.Relations.{Spelled, Yields, ◌>>=◌, Either, the_one, the_other}
 use Rattle.sync_parse_grammar.specs.Expressions.{placed_at, Whole, NoNumber, Operand, Unary, Product, Chain, Chained, Joins, SumSign, Sum, RelationSign, Relation, And, Or, Implied, Nested}
-use Rattle.sync_parse_grammar.proofs.ExpressionsClear.{Inner, nested_inner, clear_implied}
-use Rattle.sync_print.specs.Exprs.{implies, either, both, equal, at_most, below, plus, minus, Plain, number, name, param, nil, special, call, negation, times, two}
+use Rattle.sync_parse_grammar.proofs.ExpressionsClear.{nested_inner, clear_implied}
+use Rattle.sync_print.specs.Exprs.{implies, either, both, equal, at_most, below, plus, minus, Plain, negation, times, two}
 use Rattle.sync_print.specs.Lexemes.{Lexeme, one, one_number, needed}
 use Rattle.sync_print.specs.ShowExprs.{shown, show_expr}
 use Rattle.sync_print_spelling.specs.Levels.{Level, l0, l1, l2, l3, l4, l5, l6, rank, level, own_level, bracketed_if, BracketsAreNeeded}
@@ -211,7 +211,7 @@ bare xs {ts = ts} h = subst (λ zs. Says zs ts []) (append-nil xs) h
 own_two : (own : Level) {high : ℕ} (o : Operator) {e f : Plain} {xs : List Lexeme} (ts : List Terminal) → CoreTwo own high o e f xs → Says xs ts [] → Own (operator_level o) ts
 own_two own {high = high} o ts core h =
     let t = core.reads high (omega arith) ts [] h in
-    record { depth = high; kind = kinds.Two o t.left t.right; spelled = to_lowest (Nested high) own t.spelled; level_is = level-Two o t.left t.right }
+    record { depth = high; kind = kinds.Two o t.left t.right; spelled = to_lowest (Nested high) own ts [] (kinds.Two o t.left t.right) t.spelled; level_is = level-Two o t.left t.right }
 
 module _ (k : Level) (ts : List Terminal) where
   negation_own : (e : Plain) → ExprFits e → nat_lt (own_level (negation e)) (rank k) ≡ true → Says (show_expr (negation e)) ts [] → Own (own_level (negation e)) ts
@@ -222,7 +222,7 @@ module _ (k : Level) (ts : List Terminal) where
   own (negation e) fits low h = negation_own e fits low h
   own (times n e) fits low h =
       let m = times_read fits.0 (all_placed e fits.1).at (height e) (omega arith) ts [] (bare _ h) in
-      record { depth = height e; kind = kinds.Times m.factor m.inner; spelled = to_lowest (Nested (height e)) l5 m.spelled; level_is = level-Times m.factor m.inner }
+      record { depth = height e; kind = kinds.Times m.factor m.inner; spelled = to_lowest (Nested (height e)) l5 ts [] (kinds.Times m.factor m.inner) m.spelled; level_is = level-Times m.factor m.inner }
   own (two implies a b) fits low h = own_two l0 operator.Implies ts (core_implies (all_placed a fits.0).at (all_placed b fits.1).at) (bare _ h)
   own (two either a b) fits low h = own_two l1 operator.Or ts (core_either (all_placed a fits.0).at (all_placed b fits.1).at) (bare _ h)
   own (two both a b) fits low h = own_two l2 operator.And ts (core_both (all_placed a fits.0).at (all_placed b fits.1).at) (bare _ h)
@@ -241,7 +241,7 @@ none_spelled : (e : Plain) (k : Level) → ExprFits e → nat_lt (own_level e) (
     → (depth : ℕ) (x : RawExprKind) → level k (Nested depth) ts [] x → ⊥
 none_spelled e k fits low ts h depth x d =
     let t = own k ts e fits low h in
-    let same = (clear_implied (nested_inner t.depth depth)).at ts ts [] [] t.kind x t.spelled (to_lowest (Nested depth) k d) refl refl refl in
+    let same = (clear_implied (nested_inner t.depth depth)).at ts ts [] [] t.kind x t.spelled (to_lowest (Nested depth) k ts [] x d) refl refl refl in
     let is : raw_level x ≡ own_level e = ap raw_level (sym same.1) ∙ t.level_is in
     let above = level_above k (Nested depth) ts [] x d in
     let lower = below_is (own_level e) (rank k) low in
