@@ -7,6 +7,7 @@ use Rattle.sync_parse_exprs.specs.declared.expressions.RawExprKind.TheOpen.{RawE
 use Rattle.sync_parse_exprs.specs.declared.expressions.Function.{Function}
 use Rattle.sync_parse_exprs.specs.declared.expressions.RawExprKind.TheVariants as kinds
 use Rattle.sync_parse_exprs.specs.declared.expressions.RawExprKind.TheVariants.{rolls-Call}
+use Rattle.sync_terms.specs.Trees.{most_nodes}
 use Rattle.sync_read_names.specs.Exprs.{Reading, reading, all_nodes, nodes_at, Kind, kind_reading, expr_reading}
 
 abbrev kind : RawExprKind → Kind
@@ -36,7 +37,7 @@ one_at [] i x is below = absurd (omega arith)
 one_at (e ∷ es) zero x is below = ap (λ y. (reading y).nodes) (sym is)
 one_at (e ∷ es) (suc i) x is below = one_at es i x is (omega arith)
 
-pub one_small : (es : List RawExpr) (i : ℕ) (x : RawExpr) → all_nodes (map reading es) ≤ 1000000 → x ≡ get_or es i x → i < length es → (reading x).nodes ≤ 1000000
+pub one_small : (es : List RawExpr) (i : ℕ) (x : RawExpr) → all_nodes (map reading es) ≤ most_nodes → x ≡ get_or es i x → i < length es → (reading x).nodes ≤ most_nodes
 one_small es i x small is below = omega (arith, below_all (map reading es) i, one_at es i x is below)
 
 pub three_small : (rs : List Reading) → nodes_at rs 0 + nodes_at rs 1 + nodes_at rs 2 ≤ all_nodes rs

@@ -7,7 +7,7 @@ use Rattle.std.specs.Prelude.{ℕ, ◌+◌, ◌==◌, pos, Bool, true, false, no
 use Rattle.sync_base.specs.declared.stops.Refusal.{Refusal}
 use Rattle.sync_base.specs.declared.stops.Rule.TheVariants.{N1, N3, N5, N6}
 use Rattle.sync_base.specs.Outcome.{◌>>=◌, first}
-use Rattle.sync_terms.specs.Trees.{Tree, Formula}
+use Rattle.sync_terms.specs.Trees.{Tree, Formula, most_nodes}
 use Rattle.sync_terms.specs.Trees as trees
 use Rattle.sync_parse_exprs.specs.declared.expressions.RawExpr.{RawExpr, fold-RawExpr}
 use Rattle.sync_parse_exprs.specs.declared.expressions.RawExprKind.TheOpen.{RawExprKind-F, RawExpr-F}
@@ -18,7 +18,7 @@ use Rattle.sync_parse_exprs.specs.declared.expressions.Operator.TheVariants as o
 use Rattle.sync_read_names.specs.declared.scopes.Sort.{Sort}
 use Rattle.sync_read_names.specs.declared.scopes.Sort.TheVariants as sort
 use Rattle.sync_read_names.specs.declared.scopes.Scope.{Scope}
-use Rattle.sync_read_names.specs.Scopes.{refuse, name_sort, name_symbol, knows_params, param_symbol}
+use Rattle.sync_read_names.specs.Scopes.{refuse, name_sort, known_symbol, knows_params, param_symbol}
 
 -- an expression: its line; its nodes as a tree; its sort, where its name is known; the rule N1 or N3 that its first
 -- lexeme breaks; and its term or formula, if that is what it is
@@ -256,7 +256,7 @@ opening_in (RawExprKind-F.Times n e) s = None
 abbrev pub term_in : RawExprKind-F Kind Reading → ℕ → Scope → Result Tree Refusal
 term_in (RawExprKind-F.Number n) at s = Ok (trees.Lit n)
 term_in (RawExprKind-F.Name named) at s = do
-  x ← name_symbol s named
+  x ← known_symbol s named
   Ok (trees.Name x)
 term_in (RawExprKind-F.Param line named) at s = do
   x ← param_symbol s line named
@@ -311,9 +311,9 @@ reading = fold-RawExpr Kind Reading kind_reading expr_reading
 
 -- ---- expressions that stand by themselves
 
--- a term or formula of over 1,000,000 nodes
+-- a term or formula of more nodes than a store has
 abbrev pub too_large : Reading → Option Refusal
-too_large r = if nat_lt 1000000 r.nodes then Some (record { line = r.line; rule = N5 }) else None
+too_large r = if nat_lt most_nodes r.nodes then Some (record { line = r.line; rule = N5 }) else None
 
 -- the rule that their first lexeme breaks, but for N6
 abbrev pub start_fault : Reading → Scope → Option Refusal

@@ -1,14 +1,16 @@
 -- What the names of a text stand for at a place.
-use Rattle.std.specs.Prelude.{ℕ, ◌+◌, ◌*◌, ◌^◌, ◌==◌, min, bit_or, Bool, true, false, slice_get, slice_set, length, nat_lt, ◌||◌, Option, Some, None, Result, Ok, Err, if◌then◌else◌}
+use Rattle.std.specs.Prelude.{ℕ, ◌-◌, ◌^◌, ◌==◌, min, bit_or, Bool, true, false, slice_get, slice_set, length, nat_lt, ◌||◌, Option, Some, None, Result, Ok, Err, if◌then◌else◌}
 use Rattle.std.specs.Int.{bit_at}
 use Rattle.sync_base.specs.declared.stops.Refusal.{Refusal}
 use Rattle.sync_base.specs.declared.stops.Rule.{Rule}
 use Rattle.sync_base.specs.declared.stops.Rule.TheVariants.{N1, N2}
+use Rattle.sync_base.specs.Limits.{longest_text}
+use Rattle.sync_terms.specs.Symbols.{name_symbol, dollar_symbol}
 use Rattle.sync_parse_exprs.specs.declared.raw_names.RawName.{RawName}
 use Rattle.sync_read_names.specs.declared.scopes.Sort.{Sort}
 use Rattle.sync_read_names.specs.declared.scopes.Sort.TheVariants.{Number}
 use Rattle.sync_read_names.specs.declared.scopes.Meaning.{Meaning}
-use Rattle.sync_read_names.specs.declared.scopes.Meaning.TheVariants.{Nothing, Field, Operation, Invariant}
+use Rattle.sync_read_names.specs.declared.scopes.Meaning.TheVariants.{Nothing, Field}
 use Rattle.sync_read_names.specs.declared.scopes.Owners.{Owners}
 use Rattle.sync_read_names.specs.declared.scopes.Owner.{Owner}
 use Rattle.sync_read_names.specs.declared.scopes.Owner.TheVariants as owner
@@ -20,12 +22,16 @@ refuse rule line = Err (record { line = line; rule = rule })
 
 -- ---- symbols
 
--- the symbol of a name as a parameter or bound name, and that of `$` before it; a text has fewer than 1,048,576 names
+-- the number of a name; a text has fewer names than bytes
+abbrev pub number_in : ℕ → ℕ
+number_in name = min name (longest_text - 1)
+
+-- the symbol of a name as a parameter or bound name, and that of `$` before it
 abbrev pub symbol_of : ℕ → ℕ
-symbol_of name = 64 + 4 * min name 1048575
+symbol_of name = name_symbol (number_in name)
 
 abbrev pub param_symbol_of : ℕ → ℕ
-param_symbol_of name = 65 + 4 * min name 1048575
+param_symbol_of name = dollar_symbol (symbol_of name)
 
 -- ---- what a name was declared as
 
@@ -38,13 +44,14 @@ meaning_of s name = or_nothing (slice_get s.meanings name)
 
 abbrev pub if_new : Meaning → RawName → Scope → Result Scope Refusal
 if_new Nothing named s = Ok s
-if_new (Field number sort) named s = refuse N2 named.line
-if_new (Operation number) named s = refuse N2 named.line
-if_new (Invariant number) named s = refuse N2 named.line
+if_new _ named s = refuse N2 named.line
 
 -- a field, operation or invariant of a new name; a name that the text does not have is unknown
 abbrev pub declare : Scope → RawName → Meaning → Result Scope Refusal
-declare s named m = if nat_lt named.name (length s.meanings) then if_new (meaning_of s named.name) named (record s { meanings = slice_set s.meanings named.name m }) else refuse N1 named.line
+declare s named m =
+    if nat_lt named.name (length s.meanings)
+    then if_new (meaning_of s named.name) named (record s { meanings = slice_set s.meanings named.name m })
+    else refuse N1 named.line
 
 -- ---- whose parameter or bound name it is
 
@@ -79,9 +86,7 @@ is_local s name = is_owned s s.owner name
 
 abbrev pub is_field : Meaning → Bool
 is_field (Field number sort) = true
-is_field Nothing = false
-is_field (Operation number) = false
-is_field (Invariant number) = false
+is_field _ = false
 
 -- a parameter or bound name here, or a field
 abbrev pub is_taken : Scope → ℕ → Bool
@@ -89,7 +94,8 @@ is_taken s name = is_field (meaning_of s name) || is_local s name
 
 abbrev pub own_more : Option Owners → Scope → RawName → Result Scope Refusal
 own_more None s named = refuse N1 named.line
-own_more (Some o) s named = if is_taken s named.name then refuse N2 named.line else Ok (record s { owners = slice_set s.owners named.name (with_owner o s.owner) })
+own_more (Some o) s named =
+    if is_taken s named.name then refuse N2 named.line else Ok (record s { owners = slice_set s.owners named.name (with_owner o s.owner) })
 
 -- one more parameter or bound name of the owner
 abbrev pub own : Scope → RawName → Result Scope Refusal
@@ -99,9 +105,7 @@ own s named = own_more (slice_get s.owners named.name) s named
 
 abbrev pub field_sort : Meaning → Option Sort
 field_sort (Field number sort) = Some sort
-field_sort Nothing = None
-field_sort (Operation number) = None
-field_sort (Invariant number) = None
+field_sort _ = None
 
 -- the sort of a name in a term, which is a parameter, a bound name or a field; an unknown name has none
 abbrev pub name_sort : Scope → ℕ → Option Sort
@@ -109,13 +113,11 @@ name_sort s name = if is_local s name then Some Number else field_sort (meaning_
 
 abbrev pub field_symbol : Meaning → ℕ → Result ℕ Refusal
 field_symbol (Field number sort) line = Ok number
-field_symbol Nothing line = refuse N1 line
-field_symbol (Operation number) line = refuse N1 line
-field_symbol (Invariant number) line = refuse N1 line
+field_symbol _ line = refuse N1 line
 
 -- the symbol of a name in a term
-abbrev pub name_symbol : Scope → RawName → Result ℕ Refusal
-name_symbol s named = if is_local s named.name then Ok (symbol_of named.name) else field_symbol (meaning_of s named.name) named.line
+abbrev pub known_symbol : Scope → RawName → Result ℕ Refusal
+known_symbol s named = if is_local s named.name then Ok (symbol_of named.name) else field_symbol (meaning_of s named.name) named.line
 
 -- `$` is known behind a claim that has parameters
 abbrev pub knows_params : Owner → Bool
@@ -125,4 +127,5 @@ knows_params (owner.Invariant number) = true
 
 -- the symbol of `$` before a name, which is a parameter of the claim's invariant; the line is that of `$`
 abbrev pub param_symbol : Scope → ℕ → RawName → Result ℕ Refusal
-param_symbol s line named = if knows_params s.claim then (if is_owned s s.claim named.name then Ok (param_symbol_of named.name) else refuse N1 named.line) else refuse N1 line
+param_symbol s line named =
+    if knows_params s.claim then (if is_owned s s.claim named.name then Ok (param_symbol_of named.name) else refuse N1 named.line) else refuse N1 line

@@ -2,21 +2,18 @@
 ghost use Rattle.std.specs.Prelude.{◌≡◌, ◌+◌, ◌≤◌, ◌<◌, min, map, length, get_or, MatchOption, IfSome, IfOk, Ok, pos};
 ghost use Rattle.sync_base.specs.Outcome.{Gives};
 ghost use Rattle.sync_terms.specs.Stored.{tree, formula, shape, form_shape, IsTerm, IsForm, HasChildren, HasParts, Extends};
-ghost use Rattle.sync_terms.specs.Trees.{Sub, Lit, tree_size, formula_size};
+ghost use Rattle.sync_terms.specs.Trees.{Sub, Lit, tree_size, formula_size, most_nodes};
 ghost use Rattle.sync_read_names.specs.Exprs.{Reading, reading, clashes, misfit, call_fault, function_sort, operator_sort, operator_nodes, term_as, form_as, argument, map_and_key, map_and_two, call_term, applied, two_terms, two_forms, compared, joins_forms, all_nodes, nodes_at, start_fault, term_of, form_of};
 
 use crate::scopes::{Scope, Sort, broken, refused};
 use sync_base::{Refusal, Rule, Stop};
 use sync_parse_exprs::{RawExpr, RawExprKind, Function, Operator};
-use sync_terms::{FormId, FormNode, Node, TermId, TermStop, Terms};
-
-/// The most nodes that a term or formula of a text has.
-const MOST_NODES: u64 = 1_000_000;
+use sync_terms::{FormId, FormNode, MOST_NODES, Node, TermId, TermStop, Terms};
 
 /// Adds a term, which is small enough.
 fn added(terms: &mut Terms, node: Node) -> Result<TermId, Stop>
     requires children { HasChildren terms.old node }
-    requires small { tree_size (shape terms.old node) ≤ 1000000 }
+    requires small { tree_size (shape terms.old node) ≤ most_nodes }
     ensures exact { Gives (tree terms.new) result (Ok (shape terms.old node)) }
     ensures id { IfOk result (IsTerm terms.new) }
     ensures keeps { Extends terms.old terms.new }
@@ -31,7 +28,7 @@ fn added(terms: &mut Terms, node: Node) -> Result<TermId, Stop>
 /// Adds a formula, which is small enough.
 fn added_form(terms: &mut Terms, node: FormNode) -> Result<FormId, Stop>
     requires parts { HasParts terms.old node }
-    requires small { formula_size (form_shape terms.old node) ≤ 1000000 }
+    requires small { formula_size (form_shape terms.old node) ≤ most_nodes }
     ensures exact { Gives (formula terms.new) result (Ok (form_shape terms.old node)) }
     ensures id { IfOk result (IsForm terms.new) }
     ensures keeps { Extends terms.old terms.new }
@@ -169,7 +166,7 @@ fn operator_nodes(operator: Operator) -> u64
 
 /// A number of nodes, or one more than a term may have.
 fn capped(count: u64) -> u64
-    ensures { result ≡ min count 1000001 }
+    ensures { result ≡ min count (most_nodes + 1) }
 {
     count.min(MOST_NODES + 1)
 }
@@ -177,7 +174,7 @@ fn capped(count: u64) -> u64
 /// The nodes of an expression as a tree, or one more than a term may have.
 #[cycle(counting)]
 fn nodes(e: &RawExpr) -> u64
-    ensures { result ≡ min (reading e.now).nodes 1000001 }
+    ensures { result ≡ min (reading e.now).nodes (most_nodes + 1) }
 {
     match &e.what {
         RawExprKind::Number(_)
@@ -200,7 +197,7 @@ fn nodes(e: &RawExpr) -> u64
 #[cycle(counting)]
 #[tactic(auto, unfolding(crate::specs::Exprs::all_nodes))]
 fn nodes_of(es: &[RawExpr]) -> u64
-    ensures { result ≡ min (all_nodes (map reading es.now)) 1000001 }
+    ensures { result ≡ min (all_nodes (map reading es.now)) (most_nodes + 1) }
 {
     let mut count = 0;
     for e in es {
@@ -226,7 +223,7 @@ fn start_fault(scope: &Scope, e: &RawExpr) -> Option<Refusal>
 #[tactic(auto, using(crate::proofs::Kept::kept_tree, crate::proofs::Kept::kept_term, crate::proofs::Kept::along, crate::proofs::Kept::stays), unfolding(sync_terms::specs::Stored::shape, sync_terms::specs::Stored::tree, sync_terms::specs::Trees::tree_size))]
 fn negated(terms: &mut Terms, x: TermId) -> Result<TermId, Stop>
     requires id { IsTerm terms.old x }
-    requires small { 2 + tree_size (tree terms.old x) ≤ 1000000 }
+    requires small { 2 + tree_size (tree terms.old x) ≤ most_nodes }
     ensures exact { Gives (tree terms.new) result (Ok (Sub (Lit (pos 0)) (tree terms.old x))) }
     ensures id { IfOk result (IsTerm terms.new) }
     ensures keeps { Extends terms.old terms.new }
@@ -240,7 +237,7 @@ fn negated(terms: &mut Terms, x: TermId) -> Result<TermId, Stop>
 fn counted(terms: &mut Terms, operator: Operator, x: TermId, y: TermId) -> Result<TermId, Stop>
     requires x { IsTerm terms.old x }
     requires y { IsTerm terms.old y }
-    requires small { 1 + tree_size (tree terms.old x) + tree_size (tree terms.old y) ≤ 1000000 }
+    requires small { 1 + tree_size (tree terms.old x) + tree_size (tree terms.old y) ≤ most_nodes }
     ensures exact { Gives (tree terms.new) result (Ok (two_terms operator (tree terms.old x) (tree terms.old y))) }
     ensures id { IfOk result (IsTerm terms.new) }
     ensures keeps { Extends terms.old terms.new }
@@ -260,11 +257,11 @@ fn counted(terms: &mut Terms, operator: Operator, x: TermId, y: TermId) -> Resul
 
 /// The argument at a place.
 #[tactic(auto, using(crate::proofs::Nodes::one_small, crate::proofs::Nodes::one_at))]
-fn place(args: &[RawExpr], at: usize) -> Option<&RawExpr>
-    requires small { all_nodes (map reading args.now) ≤ 1000000 }
+fn argument_at(args: &[RawExpr], at: usize) -> Option<&RawExpr>
+    requires small { all_nodes (map reading args.now) ≤ most_nodes }
     ensures item { MatchOption result (length args.now ≤ at) (λ e. (at < length args.now) × (e.now ≡ get_or args.now at e.now)) }
     ensures nodes { IfSome result (λ e. (reading e.now).nodes ≡ nodes_at (map reading args.now) at) }
-    ensures small { IfSome result (λ e. (reading e.now).nodes ≤ 1000000) }
+    ensures small { IfSome result (λ e. (reading e.now).nodes ≤ most_nodes) }
 {
     args.get(at)
 }
@@ -280,13 +277,13 @@ fn argument(
     line: u32,
     wanted: Sort,
 ) -> Result<TermId, Stop>
-    requires small { all_nodes (map reading args.now) ≤ 1000000 }
+    requires small { all_nodes (map reading args.now) ≤ most_nodes }
     ensures exact { Gives (tree terms.new) result (argument wanted (map reading args.now) at line scope.now) }
     ensures id { IfOk result (IsTerm terms.new) }
     ensures size { IfOk result (λ t. tree_size (tree terms.new t) ≤ nodes_at (map reading args.now) at) }
     ensures keeps { Extends terms.old terms.new }
 {
-    let Some(e) = place(args, at) else {
+    let Some(e) = argument_at(args, at) else {
         return Err(refused(Rule::N3, line));
     };
     term(terms, scope, e, wanted)
@@ -301,10 +298,11 @@ fn map_and_key(
     args: &[RawExpr],
     line: u32,
 ) -> Result<(TermId, TermId), Stop>
-    requires small { all_nodes (map reading args.now) ≤ 1000000 }
+    requires small { all_nodes (map reading args.now) ≤ most_nodes }
     ensures exact { Gives (λ p. (tree terms.new p.0, tree terms.new p.1)) result (map_and_key (map reading args.now) line scope.now) }
     ensures ids { IfOk result (λ p. IsTerm terms.new p.0 × IsTerm terms.new p.1) }
-    ensures size { IfOk result (λ p. tree_size (tree terms.new p.0) + tree_size (tree terms.new p.1) ≤ nodes_at (map reading args.now) 0 + nodes_at (map reading args.now) 1) }
+    ensures size { IfOk result (λ p. tree_size (tree terms.new p.0) + tree_size (tree terms.new p.1)
+        ≤ nodes_at (map reading args.now) 0 + nodes_at (map reading args.now) 1) }
     ensures keeps { Extends terms.old terms.new }
 {
     let m = argument(terms, scope, args, 0, line, Sort::Map)?;
@@ -321,10 +319,11 @@ fn map_and_two(
     args: &[RawExpr],
     line: u32,
 ) -> Result<(TermId, TermId, TermId), Stop>
-    requires small { all_nodes (map reading args.now) ≤ 1000000 }
+    requires small { all_nodes (map reading args.now) ≤ most_nodes }
     ensures exact { Gives (λ p. (tree terms.new p.0, tree terms.new p.1, tree terms.new p.2)) result (map_and_two (map reading args.now) line scope.now) }
     ensures ids { IfOk result (λ p. IsTerm terms.new p.0 × IsTerm terms.new p.1 × IsTerm terms.new p.2) }
-    ensures size { IfOk result (λ p. tree_size (tree terms.new p.0) + tree_size (tree terms.new p.1) + tree_size (tree terms.new p.2) ≤ all_nodes (map reading args.now)) }
+    ensures size { IfOk result (λ p. tree_size (tree terms.new p.0) + tree_size (tree terms.new p.1) + tree_size (tree terms.new p.2)
+        ≤ all_nodes (map reading args.now)) }
     ensures keeps { Extends terms.old terms.new }
 {
     let (m, k) = map_and_key(terms, scope, args, line)?;
@@ -342,7 +341,7 @@ fn applied(
     args: &[RawExpr],
     line: u32,
 ) -> Result<TermId, Stop>
-    requires small { 1 + all_nodes (map reading args.now) ≤ 1000000 }
+    requires small { 1 + all_nodes (map reading args.now) ≤ most_nodes }
     ensures exact { Gives (tree terms.new) result (applied function (map reading args.now) line scope.now) }
     ensures id { IfOk result (IsTerm terms.new) }
     ensures size { IfOk result (λ t. tree_size (tree terms.new t) ≤ 1 + all_nodes (map reading args.now)) }
@@ -391,7 +390,7 @@ fn call(
     args: &[RawExpr],
     line: u32,
 ) -> Result<TermId, Stop>
-    requires small { 1 + all_nodes (map reading args.now) ≤ 1000000 }
+    requires small { 1 + all_nodes (map reading args.now) ≤ most_nodes }
     ensures exact { Gives (tree terms.new) result (call_term function (map reading args.now) line scope.now) }
     ensures id { IfOk result (IsTerm terms.new) }
     ensures size { IfOk result (λ t. tree_size (tree terms.new t) ≤ 1 + all_nodes (map reading args.now)) }
@@ -407,7 +406,7 @@ fn call(
 #[cycle(terms)]
 #[tactic(auto, using(crate::proofs::Kept::kept_tree, crate::proofs::Kept::kept_term, crate::proofs::Kept::along, crate::proofs::Kept::stays), unfolding(sync_terms::specs::Stored::shape, sync_terms::specs::Stored::tree, sync_terms::specs::Trees::tree_size))]
 fn term(terms: &mut Terms, scope: &Scope, e: &RawExpr, wanted: Sort) -> Result<TermId, Stop>
-    requires small { (reading e.now).nodes ≤ 1000000 }
+    requires small { (reading e.now).nodes ≤ most_nodes }
     ensures exact { Gives (tree terms.new) result (term_as wanted (reading e.now) scope.now) }
     ensures id { IfOk result (IsTerm terms.new) }
     ensures size { IfOk result (λ t. tree_size (tree terms.new t) ≤ (reading e.now).nodes) }
@@ -419,7 +418,7 @@ fn term(terms: &mut Terms, scope: &Scope, e: &RawExpr, wanted: Sort) -> Result<T
     match &e.what {
         RawExprKind::Number(n) => added(terms, Node::Lit(*n)),
         RawExprKind::Name(named) => {
-            let symbol = scope.name_symbol(*named)?;
+            let symbol = scope.known_symbol(*named)?;
             added(terms, Node::Name(symbol))
         }
         RawExprKind::Param(line, named) => {
@@ -454,7 +453,7 @@ fn term(terms: &mut Terms, scope: &Scope, e: &RawExpr, wanted: Sort) -> Result<T
 fn compared(terms: &mut Terms, operator: Operator, x: TermId, y: TermId) -> Result<FormId, Stop>
     requires x { IsTerm terms.old x }
     requires y { IsTerm terms.old y }
-    requires small { operator_nodes operator + tree_size (tree terms.old x) + tree_size (tree terms.old y) ≤ 1000000 }
+    requires small { operator_nodes operator + tree_size (tree terms.old x) + tree_size (tree terms.old y) ≤ most_nodes }
     ensures exact { Gives (formula terms.new) result (Ok (compared operator (tree terms.old x) (tree terms.old y))) }
     ensures id { IfOk result (IsForm terms.new) }
     ensures keeps { Extends terms.old terms.new }
@@ -480,7 +479,7 @@ fn compared(terms: &mut Terms, operator: Operator, x: TermId, y: TermId) -> Resu
 fn combined(terms: &mut Terms, operator: Operator, f: FormId, g: FormId) -> Result<FormId, Stop>
     requires f { IsForm terms.old f }
     requires g { IsForm terms.old g }
-    requires small { 1 + formula_size (formula terms.old f) + formula_size (formula terms.old g) ≤ 1000000 }
+    requires small { 1 + formula_size (formula terms.old f) + formula_size (formula terms.old g) ≤ most_nodes }
     ensures exact { Gives (formula terms.new) result (Ok (two_forms operator (formula terms.old f) (formula terms.old g))) }
     ensures id { IfOk result (IsForm terms.new) }
     ensures keeps { Extends terms.old terms.new }
@@ -515,7 +514,7 @@ fn joins_forms(operator: Operator) -> bool
 /// An expression as a formula.
 #[tactic(auto, using(crate::proofs::Kept::kept_tree, crate::proofs::Kept::kept_term, crate::proofs::Kept::kept_formula, crate::proofs::Kept::kept_form, crate::proofs::Kept::along, crate::proofs::Kept::stays), unfolding(sync_terms::specs::Stored::form_shape, sync_terms::specs::Stored::tree, sync_terms::specs::Stored::formula, sync_terms::specs::Trees::tree_size, sync_terms::specs::Trees::formula_size))]
 fn form(terms: &mut Terms, scope: &Scope, e: &RawExpr) -> Result<FormId, Stop>
-    requires small { (reading e.now).nodes ≤ 1000000 }
+    requires small { (reading e.now).nodes ≤ most_nodes }
     ensures exact { Gives (formula terms.new) result (form_as (reading e.now) scope.now) }
     ensures id { IfOk result (IsForm terms.new) }
     ensures size { IfOk result (λ f. formula_size (formula terms.new f) ≤ (reading e.now).nodes) }

@@ -1,10 +1,10 @@
 //! What the names of a text stand for at a place.
 ghost use Rattle.std.specs.Prelude.{◌≡◌};
 ghost use Rattle.sync_base.specs.Outcome.{Gives};
-ghost use Rattle.sync_read_names.specs.Scopes.{symbol_of, param_symbol_of, flag, with_flag};
+ghost use Rattle.sync_read_names.specs.Scopes.{number_in, symbol_of, param_symbol_of, flag, with_flag};
 
 use sqlite_items::{Items, at};
-use sync_base::{Refusal, Rule, Stop};
+use sync_base::{LONGEST_TEXT, Refusal, Rule, Stop};
 use sync_parse_exprs::RawName;
 use sync_terms::Sym;
 
@@ -67,18 +67,25 @@ pub fn refused(rule: Rule, line: u32) -> Stop
     Stop::Refused(broken(rule, line))
 }
 
-/// The symbol of a name as a parameter or bound name; a text has fewer than 1,048,576 names.
+/// The number of a name; a text has fewer names than bytes.
+fn number_in(name: u32) -> u32
+    ensures { result ≡ number_in name }
+{
+    name.min(LONGEST_TEXT as u32 - 1)
+}
+
+/// The symbol of a name as a parameter or bound name.
 pub fn symbol_of(name: u32) -> Sym
     ensures { result.0 ≡ symbol_of name }
 {
-    Sym(64 + 4 * name.min(1_048_575))
+    Sym::of_name(number_in(name))
 }
 
 /// The symbol of `$` before a name.
 fn param_symbol_of(name: u32) -> Sym
     ensures { result.0 ≡ param_symbol_of name }
 {
-    Sym(65 + 4 * name.min(1_048_575))
+    symbol_of(name).dollar()
 }
 
 /// Whether one of 64 flags is up.
@@ -128,7 +135,7 @@ impl Owners {
 }
 
 impl Scope {
-    ghost use Rattle.sync_read_names.specs.Scopes.{meaning_of, is_owned, is_local, is_taken, name_sort, name_symbol, knows_params, param_symbol, declare, own};
+    ghost use Rattle.sync_read_names.specs.Scopes.{meaning_of, is_owned, is_local, is_taken, name_sort, known_symbol, knows_params, param_symbol, declare, own};
 
     /// What a name was declared as.
     pub fn meaning(&self, name: u32) -> Meaning
@@ -215,8 +222,8 @@ impl Scope {
     }
 
     /// The symbol of a name in a term.
-    pub fn name_symbol(&self, named: RawName) -> Result<Sym, Stop>
-        ensures { Gives (λ x. x.0) result (name_symbol self.now named) }
+    pub fn known_symbol(&self, named: RawName) -> Result<Sym, Stop>
+        ensures { Gives (λ x. x.0) result (known_symbol self.now named) }
     {
         if self.is_local(named.name) {
             return Ok(symbol_of(named.name));
