@@ -3,11 +3,12 @@ use Rattle.std.proofs.Common.{◌≡◌, ℕ, ◌+◌, List, [], ◌∷◌, ◌+
 use Rattle.std.specs.Prelude.{IfOk}
 use Rattle.sync_base.specs.declared.stops.Stop.{Stop}
 use Rattle.sync_base.specs.declared.stops.Refusal.{Refusal}
-use Rattle.sync_base.specs.Outcome.{Gives, ◌>>=◌}
+use Rattle.sync_base.specs.Outcome.{◌>>=◌}
 use Rattle.sync_machine.specs.declared.machine.Machine.{Machine}
 use Rattle.sync_machine.specs.Machines.{MachineTree}
 use Rattle.sync_machine.specs.States.{HoldsAlways}
 use Rattle.sync_machine.specs.Views.{HasOwnIds}
+use Rattle.sync_parse.specs.Machines.{parsed}
 use Rattle.sync_parse.specs.declared.trees.RawText.{RawText}
 use Rattle.sync_parse.specs.declared.trees.RawProof.{RawProof}
 use Rattle.sync_read_names.specs.declared.scopes.Scope.{Scope}
@@ -16,8 +17,10 @@ use Rattle.sync_induct.specs.Grown.{HasGrown}
 use Rattle.sync_read.proofs.Whole.{machine_stays}
 use Rattle.sync_read.specs.Scripts.{proof_in, proofs_from}
 use Rattle.sync_read.specs.Resolving.{machine_in}
-use Rattle.sync_read.specs.Texts.{TextTree, first_scope, resolved}
-use Rattle.sync_parse_grammar.specs.Texts.{Spells, HasScripts}
+use Rattle.sync_read.specs.Texts.{TextTree, first_scope, resolved, text_in}
+use Rattle.sync_parse_grammar.specs.Texts.{HasScripts}
+use Rattle.sync_parse_grammar.proofs.MachinesSound.{sound}
+use Rattle.sync_parse_grammar.proofs.Laws.{scripts}
 use Rattle.sync_check.specs.Checking.{Means, IsMeant, IsAccepted}
 
 -- what a value that is there comes from
@@ -44,9 +47,12 @@ all-counted raw t e =
     let counted : length ps.0.0 ≡ length raw.proofs = let c = proofs-counted [] m.0.1 raw.proofs ps.0 ps.1 in omega (arith, c) in
     ap (λ (x : TextTree). length x.proofs) (sym (same _ t (Ok _) refl ps.2)) ∙ counted
 
-pub meant : {A : Type 0} (bytes : List ℕ) (raw : RawText) (f : A → TextTree) (r : Result A Stop) → Spells bytes raw → HasScripts bytes (length raw.proofs) → Gives f r (resolved raw) → IfOk r (λ x. Means bytes (f x))
-meant bytes raw f (Ok x) spells scripts gives = (raw, spells, gives, subst (HasScripts bytes) (sym (all-counted raw (f x) gives)) scripts)
-meant bytes raw f (Err stop) spells scripts gives = tt
+-- what is read from bytes is what they mean
+pub text_means : (bytes : List ℕ) (t : TextTree) → text_in bytes ≡ Ok t → Means bytes t
+text_means bytes t e =
+    let read = bound (parsed bytes) resolved t e in
+    let spells = sound bytes read.0 read.1 in
+    (read.0, spells, read.2, subst (HasScripts bytes) (sym (all-counted read.0 t read.2)) (scripts bytes read.0 spells))
 
 pub accepted : (bytes : List ℕ) (t : TextTree) (n : ℕ) → Means bytes t → HoldsAlways t.machine → n ≡ length t.proofs → IsAccepted bytes n
 unfolding IsAccepted

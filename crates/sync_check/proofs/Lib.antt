@@ -1,3 +1,3 @@
 mod Named
-mod Accepting
-pub mod Formed
+pub mod Accepting
+pub mod TooLong

@@ -1,28 +1,14 @@
 -- What checking a text gives, and what an accepted text means.
-use Rattle.std.specs.Prelude.{◌≡◌, ℕ, ◌<◌, List, length, Option, Some, None, Result, Ok, Err}
-use Rattle.std.proofs.Common.{refl}
-use Rattle.std.proofs.lemmas.Bool.{lt-ltb}
+use Rattle.std.specs.Prelude.{◌≡◌, ℕ, List, length, Option, Some, None, Result, Ok, Err}
 use Rattle.sync_base.specs.declared.stops.Refusal.{Refusal}
-use Rattle.sync_base.specs.declared.stops.Rule.TheVariants.{L1}
 use Rattle.sync_base.specs.Outcome.{first, ◌>>=◌}
-use Rattle.sync_lex.specs.Lexemes.{lexemes_of}
-use Rattle.sync_lex.specs.Terminals.{terminals_in}
-use Rattle.sync_parse.specs.Machines.{parsed}
 use Rattle.sync_parse.specs.declared.trees.RawText.{RawText}
 use Rattle.sync_parse_grammar.specs.Texts.{Spells, HasScripts}
 use Rattle.sync_machine.specs.Machines.{MachineTree}
 use Rattle.sync_machine.specs.States.{HoldsAlways}
 use Rattle.sync_rules.specs.Faults.{strategy_fault}
 use Rattle.sync_induct.specs.Checks.{proof_fault}
-use Rattle.sync_read.specs.Texts.{TextTree, resolved}
-
--- the most bytes that a text may have
-abbrev pub most_bytes : ℕ
-most_bytes = 1048576
-
--- the machine and the proofs that the bytes of a text spell, or the first rule of lexemes, grammar or names that they break
-abbrev pub spelled : List ℕ → Result TextTree Refusal
-spelled bytes = parsed bytes >>= resolved
+use Rattle.sync_read.specs.Texts.{TextTree, resolved, text_in}
 
 -- the answer, where no rule is broken
 abbrev pub unless : {A : Type 0} → Option Refusal → A → Result A Refusal
@@ -38,11 +24,11 @@ abbrev pub judged : TextTree → Result ℕ Refusal
 judged t = unless (fault_of t) (length t.proofs)
 
 unfoldable pub verdict_of : List ℕ → Result ℕ Refusal
-verdict_of bytes = spelled bytes >>= judged
+verdict_of bytes = text_in bytes >>= judged
 
 -- the machine of a text, or the first rule that the text breaks
 unfoldable pub machine_of : List ℕ → Result MachineTree Refusal
-machine_of bytes = spelled bytes >>= λ t. unless (fault_of t) t.machine
+machine_of bytes = text_in bytes >>= λ t. unless (fault_of t) t.machine
 
 -- The bytes spell a raw tree by the productions of the grammar, the tree means this machine with these proofs, and the
 -- word `by` stands once for each proof.
@@ -57,8 +43,3 @@ IsMeant bytes m = (t : TextTree) × Means bytes t × (t.machine ≡ m)
 -- declared steps meets all its invariants, and no safety condition and no assertion fails at one.
 unfoldable pub IsAccepted : List ℕ → ℕ → Type 0
 IsAccepted bytes scripts = (t : TextTree) × Means bytes t × HoldsAlways t.machine × HasScripts bytes scripts
-
--- a text that is longer than the limit is refused for that
-pub spelled-too_long : (bytes : List ℕ) → most_bytes < length bytes → spelled bytes ≡ Err (record { line = 1; rule = L1 })
-unfolding parsed terminals_in lexemes_of
-spelled-too_long bytes h = rw (lt-ltb most_bytes (length bytes) h) refl

@@ -1,23 +1,19 @@
 -- The lines that list what has to be proved of a machine.
-use Rattle.std.specs.Prelude.{ℕ, List, [], ◌++◌, map, codes, slice_get, Result}
+use Rattle.std.specs.Prelude.{◌≡◌, ℕ, List, [], ◌++◌, map, codes, slice_get, None, Result}
 use Rattle.std.specs.Option.{option_map_or}
 use Rattle.std.specs.Fmt.{decimal}
 use Rattle.sync_base.specs.declared.stops.Refusal.{Refusal}
 use Rattle.sync_base.specs.Outcome.{◌>>=◌}
-use Rattle.sync_base.specs.declared.names.Name.{Name}
-use Rattle.sync_base.specs.declared.names.NameList.{NameList}
+use Rattle.sync_base.specs.Names.{spelling}
 use Rattle.sync_machine.specs.Machines.{OperationTree, InvariantTree}
+use Rattle.sync_machine.specs.Naming.{machine_fault}
 use Rattle.sync_terms.specs.declared.proofs.Claim.{Claim}
 use Rattle.sync_terms.specs.declared.proofs.Claim.TheVariants.{At, Keeps}
 use Rattle.sync_terms.specs.declared.proofs.Obligation.{Obligation}
 use Rattle.sync_rules.specs.Faults.{strategy_fault}
 use Rattle.sync_rules.specs.Obligations.{obligations_of}
-use Rattle.sync_read.specs.Texts.{TextTree}
-use Rattle.sync_check.specs.Checking.{spelled, unless}
-
--- how the name with this number is spelled; a number that no name has is spelled by no byte
-abbrev pub spelling : NameList → ℕ → List ℕ
-spelling names number = option_map_or (λ (n : Name). n.bytes) (slice_get names.list number) []
+use Rattle.sync_read.specs.Texts.{TextTree, text_in}
+use Rattle.sync_check.specs.Checking.{unless, Means}
 
 -- how the name of the operation with this number is spelled
 abbrev pub operation_name : TextTree → ℕ → List ℕ
@@ -48,4 +44,9 @@ listed t = unless (strategy_fault t.machine) (obligation_lines t)
 
 -- the lines of what has to be proved of a text's machine, whatever its proofs are, or the first rule that the text breaks
 unfoldable pub listing_of : List ℕ → Result (List (List ℕ)) Refusal
-listing_of text = spelled text >>= listed
+listing_of text = text_in text >>= listed
+
+-- The bytes spell a machine that keeps the rules of names and of strategies, and these lines list what has to be proved of it.
+unfoldable pub IsListed : List ℕ → List (List ℕ) → Type 0
+IsListed bytes lines =
+    (t : TextTree) × Means bytes t × (machine_fault t.machine ≡ None) × (strategy_fault t.machine ≡ None) × (lines ≡ obligation_lines t)

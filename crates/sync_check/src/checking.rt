@@ -14,29 +14,14 @@ ghost use Rattle.sync_terms.specs.Proofs.{AreScriptsOf};
 ghost use Rattle.sync_induct.specs.Grown.{HasGrown};
 ghost use Rattle.sync_read.specs.Texts.{text_tree};
 ghost use Rattle.sync_read.specs.declared.texts.Text.{Text};
-ghost use Rattle.sync_check.specs.Checking.{spelled, fault_of, machine_of, verdict_of, IsAccepted, IsMeant, Means};
+ghost use Rattle.sync_check.specs.Checking.{fault_of, machine_of, verdict_of, IsAccepted, IsMeant};
 
 use std::alloc::Global;
 use sync_base::Stop;
-use sync_parse_grammar::read_tree;
 use sync_induct::{Inductive, inductive};
 use sync_machine::Machine;
-use sync_read::{Text, resolve};
+use sync_read::{Text, read};
 use sync_rules::check_ops;
-
-/// The machine, the proofs and the names that the bytes of a text spell, or the first rule of lexemes, of the grammar or of
-/// names that they break.
-pub fn read(alloc: Global, bytes: &[u8]) -> Result<Text, Stop>
-    ensures exact { Gives text_tree result (spelled bytes.now) }
-    ensures means { IfOk result (λ (t : Text). Means bytes.now (text_tree t)) }
-    ensures ids { IfOk result (λ (t : Text). HasOwnIds t.machine) }
-    ensures names { IfOk result (λ (t : Text). AreTextNames (machine_tree t.machine)) }
-    ensures formed { IfOk result (λ (t : Text). machine_fault (machine_tree t.machine) ≡ None) }
-    ensures scripts { IfOk result (λ (t : Text). AreScriptsOf t.machine.terms t.proofs.list) }
-{
-    let raw = read_tree(alloc, bytes)?;
-    resolve(alloc, raw)
-}
 
 /// Whether a machine that keeps the rules of names keeps those of strategies; else the first that it breaks.
 pub(crate) fn keeps_strategies(m: &Machine) -> Result<(), Stop>
@@ -55,7 +40,7 @@ pub(crate) fn keeps_strategies(m: &Machine) -> Result<(), Stop>
 }
 
 /// The machine of a text that has been read, where it and its proofs break no rule.
-fn judge(alloc: Global, text: Text) -> Result<Inductive, Stop>
+fn proved_machine(alloc: Global, text: Text) -> Result<Inductive, Stop>
     requires ids { HasOwnIds text.machine }
     requires names { AreTextNames (machine_tree text.machine) }
     requires formed { machine_fault (machine_tree text.machine) ≡ None }
@@ -88,7 +73,7 @@ pub fn check(alloc: Global, text: &[u8]) -> Result<u64, Stop>
 {
     let text = read(alloc, text)?;
     let scripts = number_of_scripts(&text);
-    judge(alloc, text)?;
+    proved_machine(alloc, text)?;
     Ok(scripts)
 }
 
@@ -106,5 +91,5 @@ pub fn accepted_machine(alloc: Global, text: &[u8]) -> Result<Inductive, Stop>
     ensures holds { IfOk result (λ i. HoldsAlways (machine_tree i)) }
 {
     let text = read(alloc, text)?;
-    judge(alloc, text)
+    proved_machine(alloc, text)
 }

@@ -3,10 +3,6 @@
 
 mod checking;
 mod listing;
-#[cfg(test)]
-mod text_tests;
-#[cfg(test)]
-mod token_tests;
 
-pub use checking::{accepted_machine, check, read};
+pub use checking::{accepted_machine, check};
 pub use listing::list;

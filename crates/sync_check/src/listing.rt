@@ -2,25 +2,15 @@
 ghost use Rattle.std.specs.Prelude.{◌≡◌, ◌++◌, map, codes, IfOk, OnOk};
 ghost use Rattle.sync_base.specs.Outcome.{Gives};
 ghost use Rattle.sync_read.specs.Texts.{text_tree};
-ghost use Rattle.sync_check.specs.Listing.{claim_text, invariant_name, listing_of, obligation_line, operation_name, spelling};
+ghost use Rattle.sync_check.specs.Listing.{claim_text, invariant_name, listing_of, obligation_line, operation_name, IsListed};
 
-use crate::checking::{keeps_strategies, read};
+use crate::checking::keeps_strategies;
 use sqlite_items::Items;
 use std::alloc::{AllocError, Global};
-use sync_base::{NameList, Stop};
-use sync_read::Text;
+use sync_base::Stop;
+use sync_read::{Text, read};
 use sync_rules::obligations;
 use sync_terms::{Claim, Obligation};
-
-/// The spelling of the name with this number.
-fn spelling(names: &NameList, number: u32) -> &[u8]
-    ensures { result.now ≡ spelling names.now number }
-{
-    match names.list.get(number as usize) {
-        Some(name) => name.bytes.as_slice(),
-        None => &[],
-    }
-}
 
 /// The name of the operation with this number.
 #[tactic(auto, using(crate::proofs::Named::named))]
@@ -28,7 +18,7 @@ fn operation_name(text: &Text, op: u32) -> &[u8]
     ensures { result.now ≡ operation_name (text_tree text.now) op }
 {
     match text.machine.ops.get(op as usize) {
-        Some(operation) => spelling(&text.names, operation.name),
+        Some(operation) => text.names.spelling(operation.name),
         None => &[],
     }
 }
@@ -39,7 +29,7 @@ fn invariant_name(text: &Text, number: u32) -> &[u8]
     ensures { result.now ≡ invariant_name (text_tree text.now) number }
 {
     match text.machine.invariants.get(number as usize) {
-        Some(invariant) => spelling(&text.names, invariant.name),
+        Some(invariant) => text.names.spelling(invariant.name),
         None => &[],
     }
 }
@@ -97,7 +87,8 @@ fn lines_of(
 /// names in them.
 #[tactic(auto, unfolding(crate::specs::Listing::listing_of))]
 pub fn list(alloc: Global, bytes: &[u8]) -> Result<Items<Items<u8>>, Stop>
-    ensures { Gives (λ lines. lines) result (listing_of bytes.now) }
+    ensures exact { Gives (λ lines. lines) result (listing_of bytes.now) }
+    ensures means { IfOk result (IsListed bytes.now) }
 {
     let text = read(alloc, bytes)?;
     keeps_strategies(&text.machine)?;

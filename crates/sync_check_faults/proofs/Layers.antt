@@ -6,9 +6,11 @@ use Rattle.sync_lex.specs.declared.terminals.Terminals.{Terminals}
 use Rattle.sync_lex.specs.Terminals.{terminals_in}
 use Rattle.sync_parse.specs.Faults.{refused}
 use Rattle.sync_parse.specs.Machines.{text_of, parsed}
-use Rattle.sync_read.specs.Texts.{TextTree, resolved}
-use Rattle.sync_check.specs.Checking.{spelled, judged, unless, fault_of, verdict_of}
-use Rattle.sync_check_faults.specs.Faults.{fault_in, behind, lex_fault, grammar_fault, name_fault, machine_faults, first_fault, VerdictIsFirstFault}
+use Rattle.sync_read.specs.Texts.{TextTree, resolved, text_in}
+use Rattle.sync_check.specs.Checking.{judged, unless, fault_of, verdict_of}
+use Rattle.sync_check.specs.Listing.{listed, listing_of, obligation_lines}
+use Rattle.sync_rules.specs.Faults.{strategy_fault}
+use Rattle.sync_check_faults.specs.Faults.{fault_in, behind, lex_fault, grammar_fault, name_fault, first_fault, first_listing_fault, VerdictIsFirstFault, ListingIsFirstFault}
 
 -- one layer, and then the next
 fault-then : {A B : Type 0} (r : Result A Refusal) (f : A → Result B Refusal) → fault_in (r >>= f) ≡ first (fault_in r) (behind r (λ x. fault_in (f x)))
@@ -27,9 +29,9 @@ behind-same : {A : Type 0} (r : Result A Refusal) (f g : A → Option Refusal) �
 behind-same (Ok x) f g same = same x
 behind-same (Err e) f g same = refl
 
-fault-unless : (fault : Option Refusal) (n : ℕ) → fault_in (unless fault n) ≡ fault
-fault-unless None n = refl
-fault-unless (Some r) n = refl
+fault-unless : {A : Type 0} (fault : Option Refusal) (x : A) → fault_in (unless fault x) ≡ fault
+fault-unless None x = refl
+fault-unless (Some r) x = refl
 
 -- ---- the layers of a text
 
@@ -37,21 +39,30 @@ parsed-fault : (bytes : List ℕ) → fault_in (parsed bytes) ≡ first (lex_fau
 unfolding parsed
 parsed-fault bytes =
     fault-then (terminals_in bytes) _
-    ∙ ap (first (lex_fault bytes)) (behind-same (terminals_in bytes) _ _ (λ (ws : Words). fault-kept (refused ws.last_line (text_of ws.list)) _))
+    ∙ ap (first (lex_fault bytes)) (behind-same (terminals_in bytes) _ _ (λ (ws : Terminals). fault-kept (refused ws.last_line (text_of ws.list)) _))
 
-spelled-fault : (bytes : List ℕ) → fault_in (spelled bytes) ≡ first (first (lex_fault bytes) (grammar_fault bytes)) (name_fault bytes)
-spelled-fault bytes = fault-then (parsed bytes) resolved ∙ ap (λ f. first f (name_fault bytes)) (parsed-fault bytes)
+text_in-fault : (bytes : List ℕ) → fault_in (text_in bytes) ≡ first (first (lex_fault bytes) (grammar_fault bytes)) (name_fault bytes)
+text_in-fault bytes = fault-then (parsed bytes) resolved ∙ ap (λ f. first f (name_fault bytes)) (parsed-fault bytes)
 
 regrouped : (a b c d : Option Refusal) → first (first (first a b) c) d ≡ first a (first b (first c d))
 regrouped a b c d = first-first (first a b) c d ∙ first-first a b (first c d)
 
+-- what is told of a text that is read, behind the layers of reading
+told-fault : {A : Type 0} (told : TextTree → Result A Refusal) (fault : TextTree → Option Refusal) → ((t : TextTree) → fault_in (told t) ≡ fault t) → (bytes : List ℕ)
+    → fault_in (text_in bytes >>= told) ≡ first (lex_fault bytes) (first (grammar_fault bytes) (first (name_fault bytes) (behind (text_in bytes) fault)))
+told-fault told fault same bytes =
+    fault-then (text_in bytes) told
+    ∙ ap (first (fault_in (text_in bytes))) (behind-same (text_in bytes) _ fault same)
+    ∙ ap (λ f. first f (behind (text_in bytes) fault)) (text_in-fault bytes)
+    ∙ regrouped (lex_fault bytes) (grammar_fault bytes) (name_fault bytes) (behind (text_in bytes) fault)
+
 verdict-fault : (bytes : List ℕ) → fault_in (verdict_of bytes) ≡ first_fault bytes
 unfolding verdict_of
-verdict-fault bytes =
-    fault-then (spelled bytes) judged
-    ∙ ap (first (fault_in (spelled bytes))) (behind-same (spelled bytes) _ fault_of (λ (t : TextTree). fault-unless (fault_of t) (length t.proofs)))
-    ∙ ap (λ f. first f (machine_faults bytes)) (spelled-fault bytes)
-    ∙ regrouped (lex_fault bytes) (grammar_fault bytes) (name_fault bytes) (machine_faults bytes)
+verdict-fault bytes = told-fault judged fault_of (λ (t : TextTree). fault-unless (fault_of t) (length t.proofs)) bytes
+
+listing-fault : (bytes : List ℕ) → fault_in (listing_of bytes) ≡ first_listing_fault bytes
+unfolding listing_of
+listing-fault bytes = told-fault listed (λ (t : TextTree). strategy_fault t.machine) (λ (t : TextTree). fault-unless (strategy_fault t.machine) (obligation_lines t)) bytes
 
 -- ---- the verdict
 
@@ -67,4 +78,21 @@ pub first-fault : (bytes : List ℕ) → VerdictIsFirstFault bytes
 first-fault bytes = record {
   refuses = λ r is. refused-is (verdict_of bytes) r (verdict-fault bytes ∙ is);
   accepts = λ keeps. accepted-is (verdict_of bytes) (verdict-fault bytes ∙ keeps);
+}
+
+-- ---- the listing
+
+unless-kept : {A : Type 0} (fault : Option Refusal) (x : A) → fault_in (unless fault x) ≡ None → unless fault x ≡ Ok x
+unless-kept None x e = refl
+unless-kept (Some r) x e = absurd cc
+
+listed-is : (s : Result TextTree Refusal) → fault_in (s >>= listed) ≡ None → (t : TextTree) × (s ≡ Ok t) × ((s >>= listed) ≡ Ok (obligation_lines t))
+listed-is (Ok t) e = (t, refl, unless-kept (strategy_fault t.machine) (obligation_lines t) e)
+listed-is (Err r) e = absurd cc
+
+pub first-fault-listed : (bytes : List ℕ) → ListingIsFirstFault bytes
+unfolding listing_of
+first-fault-listed bytes = record {
+  refuses = λ r is. refused-is (listing_of bytes) r (listing-fault bytes ∙ is);
+  lists = λ keeps. listed-is (text_in bytes) (listing-fault bytes ∙ keeps);
 }

@@ -9,8 +9,9 @@ use Rattle.sync_parse.specs.Faults.{refused}
 use Rattle.sync_parse.specs.Machines.{text_of, parsed}
 use Rattle.sync_rules.specs.Faults.{strategy_fault}
 use Rattle.sync_induct.specs.Checks.{proof_fault}
-use Rattle.sync_read.specs.Texts.{TextTree, resolved}
-use Rattle.sync_check.specs.Checking.{spelled, verdict_of}
+use Rattle.sync_read.specs.Texts.{TextTree, resolved, text_in}
+use Rattle.sync_check.specs.Checking.{verdict_of}
+use Rattle.sync_check.specs.Listing.{obligation_lines, listing_of}
 
 abbrev pub fault_in : {A : Type 0} → Result A Refusal → Option Refusal
 fault_in (Ok x) = None
@@ -25,17 +26,21 @@ behind (Err r) fault = None
 abbrev pub lex_fault : List ℕ → Option Refusal
 lex_fault bytes = fault_in (terminals_in bytes)
 
--- G: of the words
+-- G: of the terminals
 abbrev pub grammar_fault : List ℕ → Option Refusal
-grammar_fault bytes = behind (terminals_in bytes) (λ (ws : Words). fault_in (refused ws.last_line (text_of ws.list)))
+grammar_fault bytes = behind (terminals_in bytes) (λ (ws : Terminals). fault_in (refused ws.last_line (text_of ws.list)))
 
 -- N: of the raw tree
 abbrev pub name_fault : List ℕ → Option Refusal
 name_fault bytes = behind (parsed bytes) (λ (raw : RawText). fault_in (resolved raw))
 
+-- S: of the machine
+abbrev pub rules_fault : List ℕ → Option Refusal
+rules_fault bytes = behind (text_in bytes) (λ (t : TextTree). strategy_fault t.machine)
+
 -- S, and then I and K: of the machine and of its proofs
 abbrev pub machine_faults : List ℕ → Option Refusal
-machine_faults bytes = behind (spelled bytes) (λ (t : TextTree). first (strategy_fault t.machine) (proof_fault t.machine t.proofs))
+machine_faults bytes = behind (text_in bytes) (λ (t : TextTree). first (strategy_fault t.machine) (proof_fault t.machine t.proofs))
 
 -- the first rule that a text breaks
 abbrev pub first_fault : List ℕ → Option Refusal
@@ -48,3 +53,12 @@ KeepsRules bytes = first_fault bytes ≡ None
 pub record VerdictIsFirstFault (bytes : List ℕ) : Type 0 where
   pub refuses : (r : Refusal) → first_fault bytes ≡ Some r → verdict_of bytes ≡ Err r
   pub accepts : KeepsRules bytes → (scripts : ℕ) × (verdict_of bytes ≡ Ok scripts)
+
+-- the first rule of lexemes, grammar, names or strategies that a text breaks
+abbrev pub first_listing_fault : List ℕ → Option Refusal
+first_listing_fault bytes = first (lex_fault bytes) (first (grammar_fault bytes) (first (name_fault bytes) (rules_fault bytes)))
+
+-- The listing refuses a text with the first of these, and lists what has to be proved of its machine where it has none.
+pub record ListingIsFirstFault (bytes : List ℕ) : Type 0 where
+  pub refuses : (r : Refusal) → first_listing_fault bytes ≡ Some r → listing_of bytes ≡ Err r
+  pub lists : first_listing_fault bytes ≡ None → (t : TextTree) × (text_in bytes ≡ Ok t) × (listing_of bytes ≡ Ok (obligation_lines t))

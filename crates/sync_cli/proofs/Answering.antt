@@ -7,7 +7,9 @@ use Rattle.sync_base.specs.Outcome.{◌>>=◌}
 use Rattle.sync_base.specs.Outside.{GivesFront}
 use Rattle.sync_base.specs.declared.stops.Rule.TheVariants.{L1}
 use Rattle.sync_cli.specs.Answers.{status_of, out_of, err_of, IsAnswer}
-use Rattle.sync_check.specs.Checking.{most_bytes, judged, verdict_of, spelled-too_long}
+use Rattle.sync_check.specs.Checking.{judged, verdict_of}
+use Rattle.sync_check.proofs.TooLong.{text_in-too_long}
+use Rattle.sync_base.specs.Limits.{longest_text}
 use Rattle.sync_cli.specs.Commands.{Asks, answered, accepted_lines, IsDone}
 use Rattle.sync_check.specs.Listing.{listed, listing_of}
 use Rattle.sync_cli.specs.Serving.{Allowed, WasRead}
@@ -18,10 +20,10 @@ use Rattle.sync_cli.specs.declared.commands.Command.{Command}
 use Rattle.sync_cli.specs.declared.commands.Command.TheVariants.{Check, Obligations}
 
 -- every command refuses a text that is longer than the limit
-answered-too_long : (command : Command) (bytes : List ℕ) → most_bytes < length bytes → answered command bytes ≡ Err (record { line = 1; rule = L1 })
+answered-too_long : (command : Command) (bytes : List ℕ) → longest_text < length bytes → answered command bytes ≡ Err (record { line = 1; rule = L1 })
 unfolding answered verdict_of listing_of
-answered-too_long Check bytes long = ap (λ r. (r >>= judged) >>= accepted_lines) (spelled-too_long bytes long)
-answered-too_long Obligations bytes long = ap (λ r. r >>= listed) (spelled-too_long bytes long)
+answered-too_long Check bytes long = ap (λ r. (r >>= judged) >>= accepted_lines) (text_in-too_long bytes long)
+answered-too_long Obligations bytes long = ap (λ r. r >>= listed) (text_in-too_long bytes long)
 
 -- a text of the source, for which a command gives what it gives for the bytes that were read
 record ReadAs (told left : Option (List ℕ)) (faults faults' : ℕ) (read : List ℕ) : Type 0 where
@@ -31,7 +33,7 @@ record ReadAs (told left : Option (List ℕ)) (faults faults' : ℕ) (read : Lis
   done : (command : Command) (lines : List (List ℕ)) → answered command read ≡ Ok lines → IsDone command read lines → IsDone command text lines
 
 -- all of the source was read
-whole : (bytes rest read : List ℕ) (faults faults' : ℕ) → bytes ≡ read ++ rest → rest ≡ [] → length read ≤ most_bytes + 1 → faults' ≡ faults → ReadAs (Some bytes) (Some rest) faults faults' read
+whole : (bytes rest read : List ℕ) (faults faults' : ℕ) → bytes ≡ read ++ rest → rest ≡ [] → length read ≤ longest_text + 1 → faults' ≡ faults → ReadAs (Some bytes) (Some rest) faults faults' read
 whole bytes rest read faults faults' cut end bounded sound = record {
   text = bytes;
   was_read = record { sound = sound; is_told = refl; read_out = inl end; bounded = omega (arith, ap length cut, length-append read rest, ap length end) };
@@ -43,7 +45,7 @@ whole bytes rest read faults faults' cut end bounded sound = record {
     same = cut ∙ ap (λ xs. read ++ xs) end ∙ grind (arith, common_steps)
 
 -- more was read than a text may have
-beyond : (bytes rest read : List ℕ) (faults faults' : ℕ) → bytes ≡ read ++ rest → most_bytes < length read → length read ≤ most_bytes + 1 → faults' ≡ faults → ReadAs (Some bytes) (Some rest) faults faults' read
+beyond : (bytes rest read : List ℕ) (faults faults' : ℕ) → bytes ≡ read ++ rest → longest_text < length read → length read ≤ longest_text + 1 → faults' ≡ faults → ReadAs (Some bytes) (Some rest) faults faults' read
 beyond bytes rest read faults faults' cut long bounded sound =
     let sizes : length bytes ≡ length read + length rest = ap length cut ∙ length-append read rest in
     record {
@@ -62,7 +64,7 @@ untold left read faults faults' sound = record {
   done = λ command lines gives is. is;
 }
 
-read_as : (told left : Option (List ℕ)) (faults faults' : ℕ) (read : List ℕ) → GivesFront told left read → IsAtEnd left ⊎ (most_bytes < length read) → length read ≤ most_bytes + 1 → faults' ≡ faults → ReadAs told left faults faults' read
+read_as : (told left : Option (List ℕ)) (faults faults' : ℕ) (read : List ℕ) → GivesFront told left read → IsAtEnd left ⊎ (longest_text < length read) → length read ≤ longest_text + 1 → faults' ≡ faults → ReadAs told left faults faults' read
 read_as None left faults faults' read front ends bounded sound = untold left read faults faults' sound
 read_as (Some bytes) None faults faults' read front ends bounded sound = cc
 read_as (Some bytes) (Some rest) faults faults' read front (inl end) bounded sound =
@@ -86,9 +88,9 @@ allowed_by words told left faults faults' read command variant.Usage w r a = abs
 allowed_by words told left faults faults' read command variant.ReadFault w r a = absurd a
 allowed_by words told left faults faults' read command variant.NoMemory w r a = (command, w, refl, refl)
 
-pub Allowed-from_answer : (words : List (String Global)) (told left : Option (List ℕ)) (faults faults' : ℕ) (read : List ℕ) (size : ℕ) (command : Command) (answer : Answer) → Asks words command → GivesFront told left read → length read ≡ size → IsAtEnd left ⊎ (most_bytes < size) → size ≤ most_bytes + 1 → faults' ≡ faults → IsAnswer command read answer → Allowed words told left faults faults' (status_of answer) (out_of answer) (err_of answer)
+pub Allowed-from_answer : (words : List (String Global)) (told left : Option (List ℕ)) (faults faults' : ℕ) (read : List ℕ) (size : ℕ) (command : Command) (answer : Answer) → Asks words command → GivesFront told left read → length read ≡ size → IsAtEnd left ⊎ (longest_text < size) → size ≤ longest_text + 1 → faults' ≡ faults → IsAnswer command read answer → Allowed words told left faults faults' (status_of answer) (out_of answer) (err_of answer)
 Allowed-from_answer words told left faults faults' read size command answer w front len ends bounded sound a =
-    allowed_by words told left faults faults' read command answer w (read_as told left faults faults' read front (subst (λ n. IsAtEnd left ⊎ (most_bytes < n)) (sym len) ends) (omega arith) sound) a
+    allowed_by words told left faults faults' read command answer w (read_as told left faults faults' read front (subst (λ n. IsAtEnd left ⊎ (longest_text < n)) (sym len) ends) (omega arith) sound) a
 
 -- where a line was not made the answer is want of memory
 pub IsAnswer-unwrap : {E : Type 0} (command : Command) (text : List ℕ) (made : Result Answer E) → IfOk made (IsAnswer command text) → IsAnswer command text (result_unwrap_or made variant.NoMemory)

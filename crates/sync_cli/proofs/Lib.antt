@@ -1,4 +1,4 @@
 mod Gains
+pub mod Taking
 mod WordLists
-mod Listed
 mod Answering

@@ -1,15 +1,12 @@
 -- The commands, the words that ask for them, and what each gives for a text.
-use Rattle.std.specs.Prelude.{◌≡◌, ℕ, List, [], ◌∷◌, map, codes, None, Result, Ok, String}
+use Rattle.std.specs.Prelude.{◌≡◌, ℕ, List, [], ◌∷◌, map, codes, Result, Ok, String}
 use Rattle.std.specs.String.{string_bytes}
 use Rattle.std.specs.declared.alloc.Global.{Global}
 use Rattle.sync_base.specs.declared.stops.Refusal.{Refusal}
 use Rattle.sync_base.specs.Outcome.{◌>>=◌}
-use Rattle.sync_machine.specs.Naming.{machine_fault}
-use Rattle.sync_rules.specs.Faults.{strategy_fault}
-use Rattle.sync_read.specs.Texts.{TextTree}
-use Rattle.sync_check.specs.Checking.{spelled, verdict_of, IsAccepted}
+use Rattle.sync_check.specs.Checking.{verdict_of, IsAccepted}
 use Rattle.sync_cli.specs.Lines.{accepted_line}
-use Rattle.sync_check.specs.Listing.{obligation_lines, listing_of}
+use Rattle.sync_check.specs.Listing.{listing_of, IsListed}
 use Rattle.sync_cli.specs.declared.commands.Command.{Command}
 use Rattle.sync_cli.specs.declared.commands.Command.TheVariants.{Check, Obligations}
 
@@ -39,5 +36,4 @@ answered Obligations text = listing_of text
 abbrev pub IsDone : Command → List ℕ → List (List ℕ) → Type 0
 IsDone Check text lines =
     (scripts : ℕ) × (verdict_of text ≡ Ok scripts) × IsAccepted text scripts × (lines ≡ accepted_line scripts ∷ [])
-IsDone Obligations text lines =
-    (t : TextTree) × (spelled text ≡ Ok t) × (machine_fault t.machine ≡ None) × (strategy_fault t.machine ≡ None) × (lines ≡ obligation_lines t)
+IsDone Obligations text lines = IsListed text lines

@@ -23,10 +23,12 @@ pub record WasRead (told left : Option (List ℕ)) (faults faults' : ℕ) (text 
 abbrev pub Allowed : List (String Global) → Option (List ℕ) → Option (List ℕ) → ℕ → ℕ → Status → List ℕ → List ℕ → Type 0
 -- the command's lines for the text of the source are on `out`
 Allowed words told left faults faults' Done out err =
-    (command : Command) × (text : List ℕ) × (lines : List (List ℕ)) × Asks words command × WasRead told left faults faults' text × (answered command text ≡ Ok lines) × IsDone command text lines × (out ≡ concat lines) × (err ≡ [])
+    (command : Command) × (text : List ℕ) × (lines : List (List ℕ)) × Asks words command × WasRead told left faults faults' text
+    × (answered command text ≡ Ok lines) × IsDone command text lines × (out ≡ concat lines) × (err ≡ [])
 -- the first broken rule of the text of the source is on `err`
 Allowed words told left faults faults' Refused out err =
-    (command : Command) × (text : List ℕ) × (refusal : Refusal) × Asks words command × WasRead told left faults faults' text × (answered command text ≡ Err refusal) × (out ≡ []) × (err ≡ refused_line refusal)
+    (command : Command) × (text : List ℕ) × (refusal : Refusal) × Asks words command × WasRead told left faults faults' text
+    × (answered command text ≡ Err refusal) × (out ≡ []) × (err ≡ refused_line refusal)
 -- the words are no command's
 Allowed words told left faults faults' Usage out err = AsksNothing words × (out ≡ []) × (err ≡ usage_line)
 -- the source's faults rose

@@ -9,7 +9,7 @@ use sqlite_items::Items;
 pub const USAGE: &str = "usage: check or obligations\n";
 
 /// An answer. Each line has its line feed.
-#[derive(Debug, Drop)]
+#[derive(Drop)]
 pub enum Answer {
     /// What the command gives, line by line.
     Done(Items<Items<u8>>),

@@ -4,7 +4,7 @@ ghost use Rattle.sync_cli.specs.Commands.{word_of, Asks, AsksNothing};
 ghost use Rattle.sync_cli.specs.declared.commands.Command.{Command as Job};
 
 /// What the program is asked to do.
-#[derive(Clone, Copy, PartialEq, Eq, Debug)]
+#[derive(Clone, Copy)]
 pub enum Command {
     /// Checks a text with its proofs.
     Check,

@@ -4,14 +4,10 @@
 mod answers;
 mod commands;
 mod lines;
-#[cfg(test)]
-mod listing_tests;
 mod reading;
 mod serving;
 mod statuses;
 mod streams;
-#[cfg(test)]
-mod tests;
 mod writing;
 
 use answers::USAGE;

@@ -1,21 +1,21 @@
 //! Reads a source to its end, or until it gave more than a text may have.
 ghost use Rattle.std.specs.Prelude.{◌≡◌, ◌+◌, ◌<◌, ◌≤◌, ◌⊎◌, IfOk, length, vec_len};
 ghost use Rattle.sync_base.specs.Outside.{Rose, GivesFront};
-ghost use Rattle.sync_check.specs.Checking.{most_bytes};
-ghost use Rattle.sync_cli.specs.Streams.{IsAtEnd};
+ghost use Rattle.sync_base.specs.Limits.{longest_text};
+ghost use Rattle.sync_cli.specs.Streams.{IsAtEnd, TakesAtMost, TakesInBounds};
 ghost use Rattle.sync_cli.specs.Reading.{IsSoundUnlessFault, GivesPiece};
 
 use std::alloc::{AllocError, Global};
-use sync_base::{Failed, Source};
+use sync_base::{Failed, LONGEST_TEXT, Source};
 
 /// One byte more than a text may have: a text that is longer is judged by so many of its bytes.
-const MOST_READ: usize = 1_048_577;
+const MOST_READ: usize = LONGEST_TEXT + 1;
 
 /// The most bytes that one call of a source is asked for.
 const PIECE: usize = 65_536;
 
 /// Why a text was not read.
-#[derive(Clone, Copy, PartialEq, Eq, Debug)]
+#[derive(Clone, Copy)]
 pub enum ReadStop {
     /// The source failed.
     Fault,
@@ -44,6 +44,7 @@ impl From<AllocError> for ReadStop {
 }
 
 /// Reads the source once, and puts what it gave behind the text. It says how many bytes came.
+#[tactic(auto, using(crate::proofs::Taking::takes_none, crate::proofs::Taking::takes_front))]
 fn read_piece<S: Source>(
     source: &mut S,
     piece: &mut [u8],
@@ -53,6 +54,7 @@ fn read_piece<S: Source>(
     ensures within { IfOk result (λ count. count ≤ length piece.old) }
     ensures given { IfOk result (λ count. GivesPiece (S.left source.old) (S.left source.new) text.old.items text.new.items count) }
     ensures stopped { IsSoundUnlessFault result (S.faults source.old) (S.faults source.new) }
+    ensures taken { TakesAtMost (length piece.old) (S.left source.old) (S.left source.new) }
 {
     let count = source.read(piece)?;
     text.extend_from_slice(&piece[..count])?;
@@ -67,11 +69,13 @@ fn make_buffer(alloc: Global, size: usize) -> Result<Vec<u8>, AllocError>
 }
 
 /// The bytes of the source: all that are left, or 1,048,577 of them where there are more.
+#[tactic(auto, using(crate::proofs::Taking::takes_none, crate::proofs::Taking::takes_front, crate::proofs::Taking::takes_on))]
 pub fn read_all<S: Source>(alloc: Global, source: &mut S) -> Result<Vec<u8>, ReadStop>
     ensures given { IfOk result (λ text. GivesFront (S.left source.old) (S.left source.new) text.items) }
-    ensures whole { IfOk result (λ text. IsAtEnd (S.left source.new) ⊎ (most_bytes < vec_len text)) }
-    ensures bounded { IfOk result (λ text. vec_len text ≤ most_bytes + 1) }
+    ensures whole { IfOk result (λ text. IsAtEnd (S.left source.new) ⊎ (longest_text < vec_len text)) }
+    ensures bounded { IfOk result (λ text. vec_len text ≤ longest_text + 1) }
     ensures sound { IsSoundUnlessFault result (S.faults source.old) (S.faults source.new) }
+    ensures taken { TakesInBounds (S.left source.old) (S.left source.new) }
 {
     let mut text = Vec::new(alloc);
     let mut piece = make_buffer(alloc, PIECE)?;

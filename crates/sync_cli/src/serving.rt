@@ -6,7 +6,7 @@ ghost use Rattle.sync_base.specs.Outside.{Rose, gained};
 ghost use Rattle.sync_cli.specs.Answers.{status_of, out_of, err_of, IsAnswer};
 ghost use Rattle.sync_cli.specs.Commands.{Asks, AsksNothing, answered, IsDone};
 ghost use Rattle.sync_cli.specs.Serving.{Allowed, Tells};
-ghost use Rattle.sync_cli.specs.Streams.{IsTold, IsCutShort};
+ghost use Rattle.sync_cli.specs.Streams.{IsTold, IsCutShort, TakesInBounds};
 ghost use Rattle.sync_cli.specs.declared.commands.Command.{Command as Job};
 
 use crate::answers::Answer;
@@ -37,7 +37,7 @@ fn obey(alloc: Global, command: Command, text: &[u8]) -> Result<Items<Items<u8>>
 }
 
 /// What the command answers for a text.
-fn judge(alloc: Global, command: Command, text: &[u8]) -> Result<Answer, AllocError>
+fn respond(alloc: Global, command: Command, text: &[u8]) -> Result<Answer, AllocError>
     ensures { IfOk result (IsAnswer command text.now) }
 {
     match obey(alloc, command, text) {
@@ -48,16 +48,18 @@ fn judge(alloc: Global, command: Command, text: &[u8]) -> Result<Answer, AllocEr
 }
 
 /// The answer to a call with these words. The source is read only where they are a command's.
+#[tactic(auto, using(crate::proofs::Taking::takes_none))]
 fn answer_to<S: Source>(alloc: Global, words: &[String], source: &mut S) -> Answer
     ensures allowed { Allowed words.now (S.left source.old) (S.left source.new)
         (S.faults source.old) (S.faults source.new) (status_of result) (out_of result) (err_of result) }
     ensures unread { AsksNothing words.now → source.new ≡ source.old }
+    ensures taken { TakesInBounds (S.left source.old) (S.left source.new) }
 {
     let Some(command) = command_of(words) else {
         return Answer::Usage;
     };
     match read_all(alloc, source) {
-        Ok(text) => judge(alloc, command, &text).unwrap_or(Answer::NoMemory),
+        Ok(text) => respond(alloc, command, &text).unwrap_or(Answer::NoMemory),
         Err(ReadStop::Fault) => Answer::ReadFault,
         Err(ReadStop::Memory) => Answer::NoMemory,
     }
@@ -106,6 +108,9 @@ pub fn serve<R: Threads + Sync, S: Source, K: Sink, E: Sink, G: Gate + Sync>(
 
     // Nothing is read where the words are no command's.
     ensures unread { AsksNothing words.now → source.new ≡ source.old }
+
+    // Whatever the status is, at most one byte more than a text may have was taken from the source.
+    ensures taken { TakesInBounds (S.left source.old) (S.left source.new) }
 
     // Where nothing fails, the status tells what the command gives for the text.
     ensures answers { (command : Job) → Asks words.now command →

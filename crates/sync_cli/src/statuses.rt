@@ -3,7 +3,7 @@ ghost use Rattle.std.specs.Prelude.{◌≡◌};
 ghost use Rattle.sync_cli.specs.Statuses.{number_of};
 
 /// How a call ended. The program ends with the status's number, 0 to 7 in this order.
-#[derive(Clone, Copy, PartialEq, Eq, Debug)]
+#[derive(Clone, Copy)]
 pub enum Status {
     /// The answer is on `out`.
     Done,

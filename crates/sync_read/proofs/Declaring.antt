@@ -15,14 +15,14 @@ use Rattle.sync_read_names.specs.declared.scopes.Meaning.TheVariants as meaning
 use Rattle.sync_read_names.specs.declared.scopes.Owner.{Owner}
 use Rattle.sync_read_names.specs.declared.scopes.Scope.{Scope}
 use Rattle.sync_read_names.specs.Scopes.{refuse, or_nothing, meaning_of, is_field, if_new, declare}
-use Rattle.sync_read.specs.Acts.{within, strategy_sort, new_field, add_field, fields_from}
+use Rattle.sync_read.specs.Acts.{few_before, strategy_sort, new_field, add_field, fields_from}
 use Rattle.sync_read.proofs.Chains.{after_ok, both}
 use Rattle.sync_read.proofs.Owning.{get_set_here, get_set_other, which, in_cases, name_at, HasRoom, HasFields, Between}
 
 -- ---- limits
 
-pub within_ok : (most before line : ℕ) → IfOk (within most before line) (λ n. before < most)
-within_ok most before line = less (nat_lt before most) refl where
+pub few_before_ok : (most before line : ℕ) → IfOk (few_before most before line) (λ n. before < most)
+few_before_ok most before line = less (nat_lt before most) refl where
   less : (b : Bool) → nat_lt before most ≡ b → IfOk (if b then Ok before else refuse N5 line) (λ n. before < most)
   less true e = ltb-true before most e
   less false e = tt
@@ -209,7 +209,7 @@ module _ (held : List Field) (s : Scope) (h : Between held [] Anybody s) (f : Ra
 
 one_field : (held : List Field) (s : Scope) (f : RawField) → AreFields held s → IfOk (add_field (length held) s f) (AreFields (held ++ new_field f ∷ []))
 one_field held s f h =
-    after_ok (AreFields (held ++ new_field f ∷ [])) (λ n. length held < 32) (within 32 (length held) f.line) _ (within_ok 32 (length held) f.line) (λ n few.
+    after_ok (AreFields (held ++ new_field f ∷ [])) (λ n. length held < 32) (few_before 32 (length held) f.line) _ (few_before_ok 32 (length held) f.line) (λ n few.
     declare_is (AreFields (held ++ new_field f ∷ [])) s f.name (meaning.Field (length held) (strategy_sort f.strategy)) (λ low new. record {
       between = field_between held s h.between f few low new;
       passed = one_more field_fault [] held (new_field f) h.passed (no_fault held s h.between f few low new);

@@ -30,7 +30,7 @@ use Rattle.sync_read_names.specs.declared.scopes.Owner.TheVariants as owner
 use Rattle.sync_read_names.specs.declared.scopes.Scope.{Scope}
 use Rattle.sync_read_names.specs.Scopes.{or_nothing, declare, flag, has_owner, or_unowned, is_field}
 use Rattle.sync_read_names.specs.Exprs.{form_of}
-use Rattle.sync_read.specs.Acts.{within, fields_from, params_from, steps_from}
+use Rattle.sync_read.specs.Acts.{few_before, fields_from, params_from, steps_from}
 use Rattle.sync_read.specs.Resolving.{start_count, starts_once, is_started, begin_operation, operation_in, operations_from, begin_invariant, invariant_in, invariants_from, machine_in}
 use Rattle.sync_parse.specs.declared.trees.RawText.{RawText}
 use Rattle.sync_read.specs.Scripts.{proofs_from}
@@ -38,7 +38,7 @@ use Rattle.sync_read.specs.Texts.{TextTree, unowned, first_scope, resolved}
 use Rattle.sync_read.proofs.Chains.{after, after_ok, both, weaker, if_ok}
 use Rattle.sync_read.proofs.Sorted.{form_is}
 use Rattle.sync_read.proofs.Owning.{IsCounted, IsLater, name_at, Between, Inside, agrees}
-use Rattle.sync_read.proofs.Declaring.{within_ok, no_limit, one_more, declare_is, no_field_name, not_taken, more_between, Anybody, AreFields, fields_are}
+use Rattle.sync_read.proofs.Declaring.{few_before_ok, no_limit, one_more, declare_is, no_field_name, not_taken, more_between, Anybody, AreFields, fields_are}
 use Rattle.sync_read.proofs.Stated.{AreParams, params_are, counted, Made, steps_are}
 
 -- ---- the beginning of an operation or an invariant
@@ -161,7 +161,7 @@ unfolding begin_operation
 begin_operation_is number fs taken s o h =
     let x : Owner = owner.Operation number in
     if_ok (HasBegun number fs taken o) (is_started o.mode fs o.steps) _ _ (λ e.
-    after_ok (HasBegun number fs taken o) (λ n. number < 64) (within 64 number o.line) _ (within_ok 64 number o.line) (λ n few.
+    after_ok (HasBegun number fs taken o) (λ n. number < 64) (few_before 64 number o.line) _ (few_before_ok 64 number o.line) (λ n few.
     weaker (Begun x fs taken o.name.name) (HasBegun number fs taken o) (declare s o.name (meaning.Operation number) >>= λ t. Ok (record t { owner = x }))
     (begun x (OperationsFrom number) fs taken s o.name (meaning.Operation number) h refl (λ d. absurd cc) few (omega arith) (operations_later number))
     (λ t b. record { begun = b; few = few; starts = e })))
@@ -224,7 +224,7 @@ begin_invariant_is : (number : ℕ) (fs : List Field) (taken : List ℕ) (s : Sc
 unfolding begin_invariant
 begin_invariant_is number fs taken s i h =
     let x : Owner = owner.Invariant number in
-    after_ok (HasBegunInvariant number fs taken i) (λ n. number < 64) (within 64 number i.line) _ (within_ok 64 number i.line) (λ n few.
+    after_ok (HasBegunInvariant number fs taken i) (λ n. number < 64) (few_before 64 number i.line) _ (few_before_ok 64 number i.line) (λ n few.
     weaker (Begun x fs taken i.name.name) (HasBegunInvariant number fs taken i) (declare s i.name (meaning.Invariant number) >>= λ t. Ok (record t { owner = x }))
     (begun x (InvariantsFrom number) fs taken s i.name (meaning.Invariant number) h refl (λ d. absurd cc) few (omega arith) (invariants_later number))
     (λ t b. record { begun = b; few = few }))

@@ -22,7 +22,7 @@ use Rattle.sync_terms.specs.declared.proofs.Proof.{Proof}
 use Rattle.sync_read_names.specs.declared.scopes.Scope.{Scope}
 use Rattle.sync_read_names.specs.declared.scopes.Sort.TheVariants as sort
 use Rattle.sync_read_names.specs.Exprs.{term_of}
-use Rattle.sync_read.specs.Acts.{within, act_in, steps_from}
+use Rattle.sync_read.specs.Acts.{few_before, act_in, steps_from}
 use Rattle.sync_read.specs.Owned.{HasOperationIds}
 use Rattle.sync_read.specs.Resolving.{operation_in, operations_from, invariant_in, invariants_from}
 use Rattle.sync_terms.specs.Proofs.{ProofTree, proof_in as stored_proof}
@@ -88,16 +88,16 @@ steps_rest held a rest x = steps_from (held ++ record { act = x.0; line = a.line
 
 pub steps_go : (s t : Stored) (scope next : Scope) (raw : List RawStep) (i : ℕ) (a : RawStep) (held more : List Step) (x : Step) (n : ℕ) (want : Result (List StepTree × Scope) Refusal)
     → i < length raw → a ≡ get_or raw i a → Extends s t → AllByRecursion (λ (y : Step). HasActIds s y.act) held
-    → within 64 (length held) a.line ≡ Ok n → act_in a.what scope ≡ Ok (act_tree t x.act, next) → x.line ≡ a.line → more ≡ held ++ x ∷ []
+    → few_before 64 (length held) a.line ≡ Ok n → act_in a.what scope ≡ Ok (act_tree t x.act, next) → x.line ≡ a.line → more ≡ held ++ x ∷ []
     → steps_from (steps_tree s held) scope (drop i raw) ≡ want → steps_from (steps_tree t more) next (drop (i + 1) raw) ≡ want
 unfolding steps_from
 steps_go s t scope next raw i a held more x n want below item grows ids few acts line is so_far =
     let rest : List RawStep = drop (i + 1) raw in
     let trees : steps_tree t more ≡ steps_tree s held ++ record { act = act_tree t x.act; line = a.line } ∷ [] =
     seen (step_tree s) (step_tree t) held more x is (steps_kept s t held grows ids) ∙ ap (λ (l : ℕ). steps_tree s held ++ record { act = act_tree t x.act; line = l } ∷ []) line in
-    let few_trees : within 64 (length (steps_tree s held)) a.line ≡ Ok n = ap (λ (k : ℕ). within 64 k a.line) (length-map held (step_tree s)) ∙ few in
+    let few_trees : few_before 64 (length (steps_tree s held)) a.line ≡ Ok n = ap (λ (k : ℕ). few_before 64 k a.line) (length-map held (step_tree s)) ∙ few in
     ap (λ (ys : List StepTree). steps_from ys next rest) trees
-    ∙ sym (behind_two (within 64 (length (steps_tree s held)) a.line) (λ k. act_in a.what scope) (steps_rest (steps_tree s held) a rest) n (act_tree t x.act, next) few_trees acts)
+    ∙ sym (behind_two (few_before 64 (length (steps_tree s held)) a.line) (λ k. act_in a.what scope) (steps_rest (steps_tree s held) a rest) n (act_tree t x.act, next) few_trees acts)
     ∙ ap (steps_from (steps_tree s held) scope) (sym (front raw i a below item))
     ∙ so_far
 

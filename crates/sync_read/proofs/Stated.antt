@@ -34,12 +34,12 @@ use Rattle.sync_read_names.specs.declared.scopes.Owner.{Owner}
 use Rattle.sync_read_names.specs.declared.scopes.Scope.{Scope}
 use Rattle.sync_read_names.specs.Scopes.{symbol_of, meaning_of, own}
 use Rattle.sync_read_names.specs.Exprs.{term_of, form_of}
-use Rattle.sync_read.specs.Acts.{within, strategy_sort, add_param, params_from, field_meaning, field_in, pattern_in, place_in, field_term, field_place, act_in, steps_from}
+use Rattle.sync_read.specs.Acts.{few_before, strategy_sort, add_param, params_from, field_meaning, field_in, pattern_in, place_in, field_term, field_place, act_in, steps_from}
 use Rattle.sync_read.specs.Resolving.{starts, start_count}
 use Rattle.sync_read.proofs.Chains.{after_ok, both, weaker}
 use Rattle.sync_read.proofs.Sorted.{Agrees, term_number, term_map, form_is}
 use Rattle.sync_read.proofs.Owning.{name_at, HasFields, Inside, field_is, agrees, Owned, own_is}
-use Rattle.sync_read.proofs.Declaring.{within_ok, no_limit, one_more, same_number}
+use Rattle.sync_read.proofs.Declaring.{few_before_ok, no_limit, one_more, same_number}
 
 -- ---- parameters
 
@@ -57,7 +57,7 @@ one_param : (limited : Bool) (x : Owner) (fs : List Field) (taken names : List �
 one_param true x fs taken names s named h =
     let y : ℕ = symbol_of named.name in
     after_ok (AreParams true x fs taken (names ++ y ∷ [])) (Owned x fs taken names y) (own s named) _ (own_is x fs taken names s named h.inside) (λ t o.
-    after_ok (AreParams true x fs taken (names ++ y ∷ [])) (λ n. length names < 8) (within 8 (length names) named.line) _ (within_ok 8 (length names) named.line) (λ n few. record {
+    after_ok (AreParams true x fs taken (names ++ y ∷ [])) (λ n. length names < 8) (few_before 8 (length names) named.line) _ (few_before_ok 8 (length names) named.line) (λ n few. record {
       inside = o.inside;
       passed = one_more (parameter_fault fs) [] names y h.passed (both (repeated fs names y) (broken (nat_le 8 (length names)) N5) o.new (no_limit 8 (length names) few));
     }))
@@ -260,7 +260,7 @@ unfolding steps_from start_count step_fault
 steps_are x fs taken params held s [] h = record { are = h; counts = λ i low. refl }
 steps_are x fs taken params held s (a ∷ more) h =
     let names : List ℕ = params ++ bound_names held in
-    after_ok (Made x fs taken params held (a ∷ more)) (λ n. length held < 64) (within 64 (length held) a.line) _ (within_ok 64 (length held) a.line) (λ n few.
+    after_ok (Made x fs taken params held (a ∷ more)) (λ n. length held < 64) (few_before 64 (length held) a.line) _ (few_before_ok 64 (length held) a.line) (λ n few.
     after_ok (Made x fs taken params held (a ∷ more)) (IsAct x fs taken names s h.inside a.what) (act_in a.what s) _ (act_is x fs taken names s h.inside a.what) (λ y q.
     let t : StepTree = record { act = y.0; line = a.line } in
     let now : List StepTree = held ++ t ∷ [] in

@@ -24,7 +24,7 @@ use Rattle.sync_read_names.specs.declared.scopes.Scope.{Scope}
 use Rattle.sync_read_names.specs.Scopes.{symbol_of, own}
 use Rattle.sync_read_names.specs.Exprs.{term_of, form_of}
 use Rattle.sync_read_names.specs.declared.scopes.Sort.TheVariants as sort
-use Rattle.sync_read.specs.Acts.{within, add_param, params_from, field_in, pattern_in, place_in, field_term, field_place, act_in, steps_from, fields_from}
+use Rattle.sync_read.specs.Acts.{few_before, add_param, params_from, field_in, pattern_in, place_in, field_term, field_place, act_in, steps_from, fields_from}
 use Rattle.sync_read.proofs.Chains.{after, after_ok}
 use Rattle.sync_read.specs.Resolving.{begin_operation, operation_in, operations_from, begin_invariant, invariant_in, invariants_from, machine_in}
 
@@ -109,7 +109,7 @@ steps_are : (held : List StepTree) (s : Scope) (acts : List RawStep) → AllByRe
 unfolding steps_from
 steps_are held s [] h = h
 steps_are held s (a ∷ more) h =
-    after Stepped (within 64 (length held) a.line) _ (λ n.
+    after Stepped (few_before 64 (length held) a.line) _ (λ n.
     after_ok Stepped Acted (act_in a.what s) _ (act_is a.what s) (λ x b.
     steps_are (held ++ record { act = x.0; line = a.line } ∷ []) x.1 more (one_more StepBinds held (record { act = x.0; line = a.line }) h b)))
 

@@ -15,7 +15,7 @@ use Rattle.sync_parse.specs.declared.trees.RawProof.{RawProof}
 use Rattle.sync_parse.specs.declared.trees.RawText.{RawText}
 use Rattle.sync_read_names.specs.declared.scopes.Scope.{Scope}
 use Rattle.sync_read_names.specs.Scopes.{meaning_of}
-use Rattle.sync_read.specs.Acts.{within}
+use Rattle.sync_read.specs.Acts.{few_before}
 use Rattle.sync_read.specs.Resolving.{machine_in}
 use Rattle.sync_terms.specs.declared.proofs.Proof.{Proof}
 use Rattle.sync_terms.specs.Proofs.{ProofTree, AreScriptsOf}
@@ -34,11 +34,11 @@ gives_stop view r e wanted is h = subst (λ x. Gives view x wanted) (sym is) h
 -- ---- proofs
 
 abbrev behind_claim : ℕ → Scope → RawProof → ℕ → Claim → Result (ProofTree × Scope) Refusal
-behind_claim before s p o c = within 65536 before p.script.line >>= (λ n. block_of (script_scope o c s) p.script.block >>= (λ b.
+behind_claim before s p o c = few_before 65536 before p.script.line >>= (λ n. block_of (script_scope o c s) p.script.block >>= (λ b.
     Ok (record { title = record { op = o; claim = c; line = p.operation.line }; plan = b }, script_scope o c s)))
 
 proof_is : (before : ℕ) (s : Scope) (p : RawProof) (o n : ℕ) (c : Claim) → operation_meaning (meaning_of s p.operation.name) p.operation.line ≡ Ok o → claim_in s p.claim ≡ Ok c
-    → within 65536 before p.script.line ≡ Ok n
+    → few_before 65536 before p.script.line ≡ Ok n
     → proof_in before s p ≡ (block_of (script_scope o c s) p.script.block >>= (λ b. Ok (record { title = record { op = o; claim = c; line = p.operation.line }; plan = b }, script_scope o c s)))
 unfolding proof_in
 proof_is before s p o n c operation claim few =
@@ -48,7 +48,7 @@ proof_is before s p o n c operation claim few =
     Ok (record { title = record { op = o; claim = c; line = p.operation.line }; plan = b }, script_scope o c s)))) few
 
 pub proof_made : (before : ℕ) (s next : Scope) (p : RawProof) (o n : ℕ) (c : Claim) (plan : Plan) → operation_meaning (meaning_of s p.operation.name) p.operation.line ≡ Ok o → claim_in s p.claim ≡ Ok c
-    → within 65536 before p.script.line ≡ Ok n → next ≡ script_scope o c s → block_of next p.script.block ≡ Ok plan
+    → few_before 65536 before p.script.line ≡ Ok n → next ≡ script_scope o c s → block_of next p.script.block ≡ Ok plan
     → proof_in before s p ≡ Ok (record { title = record { op = o; claim = c; line = p.operation.line }; plan = plan }, next)
 proof_made before s next p o n c plan operation claim few is block =
     let made : ProofTree = record { title = record { op = o; claim = c; line = p.operation.line }; plan = plan } in
@@ -57,7 +57,7 @@ proof_made before s next p o n c plan operation claim few is block =
     ∙ ap (λ s. Ok (made, s)) (sym is)
 
 pub proof_stops : (e : Stop) (before : ℕ) (s next : Scope) (p : RawProof) (o n : ℕ) (c : Claim) → operation_meaning (meaning_of s p.operation.name) p.operation.line ≡ Ok o → claim_in s p.claim ≡ Ok c
-    → within 65536 before p.script.line ≡ Ok n → next ≡ script_scope o c s → Stops e (block_of next p.script.block) → Stops e (proof_in before s p)
+    → few_before 65536 before p.script.line ≡ Ok n → next ≡ script_scope o c s → Stops e (block_of next p.script.block) → Stops e (proof_in before s p)
 proof_stops Memory before s next p o n c operation claim few is h = tt
 proof_stops (Refused r) before s next p o n c operation claim few is h =
     proof_is before s p o n c operation claim few

@@ -28,8 +28,8 @@ use Rattle.sync_read_names.specs.Scopes.{refuse, declare, own, symbol_of, meanin
 use Rattle.sync_read_names.specs.Exprs.{term_of, form_of}
 
 -- at most so many come before
-abbrev pub within : ℕ → ℕ → ℕ → Result ℕ Refusal
-within most before line = if nat_lt before most then Ok before else refuse N5 line
+abbrev pub few_before : ℕ → ℕ → ℕ → Result ℕ Refusal
+few_before most before line = if nat_lt before most then Ok before else refuse N5 line
 
 -- ---- fields
 
@@ -54,7 +54,7 @@ new_field f = record { name = f.name.name; strategy = f.strategy; line = f.line 
 -- the field with this number
 abbrev pub add_field : ℕ → Scope → RawField → Result Scope Refusal
 add_field number s f = do
-  n ← within 32 number f.line
+  n ← few_before 32 number f.line
   declare s f.name (meaning.Field number (strategy_sort f.strategy))
 
 unfoldable pub fields_from : List Field → Scope → List RawField → Result (List Field × Scope) Refusal
@@ -66,7 +66,7 @@ fields_from held s (f ∷ fs) = do
 -- ---- parameters
 
 abbrev pub most_params : Bool → ℕ → ℕ → Result ℕ Refusal
-most_params true before line = within 8 before line
+most_params true before line = few_before 8 before line
 most_params false before line = Ok before
 
 abbrev pub add_param : Bool → ℕ → Scope → RawName → Result Scope Refusal
@@ -86,9 +86,7 @@ params_from limited held s (n ∷ ns) = do
 
 abbrev pub field_meaning : Meaning → ℕ → Result (ℕ × Sort) Refusal
 field_meaning (meaning.Field number s) line = Ok (number, s)
-field_meaning meaning.Nothing line = refuse N1 line
-field_meaning (meaning.Operation number) line = refuse N1 line
-field_meaning (meaning.Invariant number) line = refuse N1 line
+field_meaning _ line = refuse N1 line
 
 -- the number and the sort of a field
 abbrev pub field_in : Scope → RawName → Result (ℕ × Sort) Refusal
@@ -128,6 +126,12 @@ field_place named p s = do
   x ← place_in p s
   Ok (f.0, x.0, x.1)
 
+-- a statement on a field and a place, and the scope behind it
+abbrev pub act_at : (ℕ → PlaceTree → ActTree) → RawName → RawPlace → Scope → Result (ActTree × Scope) Refusal
+act_at does named p s = do
+  x ← field_place named p s
+  Ok (does x.0 x.1, x.2)
+
 -- what a statement does, and the scope behind it
 abbrev pub act_in : RawAct → Scope → Result (ActTree × Scope) Refusal
 act_in (raw.Init named e) s = do
@@ -145,28 +149,16 @@ act_in (raw.Update named e) s = do
 act_in (raw.HaveVariable named) s = do
   f ← field_in s named
   Ok (machines.HaveVariable f.0, s)
-act_in (raw.Have named p) s = do
-  x ← field_place named p s
-  Ok (machines.Have x.0 x.1, x.2)
-act_in (raw.Guard named p) s = do
-  x ← field_place named p s
-  Ok (machines.Guard x.0 x.1, x.2)
-act_in (raw.Add named p) s = do
-  x ← field_place named p s
-  Ok (machines.Add x.0 x.1, x.2)
-act_in (raw.Deposit named p) s = do
-  x ← field_place named p s
-  Ok (machines.Deposit x.0 x.1, x.2)
-act_in (raw.Remove named p) s = do
-  x ← field_place named p s
-  Ok (machines.Remove x.0 x.1, x.2)
-act_in (raw.Withdraw named p) s = do
-  x ← field_place named p s
-  Ok (machines.Withdraw x.0 x.1, x.2)
+act_in (raw.Have named p) s = act_at machines.Have named p s
+act_in (raw.Guard named p) s = act_at machines.Guard named p s
+act_in (raw.Add named p) s = act_at machines.Add named p s
+act_in (raw.Deposit named p) s = act_at machines.Deposit named p s
+act_in (raw.Remove named p) s = act_at machines.Remove named p s
+act_in (raw.Withdraw named p) s = act_at machines.Withdraw named p s
 
 unfoldable pub steps_from : List StepTree → Scope → List RawStep → Result (List StepTree × Scope) Refusal
 steps_from held s [] = Ok (held, s)
 steps_from held s (a ∷ more) = do
-  n ← within 64 (length held) a.line
+  n ← few_before 64 (length held) a.line
   x ← act_in a.what s
   steps_from (held ++ record { act = x.0; line = a.line } ∷ []) x.1 more

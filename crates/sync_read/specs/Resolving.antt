@@ -18,21 +18,12 @@ use Rattle.sync_read_names.specs.declared.scopes.Owner.TheVariants as owner
 use Rattle.sync_read_names.specs.declared.scopes.Scope.{Scope}
 use Rattle.sync_read_names.specs.Scopes.{refuse, declare}
 use Rattle.sync_read_names.specs.Exprs.{form_of}
-use Rattle.sync_read.specs.Acts.{within, fields_from, params_from, steps_from}
+use Rattle.sync_read.specs.Acts.{few_before, fields_from, params_from, steps_from}
 
 -- a statement gives the field of this name its first value
 abbrev pub starts : ℕ → RawAct → Bool
 starts name (raw.Init named e) = named.name == name
-starts name (raw.Require e) = false
-starts name (raw.Assert e) = false
-starts name (raw.Update named e) = false
-starts name (raw.HaveVariable named) = false
-starts name (raw.Have named p) = false
-starts name (raw.Guard named p) = false
-starts name (raw.Add named p) = false
-starts name (raw.Deposit named p) = false
-starts name (raw.Remove named p) = false
-starts name (raw.Withdraw named p) = false
+starts name _ = false
 
 -- how often statements do so, beyond those counted
 unfoldable pub start_count : ℕ → ℕ → List RawStep → ℕ
@@ -52,7 +43,7 @@ is_started mode.Property fs acts = true
 -- the scope of the operation with this number
 unfoldable pub begin_operation : ℕ → List Field → Scope → RawOperation → Result Scope Refusal
 begin_operation number fs s o = if is_started o.mode fs o.steps then (do
-  n ← within 64 number o.line
+  n ← few_before 64 number o.line
   s2 ← declare s o.name (meaning.Operation number)
   Ok (record s2 { owner = owner.Operation number })) else refuse N4 o.line
 
@@ -72,7 +63,7 @@ operations_from fs held s (o ∷ more) = do
 -- the scope of the invariant with this number
 unfoldable pub begin_invariant : ℕ → Scope → RawInvariant → Result Scope Refusal
 begin_invariant number s i = do
-  n ← within 64 number i.line
+  n ← few_before 64 number i.line
   s2 ← declare s i.name (meaning.Invariant number)
   Ok (record s2 { owner = owner.Invariant number })
 

@@ -33,7 +33,7 @@ use Rattle.sync_read_names.specs.declared.scopes.Meaning.TheVariants as meaning
 use Rattle.sync_read_names.specs.declared.scopes.Scope.{Scope}
 use Rattle.sync_read_names.specs.Scopes.{refuse, meaning_of}
 use Rattle.sync_read_names.specs.Exprs.{term_of, form_of}
-use Rattle.sync_read.specs.Acts.{within}
+use Rattle.sync_read.specs.Acts.{few_before}
 
 abbrev pub subject_line : RawSubject → ℕ
 subject_line (subject.Name named) = named.line
@@ -168,7 +168,7 @@ unfoldable pub proof_in : ℕ → Scope → RawProof → Result (ProofTree × Sc
 proof_in before s p = do
   o ← operation_meaning (meaning_of s p.operation.name) p.operation.line
   c ← claim_in s p.claim
-  n ← within 65536 before p.script.line
+  n ← few_before 65536 before p.script.line
   b ← block_of (script_scope o c s) p.script.block
   Ok (record { title = record { op = o; claim = c; line = p.operation.line }; plan = b }, script_scope o c s)
 

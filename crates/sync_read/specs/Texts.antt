@@ -1,10 +1,12 @@
--- What a raw text means, as plain lists, or the first rule N that it breaks.
+-- What a text means, as plain lists, or the first rule of lexemes, grammar or names that it breaks.
 use Rattle.std.specs.Prelude.{ℕ, List, [], length, min, replicate, Result, Ok}
 use Rattle.sync_base.specs.declared.stops.Refusal.{Refusal}
 use Rattle.sync_base.specs.declared.names.NameList.{NameList}
+use Rattle.sync_base.specs.Limits.{longest_text}
 use Rattle.sync_base.specs.Outcome.{◌>>=◌}
 use Rattle.sync_machine.specs.Machines.{MachineTree}
 use Rattle.sync_machine.specs.Views.{machine_tree}
+use Rattle.sync_parse.specs.Machines.{parsed}
 use Rattle.sync_parse.specs.declared.trees.RawText.{RawText}
 use Rattle.sync_read_names.specs.declared.scopes.Meaning.TheVariants.{Nothing}
 use Rattle.sync_read_names.specs.declared.scopes.Owners.{Owners}
@@ -23,9 +25,9 @@ pub record TextTree : Type 0 where
 abbrev pub unowned : Owners
 unowned = record { operations = 0; invariants = 0 }
 
--- so many names, of which none stands for anything; a text has fewer than 1,048,576
+-- so many names, of which none stands for anything; a text has fewer names than bytes
 abbrev pub first_scope : ℕ → Scope
-first_scope count = record { meanings = replicate (min count 1048576) Nothing; owners = replicate (min count 1048576) unowned; owner = Nobody; claim = Nobody }
+first_scope count = record { meanings = replicate (min count longest_text) Nothing; owners = replicate (min count longest_text) unowned; owner = Nobody; claim = Nobody }
 
 -- first the machine, then its proofs
 abbrev pub resolved : RawText → Result TextTree Refusal
@@ -33,6 +35,10 @@ resolved raw = do
   m ← machine_in (first_scope (length raw.names.list)) raw.machine
   ps ← proofs_from [] m.1 raw.proofs
   Ok (record { machine = m.0; proofs = ps.0; names = raw.names })
+
+-- the machine and the proofs of the text in these bytes, or the first rule of lexemes, grammar or names that they break
+abbrev pub text_in : List ℕ → Result TextTree Refusal
+text_in bytes = parsed bytes >>= resolved
 
 -- a text with its ids read in its machine's store
 abbrev pub text_tree : Text → TextTree

@@ -6,7 +6,7 @@ ghost use Rattle.sync_terms.specs.Stored.{tree, IsTerm, Extends};
 ghost use Rattle.sync_terms.specs.declared.nodes.Sym.{Sym};
 ghost use Rattle.sync_machine.specs.Views.{symbols_of, pattern_tree, place_tree, act_tree, steps_tree, HasPatternId, HasPlaceIds, HasActIds};
 ghost use Rattle.sync_machine.specs.declared.machine.Step.{Step};
-ghost use Rattle.sync_read.specs.Acts.{strategy_sort, within, add_field, fields_from, add_param, params_from, field_in, pattern_in, place_in, field_term, field_place, act_in, steps_from};
+ghost use Rattle.sync_read.specs.Acts.{strategy_sort, few_before, add_field, fields_from, add_param, params_from, field_in, pattern_in, place_in, field_term, field_place, act_in, steps_from};
 
 use sqlite_items::Items;
 use std::alloc::Global;
@@ -18,8 +18,8 @@ use sync_parse::{RawStep, RawAct, RawField, RawPattern, RawPlace};
 use sync_terms::{Sym, TermId, Terms};
 
 /// At most so many come before.
-pub(crate) fn within(most: usize, before: usize, line: u32) -> Result<usize, Stop>
-    ensures { Gives (λ n. n) result (within most before line) }
+pub(crate) fn few_before(most: usize, before: usize, line: u32) -> Result<usize, Stop>
+    ensures { Gives (λ n. n) result (few_before most before line) }
 {
     if before < most {
         Ok(before)
@@ -53,7 +53,7 @@ fn strategy_sort(strategy: Strategy) -> Sort
 fn add_field(number: usize, scope: &mut Scope, field: RawField) -> Result<(), Stop>
     ensures { Gives (λ _. scope.new) result (add_field number scope.old field) }
 {
-    within(32, number, field.line)?;
+    few_before(32, number, field.line)?;
     let sort = strategy_sort(field.strategy);
     scope.declare(field.name, Meaning::Field(number as u32, sort))
 }
@@ -85,7 +85,7 @@ fn add_param(limited: bool, before: usize, scope: &mut Scope, named: RawName) ->
 {
     scope.own(named)?;
     if limited {
-        within(8, before, named.line)?;
+        few_before(8, before, named.line)?;
     }
     Ok(())
 }
@@ -262,7 +262,7 @@ pub(crate) fn steps(
 {
     let mut held = Items::new(alloc);
     for a in raw {
-        within(64, held.len(), a.line)?;
+        few_before(64, held.len(), a.line)?;
         let act = act(terms, scope, &a.what)?;
         held.push(Step { act, line: a.line })?;
     }

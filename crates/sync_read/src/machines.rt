@@ -10,7 +10,7 @@ ghost use Rattle.sync_machine.specs.declared.machine.Invariant.{Invariant};
 ghost use Rattle.sync_read.specs.Resolving.{starts, start_count, starts_once, is_started, begin_operation, operation_in, operations_from, begin_invariant, invariant_in, invariants_from, machine_in};
 ghost use Rattle.sync_read.specs.Owned.{HasOperationIds};
 
-use crate::acts::{fields, params, steps, within};
+use crate::acts::{fields, params, steps, few_before};
 use sqlite_items::Items;
 use std::alloc::Global;
 use sync_base::{Rule, Stop};
@@ -83,7 +83,7 @@ fn begin_operation(
         }
         OpMode::Transition | OpMode::Property => {}
     }
-    within(64, number, raw.line)?;
+    few_before(64, number, raw.line)?;
     scope.declare(raw.name, Meaning::Operation(number as u32))?;
     scope.owner = Owner::Operation(number as u32);
     Ok(())
@@ -141,7 +141,7 @@ fn operations(
 fn begin_invariant(number: usize, scope: &mut Scope, raw: &RawInvariant) -> Result<(), Stop>
     ensures { Gives (λ _. scope.new) result (begin_invariant number scope.old raw.now) }
 {
-    within(64, number, raw.line)?;
+    few_before(64, number, raw.line)?;
     scope.declare(raw.name, Meaning::Invariant(number as u32))?;
     scope.owner = Owner::Invariant(number as u32);
     Ok(())

@@ -7,7 +7,7 @@ ghost use Rattle.sync_terms.specs.Proofs.{proof_in as stored_proof};
 ghost use Rattle.sync_read.specs.Scripts.{hyp_in, parts_from, numbers_from, map_and_number, map_and_numbers, block_of, step_of, then_of, operation_meaning, claim_in, claim_owner, proof_in, proofs_from};
 ghost use Rattle.sync_read_names.specs.Scopes.{meaning_of};
 
-use crate::acts::within;
+use crate::acts::few_before;
 use sqlite_items::Items;
 use std::alloc::Global;
 use sync_base::{Rule, Stop};
@@ -92,7 +92,8 @@ fn map_and_numbers(
     j: &RawExpr,
     k: &RawExpr,
 ) -> Result<(TermId, TermId, TermId), Stop>
-    ensures exact { (t : Stored) → Extends terms.new t → Gives (λ p. (tree t p.0, tree t p.1, tree t p.2)) result (map_and_numbers m.now j.now k.now scope.now) }
+    ensures exact { (t : Stored) → Extends terms.new t →
+        Gives (λ p. (tree t p.0, tree t p.1, tree t p.2)) result (map_and_numbers m.now j.now k.now scope.now) }
     ensures keeps { Extends terms.old terms.new }
 {
     let (m, j) = map_and_number(terms, scope, m, j)?;
@@ -227,7 +228,7 @@ fn proof(
 {
     let op = operation(scope, raw.operation)?;
     let claim = claim(scope, raw.claim)?;
-    within(65536, before, raw.script.line)?;
+    few_before(65536, before, raw.script.line)?;
     scope.owner = Owner::Operation(op);
     scope.claim = claim_owner(claim);
     let block = block(alloc, terms, scope, &raw.script.block)?;

@@ -5,16 +5,16 @@ ghost use Rattle.sync_machine.specs.Views.{machine_tree, HasOwnIds};
 ghost use Rattle.sync_machine.specs.Naming.{machine_fault, AreTextNames};
 ghost use Rattle.sync_terms.specs.Proofs.{AreScriptsOf};
 ghost use Rattle.sync_read.specs.declared.texts.Text.{Text};
-ghost use Rattle.sync_read.specs.Texts.{first_scope, resolved, text_tree};
+ghost use Rattle.sync_read.specs.Texts.{first_scope, resolved, text_in, text_tree};
 
 use crate::machines::machine;
 use crate::scripts::proofs;
 use sqlite_items::Items;
 use std::alloc::Global;
-use sync_base::{NameList, NoMemory, Stop};
+use sync_base::{LONGEST_TEXT, NameList, NoMemory, Stop};
 use sync_machine::Machine;
 use sync_read_names::{Meaning, Owner, Owners, Scope};
-use sync_parse::RawText;
+use sync_parse::{RawText, parse};
 use sync_terms::Proofs;
 
 /// A text: its machine, with the store of all its terms, its proofs and its names.
@@ -29,7 +29,7 @@ pub struct Text {
 fn first_scope(alloc: Global, count: usize) -> Result<Scope, NoMemory>
     ensures { IfOk result (λ s. s ≡ first_scope count) }
 {
-    let count = count.min(1_048_576);
+    let count = count.min(LONGEST_TEXT);
     let unowned = Owners {
         operations: 0,
         invariants: 0,
@@ -48,7 +48,7 @@ fn first_scope(alloc: Global, count: usize) -> Result<Scope, NoMemory>
 ///
 /// Its machine breaks no rule of names, so nothing has to ask once more.
 #[tactic(auto, using(crate::proofs::Growing::operations_kept, crate::proofs::Growing::operations_stay, crate::proofs::Growing::invariants_kept, crate::proofs::Growing::invariants_stay, sync_read_names::proofs::Kept::stays))]
-pub fn resolve(alloc: Global, raw: RawText) -> Result<Text, Stop>
+fn resolve(alloc: Global, raw: RawText) -> Result<Text, Stop>
     ensures exact { Gives text_tree result (resolved raw) }
     ensures ids { IfOk result (λ (t : Text). HasOwnIds t.machine) }
     ensures names { IfOk result (λ (t : Text). AreTextNames (machine_tree t.machine)) }
@@ -76,4 +76,17 @@ pub fn resolve(alloc: Global, raw: RawText) -> Result<Text, Stop>
         proofs: Proofs { list },
         names: raw.names,
     })
+}
+
+/// The machine, the proofs and the names of the text in these bytes. Refuses with the first broken rule of lexemes (L), of the
+/// grammar (G) or of names (N).
+pub fn read(alloc: Global, bytes: &[u8]) -> Result<Text, Stop>
+    ensures exact { Gives text_tree result (text_in bytes.now) }
+    ensures ids { IfOk result (λ (t : Text). HasOwnIds t.machine) }
+    ensures names { IfOk result (λ (t : Text). AreTextNames (machine_tree t.machine)) }
+    ensures formed { IfOk result (λ (t : Text). machine_fault (machine_tree t.machine) ≡ None) }
+    ensures scripts { IfOk result (λ (t : Text). AreScriptsOf t.machine.terms t.proofs.list) }
+{
+    let raw = parse(alloc, bytes)?;
+    resolve(alloc, raw)
 }
