@@ -4,146 +4,141 @@ ghost use Rattle.sync_machine.specs.Views.{HasOwnIds};
 use crate::machines::{
     COUNT, ENTRIES, FETCH, LATE, MARKS, PAY, RAISE, TALLY, TRADE, TWICE, VARIABLE, ZERO,
 };
-use crate::shards::{Shards, held};
-use anyhow::{Result, bail};
+use crate::shards::{Shards, print_shards};
 use sqlite_items::Items;
 use std::alloc::{AllocError, Global};
+use std::io;
 use sync_base::NoMemory;
-use sync_exchange::{Bound, Names, XStop, exchange};
-use sync_join::{Entries, State, Value};
+use sync_exchange::{Bound, Held, Names, XStop, exchange};
+use sync_join::{Entries, State, Token, Value};
 use sync_machine::Machine;
 
-/// A call: the number of the operation, its arguments, and the names that are said slot by slot.
+/// A call: the number of the operation, its arguments, what is held, and the names that are said slot by slot.
 #[derive(Clone, Copy)]
-struct Call<'a> {
+struct Call {
+    title: &'static str,
     op: u32,
-    args: &'a [i128],
-    tokens: &'a [u32],
-    given: &'a [u32],
-    whole: Option<&'a State>,
+    args: &'static [i128],
+    held: &'static [Held],
+    tokens: &'static [u32],
+    given: &'static [u32],
 }
 
-impl Call<'_> {
-    /// The names of the call.
-    fn names(&self, alloc: Global) -> Result<Names, AllocError> {
-        Ok(Names {
-            tokens: Items::from_slice(alloc, self.tokens)?,
-            given: Items::from_slice(alloc, self.given)?,
-        })
-    }
+const CALLS: [Call; 10] = [
+    Call {
+        title: "a trade",
+        op: TRADE,
+        args: &[7],
+        held: &[Held { name: 10, token: Token { field: VARIABLE, key: 0, value: 4 } }, Held { name: 11, token: Token { field: ENTRIES, key: 7, value: 9 } }],
+        tokens: &[10, 11],
+        given: &[12, 13],
+    },
+    Call {
+        title: "one token twice",
+        op: TWICE,
+        args: &[7],
+        held: &[Held { name: 10, token: Token { field: ENTRIES, key: 7, value: 1 } }],
+        tokens: &[10, 10],
+        given: &[],
+    },
+    Call {
+        title: "another key",
+        op: TWICE,
+        args: &[7],
+        held: &[Held { name: 10, token: Token { field: ENTRIES, key: 7, value: 1 } }, Held { name: 11, token: Token { field: ENTRIES, key: 8, value: 1 } }],
+        tokens: &[10, 11],
+        given: &[],
+    },
+    Call {
+        title: "a withdrawal",
+        op: FETCH,
+        args: &[3],
+        held: &[],
+        tokens: &[],
+        given: &[10],
+    },
+    Call {
+        title: "one of another key",
+        op: FETCH,
+        args: &[4],
+        held: &[],
+        tokens: &[],
+        given: &[10],
+    },
+    Call {
+        title: "another amount",
+        op: PAY,
+        args: &[],
+        held: &[Held { name: 10, token: Token { field: COUNT, key: 0, value: 5 } }],
+        tokens: &[10],
+        given: &[],
+    },
+    Call {
+        title: "a false require",
+        op: ZERO,
+        args: &[],
+        held: &[Held { name: 10, token: Token { field: VARIABLE, key: 0, value: 1 } }],
+        tokens: &[10],
+        given: &[],
+    },
+    Call {
+        title: "a sum that is too large",
+        op: RAISE,
+        args: &[],
+        held: &[Held { name: 10, token: Token { field: VARIABLE, key: 0, value: i128::MAX } }],
+        tokens: &[10],
+        given: &[],
+    },
+    Call {
+        title: "a failure behind a withdrawal",
+        op: LATE,
+        args: &[],
+        held: &[Held { name: 10, token: Token { field: COUNT, key: 0, value: 5 } }],
+        tokens: &[10],
+        given: &[],
+    },
+    Call {
+        title: "a tally",
+        op: TALLY,
+        args: &[],
+        held: &[],
+        tokens: &[],
+        given: &[],
+    },
+];
+
+/// The names of a call.
+fn names_of(alloc: Global, call: Call) -> Result<Names, AllocError> {
+    Ok(Names {
+        tokens: Items::from_slice(alloc, call.tokens)?,
+        given: Items::from_slice(alloc, call.given)?,
+    })
 }
 
-/// An answer in words: the values that are bound, or why the exchange does not happen.
-fn answer_text(alloc: Global, answer: Result<Bound, XStop>) -> Result<String, AllocError> {
+/// Prints the values that an exchange binds, or why it does not happen.
+fn print_answer(rt: &HostRuntime, answer: Result<Bound, XStop>) -> io::Result<()> {
     match answer {
-        Ok(bound) => format!(in alloc; "Ok({:?})", bound.values.as_slice()),
-        Err(stop) => format!(in alloc; "Err({stop:?})"),
+        Ok(bound) => print!(rt; "Ok({:?});", bound.values.as_slice()),
+        Err(stop) => print!(rt; "Err({stop:?});"),
     }
 }
 
 /// Makes a call, and prints what it answers, and what is held and kept then.
-fn print_call(
-    rt: &HostRuntime,
-    title: &str,
-    m: &Machine,
-    call: Call<'_>,
-    shards: &mut Shards,
-) -> Result<()>
+fn print_call(rt: &HostRuntime, m: &Machine, whole: &State, call: Call) -> io::Result<()>
     requires { HasOwnIds m.now }
 {
     let alloc = rt.alloc();
+    print!(rt; "{}: ", call.title)?;
+    let (Ok(names), Ok(mut shards)) = (names_of(alloc, call), Shards::new(alloc, call.held)) else {
+        return println!(rt; "no memory");
+    };
     if call.op as usize >= m.ops.len() {
-        bail!("no operation of this number");
+        return println!(rt; "no operation");
     }
-    let names = call.names(alloc)?;
-    let Shards { hand, rest } = shards;
-    let answer = exchange(alloc, m, call.op, call.args, &names, call.whole, hand, rest);
-    let answer = answer_text(alloc, answer)?;
-    let left = shards.text(alloc)?;
-    println!(rt; "{title}: {answer}; {left}")?;
-    Ok(())
-}
-
-/// An exchange of a variable and a token: one is changed, one taken, and two given.
-fn print_trade(rt: &HostRuntime, m: &Machine) -> Result<()>
-    requires { HasOwnIds m.now }
-{
-    let call = Call {
-        op: TRADE,
-        args: &[7],
-        tokens: &[10, 11],
-        given: &[12, 13],
-        whole: None,
-    };
-    let variable = held(10, VARIABLE, 0, 4);
-    let entry = held(11, ENTRIES, 7, 9);
-    let mut shards = Shards::new(rt.alloc(), &[variable, entry])?;
-    print_call(rt, "a trade", m, call, &mut shards)
-}
-
-/// A token that an earlier slot took is not at hand, and one of another key does not do.
-fn print_twice(rt: &HostRuntime, m: &Machine) -> Result<()>
-    requires { HasOwnIds m.now }
-{
-    let call = Call {
-        op: TWICE,
-        args: &[7],
-        tokens: &[10, 10],
-        given: &[],
-        whole: None,
-    };
-    let p = held(10, ENTRIES, 7, 1);
-    let q = held(11, ENTRIES, 8, 1);
-    let mut shards = Shards::new(rt.alloc(), &[p])?;
-    print_call(rt, "one token twice", m, call, &mut shards)?;
-    let call = Call {
-        tokens: &[10, 11],
-        ..call
-    };
-    let mut shards = Shards::new(rt.alloc(), &[p, q])?;
-    print_call(rt, "another key", m, call, &mut shards)
-}
-
-/// A stored object is withdrawn, and then no longer stored.
-fn print_fetch(rt: &HostRuntime, m: &Machine) -> Result<()>
-    requires { HasOwnIds m.now }
-{
-    let call = Call {
-        op: FETCH,
-        args: &[],
-        tokens: &[],
-        given: &[10],
-        whole: None,
-    };
-    let mut shards = Shards::new(rt.alloc(), &[])?;
-    print_call(rt, "a withdrawal", m, call, &mut shards)?;
-    let call = Call {
-        given: &[11],
-        ..call
-    };
-    print_call(rt, "a second one", m, call, &mut shards)
-}
-
-/// A call without arguments of an operation that uses this one token.
-fn print_one(
-    rt: &HostRuntime,
-    title: &str,
-    m: &Machine,
-    op: u32,
-    field: u32,
-    value: i128,
-) -> Result<()>
-    requires { HasOwnIds m.now }
-{
-    let call = Call {
-        op,
-        args: &[],
-        tokens: &[10],
-        given: &[],
-        whole: None,
-    };
-    let mut shards = Shards::new(rt.alloc(), &[held(10, field, 0, value)])?;
-    print_call(rt, title, m, call, &mut shards)
+    let Shards { hand, rest } = &mut shards;
+    let answer = exchange(alloc, m, call.op, call.args, &names, Some(whole), hand, rest);
+    print_answer(rt, answer)?;
+    print_shards(rt, &shards)
 }
 
 /// A state in which the map has 1 at 1 and at 2, and all else is 0 or empty.
@@ -161,32 +156,15 @@ fn state(alloc: Global) -> Result<State, NoMemory> {
     Ok(State { values })
 }
 
-/// A field without tokens gets a value from the whole state.
-fn print_tally(rt: &HostRuntime, m: &Machine) -> Result<()>
-    requires { HasOwnIds m.now }
-{
-    let whole = state(rt.alloc())?;
-    let call = Call {
-        op: TALLY,
-        args: &[],
-        tokens: &[],
-        given: &[],
-        whole: Some(&whole),
-    };
-    let mut shards = Shards::new(rt.alloc(), &[])?;
-    print_call(rt, "a tally", m, call, &mut shards)
-}
-
 /// Prints what exchanges answer and leave.
-pub(crate) fn print_exchanges(rt: &HostRuntime, m: &Machine) -> Result<()>
+pub(crate) fn print_exchanges(rt: &HostRuntime, m: &Machine) -> io::Result<()>
     requires { HasOwnIds m.now }
 {
-    print_trade(rt, m)?;
-    print_twice(rt, m)?;
-    print_fetch(rt, m)?;
-    print_one(rt, "another amount", m, PAY, COUNT, 5)?;
-    print_one(rt, "a false require", m, ZERO, VARIABLE, 1)?;
-    print_one(rt, "a sum that is too large", m, RAISE, VARIABLE, i128::MAX)?;
-    print_one(rt, "a failure behind a withdrawal", m, LATE, COUNT, 5)?;
-    print_tally(rt, m)
+    let Ok(whole) = state(rt.alloc()) else {
+        return println!(rt; "no memory");
+    };
+    for call in CALLS {
+        print_call(rt, m, &whole, call)?;
+    }
+    Ok(())
 }

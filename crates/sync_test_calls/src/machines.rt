@@ -1,13 +1,11 @@
 //! The machine whose operations are exchanged.
-ghost use Rattle.std.specs.Prelude.{IfOk};
+ghost use Rattle.std.specs.Prelude.{IfSome};
 ghost use Rattle.sync_machine.specs.Views.{HasOwnIds};
 
-use anyhow::{Context, Result, bail};
 use std::alloc::Global;
 use sync_join::PERM;
 use sync_machine::Machine;
-use sync_parse::parse;
-use sync_read::resolve;
+use sync_read::read;
 
 /// A machine with a field of each of six strategies. The require of `zero` stands in line 7.
 const TEXT: &[u8] = b"version 1;
@@ -17,7 +15,7 @@ machine M {
   transition trade(k) { require c <= k; update c = c + k; remove m -= [k => ?v]; add m += [v => c]; add p += [k => v]; }
   transition twice(k) { remove m -= [k => ?v]; have m >= [k => ?w]; }
   transition zero() { require c = 0; }
-  transition fetch() { withdraw st -= [3 => ?v]; }
+  transition fetch(k) { withdraw st -= [k => ?v]; }
   transition pay() { remove t -= (4); }
   transition raise() { update c = c + 1; }
   transition late() { withdraw st -= [3 => ?v]; remove t -= (v); }
@@ -68,12 +66,11 @@ pub(crate) fn field_name(field: u32) -> &'static str {
 }
 
 /// The machine that the text spells.
-pub(crate) fn machine(alloc: Global) -> Result<Machine>
-    ensures { IfOk result HasOwnIds }
+pub(crate) fn machine(alloc: Global) -> Option<Machine>
+    ensures { IfSome result HasOwnIds }
 {
-    let raw = parse(alloc, TEXT).ok().context("no tree")?;
-    match resolve(alloc, raw) {
-        Ok(text) => Ok(text.machine),
-        Err(_) => bail!("no machine"),
+    match read(alloc, TEXT) {
+        Ok(text) => Some(text.machine),
+        Err(_) => None,
     }
 }

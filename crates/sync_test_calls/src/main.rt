@@ -1,24 +1,24 @@
-//! Calls the layers below the checker on small cases, and prints what each call found.
+//! Makes calls that no text makes, and prints what each answers.
 #![tactic(auto)]
 
 mod exchanges;
-mod lines;
 mod machines;
 mod pieces;
-mod sequents;
 mod shards;
 mod slots;
-mod stores;
-mod values;
+mod words;
 
-use anyhow::Result;
+use std::io;
 
-fn main(rt: HostRuntime) -> Result<()> {
-    lines::print_lines(&rt)?;
-    values::print_values(&rt)?;
-    sequents::print_sequents(&rt)?;
-    let m = machines::machine(rt.alloc())?;
+fn main(rt: HostRuntime) -> io::Result<()> {
+    words::print_steps(&rt)?;
+    let sum = words::sum_of_threads(&rt, rt.alloc());
+    println!(rt; "1 added two thousand times by two threads: {sum:?}")?;
+    let Some(m) = machines::machine(rt.alloc()) else {
+        return println!(rt; "no machine");
+    };
     slots::print_slots(&rt, &m)?;
     exchanges::print_exchanges(&rt, &m)?;
-    pieces::print_pieces(&rt, &m)
+    pieces::print_split(&rt, &m)?;
+    pieces::print_copy(&rt, &m)
 }

@@ -1,7 +1,8 @@
-//! What is held and kept in a test, and how it is printed.
+//! What is held and kept in a call, and how it is printed.
 use crate::machines::{STORE, field_name};
 use sqlite_items::Items;
-use std::alloc::{AllocError, Global};
+use std::alloc::Global;
+use std::io;
 use sync_base::NoMemory;
 use sync_exchange::{Hand, Held};
 use sync_join::{Entries, Rest, Token, Value};
@@ -47,64 +48,45 @@ impl Shards {
             rest: Rest { records, stored },
         })
     }
-
-    /// What is held and kept, in words.
-    pub(crate) fn text(&self, alloc: Global) -> Result<String, AllocError> {
-        let hand = hand_text(alloc, self.hand.held.as_slice())?;
-        let records = values_text(alloc, self.rest.records.as_slice())?;
-        let stored = tokens_text(alloc, self.rest.stored.as_slice())?;
-        format!(in alloc; "hand{hand}; records{records}; stored{stored}")
-    }
 }
 
-/// A token as it is printed: its field, key and value.
-fn token_text(alloc: Global, token: Token) -> Result<String, AllocError> {
-    let name = field_name(token.field);
-    format!(in alloc; " ({name}, {}, {})", token.key, token.value)
+/// Prints a token: its field, key and value.
+fn print_token(rt: &HostRuntime, token: Token) -> io::Result<()> {
+    print!(rt; "({}, {}, {})", field_name(token.field), token.key, token.value)
 }
 
-/// Tokens, one after another.
-fn tokens_text(alloc: Global, tokens: &[Token]) -> Result<String, AllocError> {
-    if tokens.is_empty() {
-        return String::from_str(alloc, " none");
-    }
-    let mut text = String::new(alloc);
-    for token in tokens {
-        text.push_str(token_text(alloc, *token)?.as_str())?;
-    }
-    Ok(text)
-}
-
-/// Tokens with their names.
-pub(crate) fn hand_text(alloc: Global, held: &[Held]) -> Result<String, AllocError> {
-    if held.is_empty() {
-        return String::from_str(alloc, " none");
-    }
-    let mut text = String::new(alloc);
+/// Prints tokens with their names.
+pub(crate) fn print_hand(rt: &HostRuntime, held: &[Held]) -> io::Result<()> {
+    print!(rt; " hand")?;
     for h in held {
-        let token = token_text(alloc, h.token)?;
-        text.push_str(format!(in alloc; " {}{token}", h.name)?.as_str())?;
+        print!(rt; " {} ", h.name)?;
+        print_token(rt, h.token)?;
     }
-    Ok(text)
+    Ok(())
 }
 
-/// A value as it is printed: a number, or a map's number of keys and the sum of its values.
-fn value_text(alloc: Global, value: &Value) -> Result<String, AllocError> {
-    match value {
-        Value::Number(n) => format!(in alloc; " {n}"),
-        Value::Map(map) => {
-            let keys = map.len();
-            let sum = map.sum().unwrap_or(0);
-            format!(in alloc; " {{{keys} with sum {sum}}}")
+/// Prints values: a number, or a map's number of keys and the sum of its values.
+pub(crate) fn print_values(rt: &HostRuntime, values: &[Value]) -> io::Result<()> {
+    for value in values {
+        match value {
+            Value::Number(n) => print!(rt; " {n}")?,
+            Value::Map(map) => {
+                print!(rt; " {{{} with sum {}}}", map.len(), map.sum().unwrap_or(0))?
+            }
         }
     }
+    Ok(())
 }
 
-/// Values, one after another.
-pub(crate) fn values_text(alloc: Global, values: &[Value]) -> Result<String, AllocError> {
-    let mut text = String::new(alloc);
-    for value in values {
-        text.push_str(value_text(alloc, value)?.as_str())?;
+/// Prints what is held and kept, and ends the line.
+pub(crate) fn print_shards(rt: &HostRuntime, shards: &Shards) -> io::Result<()> {
+    print_hand(rt, shards.hand.held.as_slice())?;
+    print!(rt; "; records")?;
+    print_values(rt, shards.rest.records.as_slice())?;
+    print!(rt; "; stored")?;
+    for token in shards.rest.stored.as_slice() {
+        print!(rt; " ")?;
+        print_token(rt, *token)?;
     }
-    Ok(text)
+    println!(rt; "")
 }

@@ -2,33 +2,32 @@
 ghost use Rattle.sync_machine.specs.Views.{HasOwnIds};
 
 use crate::machines::{TRADE, field_name};
-use anyhow::{Result, bail};
-use std::alloc::{AllocError, Global};
+use std::io;
 use sync_machine::Machine;
 use sync_rules::{Slot, signature, variable_slots};
 
-/// Slots in words: what happens, the field and the line.
-fn slots_text(alloc: Global, slots: &[Slot]) -> Result<String, AllocError> {
-    let mut text = String::new(alloc);
+/// Prints slots: what happens, the field and the line.
+fn print_list(rt: &HostRuntime, title: &str, slots: &[Slot]) -> io::Result<()> {
+    print!(rt; "{title}:")?;
     for slot in slots {
-        let name = field_name(slot.field);
-        text.push_str(format!(in alloc; " {:?} {name} line {}", slot.role, slot.line)?.as_str())?;
+        print!(rt; " {:?} {} line {}", slot.role, field_name(slot.field), slot.line)?;
     }
-    Ok(text)
+    println!(rt; "")
 }
 
 /// Prints the slots of the trade, and those of its variables alone.
-pub(crate) fn print_slots(rt: &HostRuntime, m: &Machine) -> Result<()>
+pub(crate) fn print_slots(rt: &HostRuntime, m: &Machine) -> io::Result<()>
     requires { HasOwnIds m.now }
 {
     let alloc = rt.alloc();
-    if TRADE as usize >= m.ops.len() {
-        bail!("no operation of this number");
-    }
-    let all = slots_text(alloc, signature(alloc, m, TRADE)?.as_slice())?;
-    println!(rt; "slots of a trade:{all}")?;
-    let steps = m.ops.as_slice()[TRADE as usize].steps.as_slice();
-    let variables = slots_text(alloc, variable_slots(alloc, m, steps)?.as_slice())?;
-    println!(rt; "slots of its variables:{variables}")?;
-    Ok(())
+    let Some(trade) = m.ops.get(TRADE as usize) else {
+        return println!(rt; "no trade");
+    };
+    let (Ok(all), Ok(variables)) =
+        (signature(alloc, m, TRADE), variable_slots(alloc, m, trade.steps.as_slice()))
+    else {
+        return println!(rt; "no memory");
+    };
+    print_list(rt, "slots of a trade", all.as_slice())?;
+    print_list(rt, "slots of its variables", variables.as_slice())
 }

@@ -5,7 +5,7 @@ use sqlite_items::Items;
 use std::alloc::Global;
 use std::{fs, io};
 use sync_base::{Refusal, Stop};
-use sync_check::check;
+use sync_check::{check, list};
 use sync_parse::parse;
 use sync_check_sharding::tokenized_machine;
 use sync_print_spelling::print;
@@ -87,6 +87,14 @@ fn large_branch(alloc: Global, left: &str) -> Result<String, io::Error> {
     let half = large_term(alloc, "x")?;
     Ok(format!(in alloc;
         "version 1; machine M {{ transition t(x) {{ require {half} <= 0; assert 0 <= 1; }} }} proofs {{\nt at 2 by {{\ncut {left} <= 0 as a {{ sum 1 denied; }}\nsum 1 denied; }} }}"
+    )?)
+}
+
+/// A text whose addition in line 4 promises something of a key of 549,249 nodes twice, with this in line 5.
+fn large_promise(alloc: Global, proofs: &str) -> Result<String, io::Error> {
+    let key = large_term(alloc, "1")?;
+    Ok(format!(in alloc;
+        "version 1;\nmachine M {{ field m: persistent_map;\ntransition t() {{ require 1 <= 0;\nadd m += [{key} => 1]; }} }}\n{proofs}"
     )?)
 }
 
@@ -201,6 +209,10 @@ fn print_large(rt: &HostRuntime) -> io::Result<()> {
     let half = large_term(alloc, "x")?;
     let text = large_branch(alloc, half.as_str())?;
     print_verdict(rt, "a large branch", text.as_bytes())?;
+    let text = large_promise(alloc, "proofs { t at 2 by { same; } }")?;
+    print_verdict(rt, "a large promise", text.as_bytes())?;
+    let text = large_promise(alloc, "")?;
+    print_verdict(rt, "a large promise", text.as_bytes())?;
     let text = deep_text(alloc)?;
     print_verdict(rt, "a deep term", text.as_bytes())
 }
@@ -219,6 +231,51 @@ fn print_machine(rt: &HostRuntime, title: &str, text: &[u8]) -> io::Result<()> {
     }
 }
 
+/// Prints what has to be proved of a text's machine, or the rule that the text breaks.
+fn print_obligations(rt: &HostRuntime, text: &[u8]) -> io::Result<()> {
+    match list(rt.alloc(), text) {
+        Ok(lines) => {
+            for line in lines.as_slice() {
+                print!(rt; "{}", str::from_utf8(line.as_slice()).unwrap_or(""))?;
+            }
+            Ok(())
+        }
+        Err(Stop::Refused(Refusal { line, rule })) => {
+            println!(rt; "refused line {line} rule {}", rule.code())
+        }
+        Err(Stop::Memory) => println!(rt; "no memory"),
+    }
+}
+
+/// Lists what has to be proved where proofs are missing, wrong or stray, and where a rule is broken before them.
+fn print_listings(rt: &HostRuntime) -> io::Result<()> {
+    print_obligations(rt, &fs::read(rt, "count_to_two.sync")?)?;
+    print_obligations(
+        rt,
+        b"version 1;
+machine M {
+field c: variable;
+init b() { init c = 0; }
+transition t() { require c <= 1; update c = c + 1; assert c <= 1; }
+property p() { assert c <= 2; }
+invariant i(): c <= 2; }
+proofs {
+t keeps i by { sum 2 denied; }
+b at 1 by { same; }
+p at 7 by { sum 1 missing; } }
+",
+    )?;
+    print_obligations(
+        rt,
+        b"version 1;
+machine M { field c: variable; init b() { init c = 0; }
+transition u() { update c = 1;
+update c = 1; }
+invariant i(): c <= 1; }
+",
+    )
+}
+
 fn main(rt: HostRuntime) -> io::Result<()> {
     for name in TEXTS {
         let text = fs::read(&rt, name)?;
@@ -228,6 +285,7 @@ fn main(rt: HostRuntime) -> io::Result<()> {
     print_canonical(&rt, BRACKETS)?;
     let list = fs::read_to_string(&rt, "verdicts.txt")?;
     print_verdicts(&rt, list.as_str())?;
+    print_listings(&rt)?;
     print_large(&rt)?;
     let text = fs::read(&rt, "spin_lock.sync")?;
     print_machine(&rt, "spin_lock.sync", &text)?;
