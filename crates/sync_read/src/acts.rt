@@ -11,10 +11,10 @@ ghost use Rattle.sync_read.specs.Acts.{strategy_sort, few_before, add_field, fie
 use sqlite_items::Items;
 use std::alloc::Global;
 use sync_base::{Rule, Stop};
-use sync_parse_exprs::{RawExpr, RawName};
 use sync_machine::{Act, Field, Pattern, Place, Step, Strategy};
+use sync_parse::{RawAct, RawField, RawPattern, RawPlace, RawStep};
+use sync_parse_exprs::{RawExpr, RawName};
 use sync_read_names::{Meaning, Scope, Sort, form_of, refused, symbol_of, term_of};
-use sync_parse::{RawStep, RawAct, RawField, RawPattern, RawPlace};
 use sync_terms::{Sym, TermId, Terms};
 
 /// At most so many come before.

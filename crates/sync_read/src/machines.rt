@@ -10,13 +10,13 @@ ghost use Rattle.sync_machine.specs.declared.machine.Invariant.{Invariant};
 ghost use Rattle.sync_read.specs.Resolving.{starts, start_count, starts_once, is_started, begin_operation, operation_in, operations_from, begin_invariant, invariant_in, invariants_from, machine_in};
 ghost use Rattle.sync_read.specs.Owned.{HasOperationIds};
 
-use crate::acts::{fields, params, steps, few_before};
+use crate::acts::{few_before, fields, params, steps};
 use sqlite_items::Items;
 use std::alloc::Global;
 use sync_base::{Rule, Stop};
 use sync_machine::{Field, Invariant, Machine, OpMode, Operation};
+use sync_parse::{RawAct, RawInvariant, RawMachine, RawOperation, RawStep};
 use sync_read_names::{Meaning, Owner, Scope, form_of, refused};
-use sync_parse::{RawStep, RawAct, RawInvariant, RawMachine, RawOperation};
 use sync_terms::Terms;
 
 /// Whether a statement gives the field of this name its first value.

@@ -11,9 +11,11 @@ use crate::acts::few_before;
 use sqlite_items::Items;
 use std::alloc::Global;
 use sync_base::{Rule, Stop};
+use sync_parse::{
+    RawBlock, RawClaim, RawHypName, RawPart, RawProof, RawScriptStep, RawStepKind, RawSubject,
+};
 use sync_parse_exprs::{RawExpr, RawName};
 use sync_read_names::{Meaning, Owner, Scope, Sort, form_of, refused, term_of};
-use sync_parse::{RawBlock, RawClaim, RawHypName, RawPart, RawProof, RawScriptStep, RawStepKind, RawSubject};
 use sync_terms::{Block, Claim, HypName, Part, Proof, Script, ScriptStep, StepKind, TermId, Terms};
 
 /// A hypothesis of a machine's script.

@@ -13,8 +13,8 @@ use sqlite_items::Items;
 use std::alloc::Global;
 use sync_base::{LONGEST_TEXT, NameList, NoMemory, Stop};
 use sync_machine::Machine;
-use sync_read_names::{Meaning, Owner, Owners, Scope};
 use sync_parse::{RawText, parse};
+use sync_read_names::{Meaning, Owner, Owners, Scope};
 use sync_terms::Proofs;
 
 /// A text: its machine, with the store of all its terms, its proofs and its names.

@@ -7,7 +7,7 @@ ghost use Rattle.sync_read_names.specs.Exprs.{Reading, reading, clashes, misfit,
 
 use crate::scopes::{Scope, Sort, broken, refused};
 use sync_base::{Refusal, Rule, Stop};
-use sync_parse_exprs::{RawExpr, RawExprKind, Function, Operator};
+use sync_parse_exprs::{Function, Operator, RawExpr, RawExprKind};
 use sync_terms::{FormId, FormNode, MOST_NODES, Node, TermId, TermStop, Terms};
 
 /// Adds a term, which is small enough.
@@ -88,7 +88,9 @@ fn sort_of(scope: &Scope, e: &RawExpr) -> Option<Sort>
     ensures { result ≡ (reading e.now).sort scope.now }
 {
     match &e.what {
-        RawExprKind::Number(_) | RawExprKind::Minus(_) | RawExprKind::Times(_, _) => Some(Sort::Number),
+        RawExprKind::Number(_) | RawExprKind::Minus(_) | RawExprKind::Times(_, _) => Some(
+            Sort::Number,
+        ),
         RawExprKind::Name(named) => scope.name_sort(named.name),
         RawExprKind::Param(_, _) if scope.knows_params() => Some(Sort::Number),
         RawExprKind::Param(_, _) | RawExprKind::Special(_, _) => None,
@@ -541,12 +543,13 @@ fn form(terms: &mut Terms, scope: &Scope, e: &RawExpr) -> Result<FormId, Stop>
             }
         }
         RawExprKind::Name(named) => Err(refused(Rule::N1, named.line)),
-        RawExprKind::Param(line, _) | RawExprKind::Special(_, line) | RawExprKind::Call(_, line, _) => {
-            Err(refused(Rule::N1, *line))
-        }
-        RawExprKind::Number(_) | RawExprKind::Nil | RawExprKind::Minus(_) | RawExprKind::Times(_, _) => {
-            Err(refused(Rule::N6, e.line))
-        }
+        RawExprKind::Param(line, _)
+        | RawExprKind::Special(_, line)
+        | RawExprKind::Call(_, line, _) => { Err(refused(Rule::N1, *line)) }
+        RawExprKind::Number(_)
+        | RawExprKind::Nil
+        | RawExprKind::Minus(_)
+        | RawExprKind::Times(_, _) => { Err(refused(Rule::N6, e.line)) }
     }
 }
 

@@ -29,7 +29,24 @@ const CALLS: [Call; 10] = [
         title: "a trade",
         op: TRADE,
         args: &[7],
-        held: &[Held { name: 10, token: Token { field: VARIABLE, key: 0, value: 4 } }, Held { name: 11, token: Token { field: ENTRIES, key: 7, value: 9 } }],
+        held: &[
+            Held {
+                name: 10,
+                token: Token {
+                    field: VARIABLE,
+                    key: 0,
+                    value: 4,
+                },
+            },
+            Held {
+                name: 11,
+                token: Token {
+                    field: ENTRIES,
+                    key: 7,
+                    value: 9,
+                },
+            },
+        ],
         tokens: &[10, 11],
         given: &[12, 13],
     },
@@ -37,7 +54,14 @@ const CALLS: [Call; 10] = [
         title: "one token twice",
         op: TWICE,
         args: &[7],
-        held: &[Held { name: 10, token: Token { field: ENTRIES, key: 7, value: 1 } }],
+        held: &[Held {
+            name: 10,
+            token: Token {
+                field: ENTRIES,
+                key: 7,
+                value: 1,
+            },
+        }],
         tokens: &[10, 10],
         given: &[],
     },
@@ -45,7 +69,24 @@ const CALLS: [Call; 10] = [
         title: "another key",
         op: TWICE,
         args: &[7],
-        held: &[Held { name: 10, token: Token { field: ENTRIES, key: 7, value: 1 } }, Held { name: 11, token: Token { field: ENTRIES, key: 8, value: 1 } }],
+        held: &[
+            Held {
+                name: 10,
+                token: Token {
+                    field: ENTRIES,
+                    key: 7,
+                    value: 1,
+                },
+            },
+            Held {
+                name: 11,
+                token: Token {
+                    field: ENTRIES,
+                    key: 8,
+                    value: 1,
+                },
+            },
+        ],
         tokens: &[10, 11],
         given: &[],
     },
@@ -69,7 +110,14 @@ const CALLS: [Call; 10] = [
         title: "another amount",
         op: PAY,
         args: &[],
-        held: &[Held { name: 10, token: Token { field: COUNT, key: 0, value: 5 } }],
+        held: &[Held {
+            name: 10,
+            token: Token {
+                field: COUNT,
+                key: 0,
+                value: 5,
+            },
+        }],
         tokens: &[10],
         given: &[],
     },
@@ -77,7 +125,14 @@ const CALLS: [Call; 10] = [
         title: "a false require",
         op: ZERO,
         args: &[],
-        held: &[Held { name: 10, token: Token { field: VARIABLE, key: 0, value: 1 } }],
+        held: &[Held {
+            name: 10,
+            token: Token {
+                field: VARIABLE,
+                key: 0,
+                value: 1,
+            },
+        }],
         tokens: &[10],
         given: &[],
     },
@@ -85,7 +140,14 @@ const CALLS: [Call; 10] = [
         title: "a sum that is too large",
         op: RAISE,
         args: &[],
-        held: &[Held { name: 10, token: Token { field: VARIABLE, key: 0, value: i128::MAX } }],
+        held: &[Held {
+            name: 10,
+            token: Token {
+                field: VARIABLE,
+                key: 0,
+                value: i128::MAX,
+            },
+        }],
         tokens: &[10],
         given: &[],
     },
@@ -93,7 +155,14 @@ const CALLS: [Call; 10] = [
         title: "a failure behind a withdrawal",
         op: LATE,
         args: &[],
-        held: &[Held { name: 10, token: Token { field: COUNT, key: 0, value: 5 } }],
+        held: &[Held {
+            name: 10,
+            token: Token {
+                field: COUNT,
+                key: 0,
+                value: 5,
+            },
+        }],
         tokens: &[10],
         given: &[],
     },
@@ -136,7 +205,16 @@ fn print_call(rt: &HostRuntime, m: &Machine, whole: &State, call: Call) -> io::R
         return println!(rt; "no operation");
     }
     let Shards { hand, rest } = &mut shards;
-    let answer = exchange(alloc, m, call.op, call.args, &names, Some(whole), hand, rest);
+    let answer = exchange(
+        alloc,
+        m,
+        call.op,
+        call.args,
+        &names,
+        Some(whole),
+        hand,
+        rest,
+    );
     print_answer(rt, answer)?;
     print_shards(rt, &shards)
 }

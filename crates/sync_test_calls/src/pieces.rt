@@ -35,9 +35,10 @@ fn split(alloc: Global, m: &Machine, hand: &mut Hand, amount: i128) -> bool {
 
 /// Merges the tokens 11 and 12 into token 13.
 fn merge(m: &Machine, hand: &mut Hand) -> bool {
-    let (Some(first), Some(second)) =
-        (token_of(hand.held.as_slice(), 11), token_of(hand.held.as_slice(), 12))
-    else {
+    let (Some(first), Some(second)) = (
+        token_of(hand.held.as_slice(), 11),
+        token_of(hand.held.as_slice(), 12),
+    ) else {
         return false;
     };
     if first.value.checked_add(second.value).is_none() {
@@ -98,7 +99,10 @@ pub(crate) fn print_copy(rt: &HostRuntime, m: &Machine) -> io::Result<()> {
         return println!(rt; "no memory");
     };
     print_joined(rt, m, &shards)?;
-    print!(rt; "a copy of a persistent token: {}", copy(alloc, m, &mut shards.hand))?;
+    print!(rt;
+        "a copy of a persistent token: {}",
+        copy(alloc, m, &mut shards.hand)
+    )?;
     print_hand(rt, shards.hand.held.as_slice())?;
     print!(rt; "; ")?;
     print_joined(rt, m, &shards)

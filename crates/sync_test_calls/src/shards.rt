@@ -52,7 +52,12 @@ impl Shards {
 
 /// Prints a token: its field, key and value.
 fn print_token(rt: &HostRuntime, token: Token) -> io::Result<()> {
-    print!(rt; "({}, {}, {})", field_name(token.field), token.key, token.value)
+    print!(rt;
+        "({}, {}, {})",
+        field_name(token.field),
+        token.key,
+        token.value
+    )
 }
 
 /// Prints tokens with their names.

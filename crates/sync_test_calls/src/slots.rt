@@ -10,7 +10,12 @@ use sync_rules::{Slot, signature, variable_slots};
 fn print_list(rt: &HostRuntime, title: &str, slots: &[Slot]) -> io::Result<()> {
     print!(rt; "{title}:")?;
     for slot in slots {
-        print!(rt; " {:?} {} line {}", slot.role, field_name(slot.field), slot.line)?;
+        print!(rt;
+            " {:?} {} line {}",
+            slot.role,
+            field_name(slot.field),
+            slot.line
+        )?;
     }
     println!(rt; "")
 }
@@ -23,9 +28,10 @@ pub(crate) fn print_slots(rt: &HostRuntime, m: &Machine) -> io::Result<()>
     let Some(trade) = m.ops.get(TRADE as usize) else {
         return println!(rt; "no trade");
     };
-    let (Ok(all), Ok(variables)) =
-        (signature(alloc, m, TRADE), variable_slots(alloc, m, trade.steps.as_slice()))
-    else {
+    let (Ok(all), Ok(variables)) = (
+        signature(alloc, m, TRADE),
+        variable_slots(alloc, m, trade.steps.as_slice()),
+    ) else {
         return println!(rt; "no memory");
     };
     print_list(rt, "slots of a trade", all.as_slice())?;

@@ -21,7 +21,9 @@ pub(crate) fn print_steps(rt: &HostRuntime) -> io::Result<()> {
     let kept = words.cas(&mut first, 0, 0, 8, 2);
     words.merge(&mut first, second);
     let last = words.finish(first).word(0);
-    println!(rt; "5 with 3 added: {added}, 8 to 1: {changed}, now {loaded}, 8 to 2: {kept}, last {last}")
+    println!(rt;
+        "5 with 3 added: {added}, 8 to 1: {changed}, now {loaded}, 8 to 2: {kept}, last {last}"
+    )
 }
 
 /// Adds 1 to the first word a thousand times.

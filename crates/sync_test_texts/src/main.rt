@@ -6,8 +6,8 @@ use std::alloc::Global;
 use std::{fs, io};
 use sync_base::{Refusal, Stop};
 use sync_check::{check, list};
-use sync_parse::parse;
 use sync_check_sharding::tokenized_machine;
+use sync_parse::parse;
 use sync_print_spelling::print;
 
 /// The examples, in the order in which they are checked.
