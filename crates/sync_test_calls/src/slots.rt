@@ -4,12 +4,20 @@ ghost use Rattle.sync_machine.specs.Views.{HasOwnIds};
 use crate::machines::{TRADE, field_name};
 use std::io;
 use sync_machine::Machine;
-use sync_rules::{Slot, signature, variable_slots};
+use sync_rules::signature;
 
-/// Prints slots: what happens, the field and the line.
-fn print_list(rt: &HostRuntime, title: &str, slots: &[Slot]) -> io::Result<()> {
-    print!(rt; "{title}:")?;
-    for slot in slots {
+/// Prints the slots of the trade: what happens, the field and the line.
+pub(crate) fn print_slots(rt: &HostRuntime, m: &Machine) -> io::Result<()>
+    requires { HasOwnIds m.now }
+{
+    if TRADE as usize >= m.ops.len() {
+        return println!(rt; "no trade");
+    }
+    let Ok(slots) = signature(rt.alloc(), m, TRADE) else {
+        return println!(rt; "no memory");
+    };
+    print!(rt; "slots of a trade:")?;
+    for slot in slots.as_slice() {
         print!(rt;
             " {:?} {} line {}",
             slot.role,
@@ -18,22 +26,4 @@ fn print_list(rt: &HostRuntime, title: &str, slots: &[Slot]) -> io::Result<()> {
         )?;
     }
     println!(rt; "")
-}
-
-/// Prints the slots of the trade, and those of its variables alone.
-pub(crate) fn print_slots(rt: &HostRuntime, m: &Machine) -> io::Result<()>
-    requires { HasOwnIds m.now }
-{
-    let alloc = rt.alloc();
-    let Some(trade) = m.ops.get(TRADE as usize) else {
-        return println!(rt; "no trade");
-    };
-    let (Ok(all), Ok(variables)) = (
-        signature(alloc, m, TRADE),
-        variable_slots(alloc, m, trade.steps.as_slice()),
-    ) else {
-        return println!(rt; "no memory");
-    };
-    print_list(rt, "slots of a trade", all.as_slice())?;
-    print_list(rt, "slots of its variables", variables.as_slice())
 }
