@@ -1,6 +1,5 @@
 -- What reads, writes and their counts of faults do.
-use Rattle.std.specs.Prelude.{◌≡◌, ◌≢◌, ℕ, ◌+◌, ◌-◌, ◌^◌, ◌<◌, ◌≤◌, ◌↔◌, List, [], ◌∷◌, ◌++◌, length, take, Option, Some, None, Result, Ok, Err}
-use Rattle.sync_base.specs.declared.stops.Failed.{Failed}
+use Rattle.std.specs.Prelude.{◌≡◌, ℕ, ◌-◌, ◌^◌, ◌≤◌, ◌↔◌, List, [], ◌++◌, Option, Some, None}
 
 -- a count of faults rose, or it stands at the last value of its type
 abbrev pub Rose : ℕ → ℕ → Type 0

@@ -1,5 +1,5 @@
 -- What is no lexeme is a blank or a comment.
-use Rattle.std.proofs.Common.{◌≡◌, ℕ, zero, suc, Bool, List, [], ◌∷◌, length, drop}
+use Rattle.std.proofs.Common.{ℕ, zero, suc, List, [], ◌∷◌, length, drop}
 use Rattle.std.specs.Prelude.{codes, nat_eq, nat_lt}
 use Rattle.std.specs.Char.{is_ascii_digit}
 use Rattle.std.specs.List.{starts_with, prefix_len, take_while}
@@ -11,7 +11,7 @@ use Rattle.sync_lex.specs.declared.pieces.Piece.{Piece}
 use Rattle.sync_lex.specs.declared.pieces.Piece.TheVariants.{Gap, Match, Broken}
 use Rattle.sync_lex.specs.Bytes.{is_blank, begins_name, continues_name, number_value}
 use Rattle.sync_lex.specs.Punctuation.{sign_len}
-use Rattle.sync_lex.specs.Pieces.{name_piece, number_piece, sign_piece, piece}
+use Rattle.sync_lex.specs.Pieces.{sign_piece, piece}
 use Rattle.sync_lex.specs.Spelling.{Gaps, nothing, blank, comment, AreParted}
 use Rattle.sync_lex.proofs.Within.{by_test}
 

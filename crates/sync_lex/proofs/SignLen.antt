@@ -1,6 +1,6 @@
 -- The longest sign is of three bytes, of two, of one, or there is none.
 use Rattle.std.proofs.Common.{◌≡◌, ℕ, Bool, true, false, cond, max, eqb, List, [], ◌∷◌, ◌++◌, length, map, refl, arith}
-use Rattle.std.specs.Prelude.{codes, nat_eq, ◌&&◌, ◌||◌}
+use Rattle.std.specs.Prelude.{codes, nat_eq, ◌||◌}
 use Rattle.std.specs.List.{starts_with, list_all}
 use Rattle.std.proofs.lemmas.Bool.{eqb-true}
 use Rattle.sync_base.proofs.Basics.{both}

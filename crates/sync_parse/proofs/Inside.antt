@@ -1,5 +1,5 @@
 -- A block inside of a block is one at the level below.
-use Rattle.std.proofs.Common.{◌≡◌, ℕ, zero, suc, ◌-◌, ◌<◌, refl, ap, sub-one, arith}
+use Rattle.std.proofs.Common.{◌≡◌, ℕ, zero, suc, ◌-◌, ◌<◌, refl, arith}
 use Rattle.sync_parse.specs.Scripts.{nested, block_at}
 
 pub nested_is : (left : ℕ) → 0 < left → nested left ≡ block_at (left - 1)

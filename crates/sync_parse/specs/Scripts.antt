@@ -1,5 +1,5 @@
 -- Reading proof scripts.
-use Rattle.std.specs.Prelude.{ℕ, zero, suc, ◌-◌, Bool, true, false, ℤ, neg_ℤ, List, [], ◌∷◌, length, min, Result, Ok, Err, Option, Some, None, if◌then◌else◌}
+use Rattle.std.specs.Prelude.{ℕ, zero, suc, ◌-◌, Bool, true, false, ℤ, neg_ℤ, List, [], ◌∷◌, length, min, Ok, Err, Option, Some, None, if◌then◌else◌}
 use Rattle.sync_base.specs.Outcome.{◌>>=◌}
 use Rattle.sync_lex.specs.declared.signs.Sign.{Sign}
 use Rattle.sync_lex.specs.declared.signs.Sign.TheVariants as sign
@@ -7,7 +7,6 @@ use Rattle.sync_lex.specs.declared.terminals.TerminalKind.{TerminalKind}
 use Rattle.sync_lex.specs.declared.terminals.TerminalKind.TheVariants as what
 use Rattle.sync_lex.specs.declared.terminals.Terminal.{Terminal}
 use Rattle.sync_lex.specs.Signs.{is_same}
-use Rattle.sync_lex.specs.Terminals.{is_sign}
 use Rattle.sync_parse_exprs.specs.declared.faults.Fault.TheVariants.{Ended, Wanted}
 use Rattle.sync_parse_exprs.specs.declared.raw_names.RawName.{RawName}
 use Rattle.sync_parse_exprs.specs.declared.expressions.RawExpr.{RawExpr}

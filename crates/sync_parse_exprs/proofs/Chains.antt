@@ -1,6 +1,5 @@
 -- The chain of a level, as its loop begins and where its first item stops.
-use Rattle.std.proofs.Common.{◌≡◌, ℕ, List, Option, Ok, Err, refl, sym, ap, ◌∙◌}
-use Rattle.sync_base.specs.Outcome.{◌>>=◌}
+use Rattle.std.proofs.Common.{◌≡◌, ℕ, List, Option, Ok, refl, sym, ◌∙◌}
 use Rattle.sync_lex.specs.declared.terminals.Terminal.{Terminal}
 use Rattle.sync_parse_exprs.specs.declared.expressions.RawExprKind.{RawExprKind}
 use Rattle.sync_parse_exprs.specs.declared.expressions.Operator.{Operator}

@@ -1,5 +1,5 @@
 -- What stands in brackets is an expression at the level below.
-use Rattle.std.proofs.Common.{◌≡◌, ℕ, zero, suc, ◌-◌, ◌<◌, refl, ap, sub-one, arith}
+use Rattle.std.proofs.Common.{◌≡◌, ℕ, zero, suc, ◌-◌, ◌<◌, refl, arith}
 use Rattle.sync_parse_exprs.specs.Expressions.{implies, inside}
 
 pub inside_is : (left : ℕ) → 0 < left → inside left ≡ implies (inside (left - 1)) (left - 1) 64

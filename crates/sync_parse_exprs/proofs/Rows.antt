@@ -1,6 +1,5 @@
 -- One more item of a row, as a loop reads it.
-use Rattle.std.proofs.Common.{◌≡◌, ℕ, zero, suc, ◌+◌, ◌-◌, ◌<◌, Bool, true, false, List, [], ◌∷◌, ◌++◌, Result, Ok, Err, refl, sym, ap, ◌∙◌, arith}
-use Rattle.sync_base.specs.Outcome.{◌>>=◌}
+use Rattle.std.proofs.Common.{◌≡◌, ℕ, zero, suc, ◌+◌, ◌-◌, ◌<◌, Bool, true, false, List, [], ◌∷◌, ◌++◌, Ok, Err, refl, sym, ◌∙◌, arith}
 use Rattle.sync_lex.specs.declared.signs.Sign.TheVariants as sign
 use Rattle.sync_lex.specs.declared.terminals.Terminal.{Terminal}
 use Rattle.sync_lex.specs.Terminals.{is_sign}

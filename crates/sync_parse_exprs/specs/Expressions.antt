@@ -1,5 +1,5 @@
 -- Reading expressions. `inner` reads what stands in brackets; `left` is the level outside of them.
-use Rattle.std.specs.Prelude.{ℕ, zero, suc, ◌+◌, ◌-◌, ◌==◌, ◌||◌, Bool, true, false, ℤ, pos, List, [], ◌∷◌, ◌++◌, min, Result, Ok, Err, Option, Some, None, is_some, if◌then◌else◌}
+use Rattle.std.specs.Prelude.{ℕ, zero, suc, ◌-◌, ◌==◌, ◌||◌, Bool, true, false, ℤ, pos, List, [], ◌∷◌, min, Ok, Err, Option, Some, None, is_some, if◌then◌else◌}
 use Rattle.sync_base.specs.Outcome.{◌>>=◌}
 use Rattle.sync_lex.specs.declared.signs.Sign.{Sign}
 use Rattle.sync_lex.specs.declared.signs.Sign.TheVariants as sign
@@ -10,7 +10,6 @@ use Rattle.sync_lex.specs.Signs.{is_same}
 use Rattle.sync_lex.specs.Terminals.{is_sign}
 use Rattle.sync_base.specs.Limits.{largest}
 use Rattle.sync_parse_exprs.specs.declared.faults.Fault.TheVariants.{Ended, Wanted, Deep}
-use Rattle.sync_parse_exprs.specs.declared.raw_names.RawName.{RawName}
 use Rattle.sync_parse_exprs.specs.declared.expressions.RawExpr.{RawExpr, roll-RawExpr}
 use Rattle.sync_parse_exprs.specs.declared.expressions.RawExprKind.{RawExprKind}
 use Rattle.sync_parse_exprs.specs.declared.expressions.RawExprKind.TheVariants as kind

@@ -1,6 +1,6 @@
 -- Reading one lexeme. A place has a level: 65 less the number of brackets that are open before it. At level 0 each
 -- lexeme is too deep, but it is so only where it is the lexeme that is wanted.
-use Rattle.std.specs.Prelude.{ℕ, zero, suc, ◌+◌, ◌-◌, ◌==◌, Bool, true, false, not, List, [], ◌∷◌, ◌++◌, length, Result, Ok, Err, Option, Some, None, if◌then◌else◌}
+use Rattle.std.specs.Prelude.{ℕ, zero, suc, ◌-◌, ◌==◌, Bool, false, not, List, [], ◌∷◌, ◌++◌, length, Result, Ok, Err, Some, None, if◌then◌else◌}
 use Rattle.sync_base.specs.Outcome.{◌>>=◌}
 use Rattle.sync_base.specs.declared.strategies.Strategy.{Strategy}
 use Rattle.sync_lex.specs.declared.signs.Sign.{Sign}

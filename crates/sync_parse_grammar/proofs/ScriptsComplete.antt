@@ -1,5 +1,5 @@
 -- What is spelled as a script is read, where it is not too deep.
-use Rattle.std.proofs.Common.{◌≡◌, ℕ, zero, suc, ◌-◌, ◌<◌, Bool, true, false, ◌&&◌, List, [], ◌∷◌, refl, sym, ap, ◌∙◌, subst, arith}
+use Rattle.std.proofs.Common.{◌≡◌, ℕ, zero, suc, ◌-◌, ◌<◌, Bool, true, false, List, [], ◌∷◌, refl, sym, ap, ◌∙◌, subst, arith}
 use Rattle.sync_base.proofs.Basics.{and_left, and_right}
 use Rattle.sync_base.specs.Outcome as outcome
 use Rattle.sync_lex.specs.declared.signs.Sign.{Sign}

@@ -1,5 +1,5 @@
 -- The steps of a block, one after the other, and what a block and a `split` are shown as.
-use Rattle.std.proofs.Common.{◌≡◌, ◌≤◌, ◌<◌, ◌+◌, ℕ, List, [], ◌∷◌, ◌++◌, length, drop, map, get_or, refl, sym, ap, ◌∙◌}
+use Rattle.std.proofs.Common.{◌≡◌, ◌≤◌, ◌<◌, ◌+◌, ℕ, List, [], ◌∷◌, ◌++◌, length, drop, map, get_or, sym, ap, ◌∙◌}
 use Rattle.std.proofs.Math.ListN.{drop_of_length-le}
 use Rattle.sync_base.specs.declared.names.NameList.{NameList}
 use Rattle.sync_parse_exprs.specs.declared.raw_names.RawName.{RawName}

@@ -1,8 +1,8 @@
 -- Some expressions and their canonical lexemes, computed.
-use Rattle.std.proofs.Common.{◌≡◌, List, [], ◌∷◌, refl, pos, negsuc}
+use Rattle.std.proofs.Common.{◌≡◌, [], ◌∷◌, refl, pos, negsuc}
 use Rattle.sync_lex.specs.declared.signs.Sign.TheVariants as sign
-use Rattle.sync_print.specs.Exprs.{Plain, number, name, negation, times, two, implies, both, equal, plus, minus}
-use Rattle.sync_print.specs.Lexemes.{Lexeme, a_sign, a_number, a_name, one, one_name, one_number}
+use Rattle.sync_print.specs.Exprs.{number, name, negation, times, two, implies, equal, plus, minus}
+use Rattle.sync_print.specs.Lexemes.{a_sign, a_number, a_name, one, one_name, one_number}
 use Rattle.sync_print.specs.ShowExprs.{show_expr}
 use Rattle.sync_print.specs.ShowScripts.{show_times}
 

@@ -1,6 +1,6 @@
 -- What an expression of a kind says, and how it is shown.
 use Rattle.std.proofs.Common.{◌≡◌, ℕ, ℤ, unsigned_abs, List, [], ◌∷◌, ◌++◌, map, refl, sym, ap, ◌∙◌}
-use Rattle.sync_parse_exprs.specs.declared.expressions.RawExpr.{RawExpr, fold_out-RawExpr, roll-RawExpr}
+use Rattle.sync_parse_exprs.specs.declared.expressions.RawExpr.{RawExpr, fold_out-RawExpr}
 use Rattle.sync_parse_exprs.specs.declared.expressions.RawExprKind.{RawExprKind, fold-RawExprKind, fold-roll-RawExprKind, roll-RawExprKind}
 use Rattle.sync_parse_exprs.specs.declared.expressions.RawExprKind.TheViews.{out-RawExpr}
 use Rattle.sync_parse_exprs.specs.declared.expressions.RawExprKind.TheOpen.{RawExprKind-F}
@@ -14,7 +14,7 @@ use Rattle.sync_parse_exprs.specs.declared.raw_names.RawName.{RawName}
 use Rattle.sync_lex.specs.declared.signs.Sign.{Sign}
 use Rattle.sync_lex.specs.declared.signs.Sign.TheVariants as sign
 use Rattle.sync_print.specs.Exprs.{Plain, number, name, param, nil, special, negation, times, two, minus, call, joined, plain, plain_kind, plain_at, plains_of}
-use Rattle.sync_print.specs.Lexemes.{Lexeme, one, one_name, one_number, listed}
+use Rattle.sync_print.specs.Lexemes.{one, one_name, one_number, listed}
 use Rattle.sync_print.specs.ShowExprs.{shown, all_shown, show_expr, function_sign, before, behind}
 
 -- what an expression of a kind says

@@ -1,14 +1,11 @@
 -- Plain scripts: what a proof script says, without lines.
 use Rattle.std.specs.Prelude.{ℕ, ℤ, List, [], ◌∷◌, map}
-use Rattle.sync_parse_exprs.specs.declared.raw_names.RawName.{RawName}
-use Rattle.sync_parse_exprs.specs.declared.expressions.RawExpr.{RawExpr}
 use Rattle.sync_parse_exprs.specs.declared.expressions.Special.{Special}
 use Rattle.sync_parse.specs.declared.scripts.RawSubject.{RawSubject}
 use Rattle.sync_parse.specs.declared.scripts.RawSubject.TheVariants as raw_subject
 use Rattle.sync_parse.specs.declared.scripts.RawHypName.{RawHypName}
 use Rattle.sync_parse.specs.declared.scripts.RawHypName.TheVariants as raw
 use Rattle.sync_parse.specs.declared.scripts.RawPart.{RawPart}
-use Rattle.sync_parse.specs.declared.scripts.RawScript.{RawScript}
 use Rattle.sync_parse.specs.declared.scripts.RawBlock.{RawBlock, fold-RawBlock}
 use Rattle.sync_parse.specs.declared.scripts.RawScriptStep.{RawScriptStep, fold-RawScriptStep}
 use Rattle.sync_parse.specs.declared.scripts.RawStepKind.TheOpen.{RawStepKind-F, RawBlock-F, RawScriptStep-F}

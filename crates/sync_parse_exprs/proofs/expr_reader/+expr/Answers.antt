@@ -1,4 +1,4 @@
-use Rattle.std.proofs.Common.{◌≡◌, ℕ, sym, ◌∙◌, arith}
+use Rattle.std.proofs.Common.{sym, ◌∙◌, arith}
 use Rattle.sync_parse_exprs.specs.Expressions.{whole, inside}
 use Rattle.sync_parse_exprs.proofs.Rows.{commas_go}
 use Rattle.sync_parse_exprs.proofs.Chains.{level_begins}

@@ -1,8 +1,8 @@
-use Rattle.std.proofs.Common.{rules, ◌≡◌, ◌++◌, map, ◌∙◌}
+use Rattle.std.proofs.Common.{rules}
 use Rattle.sync_print.specs.Exprs.{plain}
 use Rattle.sync_print.specs.ShowExprs.{show_expr}
 use Rattle.sync_print.proofs.Steps.{more, shows, commas_end, commas_more}
-use Rattle.sync_print.proofs.Saying.{said_of, shown-Call, shown-Param, shown-Minus, shown-Times, shown-Two, negated-Equal, negated-Two}
+use Rattle.sync_print.proofs.Saying.{shown-Call, shown-Param, shown-Minus, shown-Times, shown-Two, negated-Equal}
 use Rattle.sync_print.proofs.exprs.+exprs.Goals as goal
 
 pub expr-returns-in_ok-name-in-Param : goal.expr-returns-in_ok-name-in-Param

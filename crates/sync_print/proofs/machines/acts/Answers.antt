@@ -1,4 +1,3 @@
-use Rattle.std.proofs.Common.{◌≡◌}
 use Rattle.sync_print.specs.Texts.{plain_act}
 use Rattle.sync_print.specs.ShowTexts.{show_act}
 use Rattle.sync_print.proofs.Steps.{row_end, row_more}

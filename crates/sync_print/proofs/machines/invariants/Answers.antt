@@ -1,4 +1,3 @@
-use Rattle.std.proofs.Common.{◌≡◌}
 use Rattle.sync_print.specs.Texts.{plain_invariant}
 use Rattle.sync_print.specs.ShowTexts.{show_invariant}
 use Rattle.sync_print.proofs.Steps.{row_end, row_more}

@@ -1,4 +1,3 @@
-use Rattle.std.proofs.Common.{◌≡◌}
 use Rattle.sync_print.specs.Texts.{name_number}
 use Rattle.sync_print.specs.Lexemes.{one_name}
 use Rattle.sync_print.proofs.Steps.{commas_end, commas_more_at}

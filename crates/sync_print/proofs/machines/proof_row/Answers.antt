@@ -1,4 +1,3 @@
-use Rattle.std.proofs.Common.{◌≡◌}
 use Rattle.sync_print.specs.Texts.{plain_proof}
 use Rattle.sync_print.specs.ShowTexts.{show_proof}
 use Rattle.sync_print.proofs.Steps.{row_end, row_more}

@@ -1,4 +1,4 @@
-use Rattle.std.proofs.Common.{◌≡◌, sym, ◌∙◌}
+use Rattle.std.proofs.Common.{sym, ◌∙◌}
 use Rattle.sync_print.proofs.Steps.{more, shows}
 use Rattle.sync_print.proofs.Endings.{no_proofs, some_proofs}
 use Rattle.sync_print.proofs.machines.proofs.Goals as goal

@@ -1,4 +1,3 @@
-use Rattle.std.proofs.Common.{◌≡◌}
 use Rattle.sync_print.proofs.Steps.{more, shows}
 use Rattle.sync_print.proofs.Blocks.{steps_end, steps_more, shown-Block, shown-Split}
 use Rattle.sync_print.proofs.scripts.+blocks.Goals as goal

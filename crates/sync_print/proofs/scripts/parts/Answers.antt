@@ -1,4 +1,3 @@
-use Rattle.std.proofs.Common.{◌≡◌}
 use Rattle.sync_print.specs.Scripts.{plain_part}
 use Rattle.sync_print.specs.ShowScripts.{show_part}
 use Rattle.sync_print.proofs.Steps.{commas_end, commas_more_at}
