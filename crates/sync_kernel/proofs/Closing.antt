@@ -8,6 +8,7 @@ use Rattle.std.specs.List.{list_all}
 use Rattle.std.proofs.lemmas.Int.{ints}
 use Rattle.std.proofs.lemmas.Bool.{cond-true, false_from_ne_true}
 use Rattle.std.proofs.lemmas.Bool.Decides.{Decides-int_eq}
+use Rattle.sync_base.proofs.Basics.{or_false}
 use Rattle.sync_terms.specs.declared.nodes.TermId.{TermId}
 use Rattle.sync_terms.specs.Trees.{Tree}
 use Rattle.sync_terms.specs.Stored.{Stored, tree, IsTerm}
@@ -45,10 +46,6 @@ differ h = cc
 
 pub above : (c : ℤ) → int_lt (pos 0) c ≡ true → pos 0 <ℤ c
 above c h = grind (arith, ints)
-
-or_false : (b : Bool) → (b || false) ≡ b
-or_false true = refl
-or_false false = refl
 
 pub shown : (c : ℤ) → pos 0 <ℤ c → (int_lt (pos 0) c ≡ true) × (int_eq c (pos 0) ≡ false)
 shown c h = (grind (arith, ints), false_from_ne_true (int_eq c (pos 0)) (λ e. let z : c ≡ pos 0 = (Decides-int_eq c (pos 0)).0 e in absurd (omega (arith, ints))))

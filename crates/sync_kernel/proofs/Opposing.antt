@@ -3,6 +3,7 @@ use Rattle.std.proofs.Common.{◌≡◌, ◌⊎◌, inl, inr, ℕ, Bool, true, f
 use Rattle.std.specs.Prelude.{nat_eq}
 use Rattle.std.specs.List.{list_any}
 use Rattle.std.proofs.lemmas.Bool.{and_parts, and_from, or_cases, or_left, or_right, eqb-true, eq-eqb}
+use Rattle.sync_base.proofs.Basics.{or_assoc, or_false}
 use Rattle.sync_base.specs.declared.stops.Rule.TheVariants.{K4}
 use Rattle.sync_terms.specs.declared.nodes.FormId.{FormId}
 use Rattle.sync_terms.specs.Trees.{Tree, Formula, Le, Lt, Eq, Not, And, Or, Imp, neg}
@@ -159,14 +160,6 @@ ids_tell s f g shared p q = same_bool (nat_eq f.0 g.0) (formula_eq (formula s f)
     (λ e. (let same : f ≡ g = ap (λ (n : ℕ). record { 0 = n }) (eqb-true f.0 g.0 e) in subst (λ (x : FormId). formula_eq (formula s f) (formula s x) ≡ true) same (formula_is (formula s f))))
     (λ e. eq-eqb f.0 g.0 (ap (λ (x : FormId). x.0) (shared.forms f g p q (same_formula (formula s f) (formula s g) e))))
 
-or_nothing : (b : Bool) → (b || false) ≡ b
-or_nothing true = refl
-or_nothing false = refl
-
-or_assoc : (a b c : Bool) → ((a || b) || c) ≡ (a || (b || c))
-or_assoc true b c = refl
-or_assoc false b c = refl
-
 pub any_push : (test : Fact → Bool) (fs : List Fact) (f : Fact) → list_any test (fs ++ f ∷ []) ≡ (list_any test fs || test f)
-any_push test [] f = or_nothing (test f)
+any_push test [] f = or_false (test f)
 any_push test (x ∷ xs) f = ap (λ (b : Bool). test x || b) (any_push test xs f) ∙ sym (or_assoc (test x) (list_any test xs) (test f))

@@ -3,6 +3,7 @@ use Rattle.std.proofs.Common.{◌≡◌, ◌⊎◌, inl, inr, ℕ, Bool, true, f
 use Rattle.std.specs.Prelude.{not, nat_eq, nat_lt, OnOk}
 use Rattle.std.specs.List.{AllByRecursion}
 use Rattle.std.proofs.lemmas.Bool.{cases_Bool}
+use Rattle.sync_base.proofs.Basics.{first_none}
 use Rattle.sync_base.specs.Outcome.{first, Passes, ◌>>=◌}
 use Rattle.sync_base.specs.declared.stops.Refusal.{Refusal}
 use Rattle.sync_base.specs.declared.stops.Rule.{Rule}
@@ -56,10 +57,6 @@ named_holds v name [] h f e = absurd (cc)
 named_holds v name (g ∷ gs) h f e = named_step v name g f (newest name gs) h.0 (λ q. named_holds v name gs h.1 f q) e
 
 -- ---- what a step that goes on has
-
-first_none : (a b : Option Refusal) → first a b ≡ None → (a ≡ None) × (b ≡ None)
-first_none None b e = (refl, e)
-first_none (Some x) b e = absurd (cc)
 
 nothing_at : (line : ℕ) (o : Option Rule) → at_line line o ≡ None → o ≡ None
 nothing_at line None e = refl

@@ -6,6 +6,7 @@ use Rattle.std.specs.Ordering.{int_eq}
 use Rattle.std.specs.List.{list_any}
 use Rattle.std.proofs.lemmas.Bool.{and_parts, and_from, false_from_ne_true, both_ways}
 use Rattle.std.proofs.lemmas.Bool.Decides.{Decides-int_eq}
+use Rattle.sync_base.proofs.Basics.{and_false as and_no}
 use Rattle.sync_base.specs.declared.stops.Rule.TheVariants.{K4}
 use Rattle.sync_terms.specs.declared.nodes.FormId.{FormId}
 use Rattle.sync_terms.specs.Trees.{Tree, Formula, Le, Lt, Eq, Not, And, Or, Imp}
@@ -94,10 +95,6 @@ apart_back (Eq a b) g h = refl
 apart_back (And a b) g h = refl
 apart_back (Or a b) g h = refl
 apart_back (Imp a b) g h = refl
-
-and_no : (a : Bool) → (a && false) ≡ false
-and_no true = refl
-and_no false = refl
 
 and_yes : (a : Bool) → (a && true) ≡ a
 and_yes true = refl
