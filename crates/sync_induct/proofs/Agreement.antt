@@ -1,6 +1,7 @@
 -- The value of a term depends only on what its known symbols stand for.
 use Rattle.std.proofs.Common.{◌≡◌, ℕ, ℤ, Bool, true, false, ◌||◌, not, refl, ap, ◌∙◌, Some}
 use Rattle.std.proofs.lemmas.Bool.{eq-eqb}
+use Rattle.sync_base.proofs.Basics.{or_left, or_right}
 use Rattle.sync_terms.specs.Trees.{Tree, Lit, Name, Add, Sub, Scale, Get, Has, Size, Sum, Nil, Put, Del, Bump, Formula, Le, Lt, Eq, Not, And, Or, Imp, replaced, replaced_in}
 use Rattle.sync_terms.specs.Maps as maps
 use Rattle.sync_terms.specs.Values.{Valuation, num, mapped, truth}
@@ -15,14 +16,6 @@ pub record Agree (k : Known) (named : ℕ → Bool) (v w : Valuation) : Type 0 w
 
 pub Agree-part : {k : Known} {named part : ℕ → Bool} {v w : Valuation} → ((x : ℕ) → part x ≡ true → named x ≡ true) → Agree k named v w → Agree k part v w
 Agree-part f a = record { number = λ x p. a.number x (f x p); mapping = λ x p. a.mapping x (f x p) }
-
-or_left : (a b : Bool) → a ≡ true → (a || b) ≡ true
-or_left true b e = refl
-or_left false b e = absurd cc
-
-or_right : (a b : Bool) → b ≡ true → (a || b) ≡ true
-or_right true b e = refl
-or_right false b e = e
 
 Agree-left : {k : Known} {v w : Valuation} (p q : ℕ → Bool) → Agree k (λ x. p x || q x) v w → Agree k p v w
 Agree-left p q a = Agree-part (λ x e. or_left (p x) (q x) e) a

@@ -3,6 +3,7 @@ use Rattle.std.proofs.Common.{◌≡◌, ℕ, zero, suc, ◌+◌, ◌<◌, Bool,
 use Rattle.std.specs.List.{AllByRecursion}
 use Rattle.std.proofs.lemmas.Bool.{true≢false, false≢true}
 use Rattle.std.proofs.lemmas.List.{get_or-set_other, length-set}
+use Rattle.sync_base.proofs.Basics.{neither}
 use Rattle.sync_terms.specs.Trees.{Tree, Nil, Formula, replaced_in}
 use Rattle.sync_terms.specs.Values.{Valuation, HoldsForAll, Hypothesis, IsValid}
 use Rattle.sync_machine.specs.declared.fields.Field.{Field}
@@ -156,14 +157,10 @@ unfolding last_values
 last-spared fs cur [] x h = refl
 last-spared fs cur (s ∷ ss) x h = last-spared fs (advanced fs cur s.act) ss x h.1 ∙ advanced-spared fs cur s.act x h.0
 
-or_false : (a b : Bool) → (a || b) ≡ false → (a ≡ false) × (b ≡ false)
-or_false true b e = absurd (true≢false e)
-or_false false b e = (refl, e)
-
 pub untouched : (form : Formula) (x : ℕ) (ss : List StepTree) → form_names x form ≡ true → is_touched form ss ≡ false → AllByRecursion (Spares x) ss
 untouched form x [] named e = tt
 untouched form x (s ∷ ss) named e =
-    let parts = or_false (touches form (changed_by s.act)) (is_touched form ss) e in
+    let parts = neither (touches form (changed_by s.act)) (is_touched form ss) e in
     ((λ c. true≢false (sym named ∙ (sym (ap (touches form) c) ∙ parts.0))), untouched form x ss named parts.1)
 
 pub nothing-changed : (x : ℕ) (ss : List StepTree) → AllByRecursion (λ (s : StepTree). changed_by s.act ≡ None) ss → AllByRecursion (Spares x) ss

@@ -3,6 +3,7 @@ use Rattle.std.proofs.Common.{◌≡◌, ℕ, suc, ◌+◌, ◌<◌, ◌≤◌, 
 use Rattle.std.specs.Prelude.{not, slice_get}
 use Rattle.std.specs.Option.{is_some}
 use Rattle.std.proofs.lemmas.Bool.{cases_Bool, true≢false, false≢true, lt-ltb, le-ltb}
+use Rattle.sync_base.proofs.Basics.{cond_false, cond_true, or_left, or_right}
 use Rattle.sync_base.specs.declared.stops.Refusal.{Refusal}
 use Rattle.sync_base.specs.declared.stops.Rule.TheVariants.{I1, K8}
 use Rattle.sync_base.specs.declared.stops.Stop.{Stop}
@@ -19,14 +20,6 @@ use Rattle.sync_induct.specs.Titles.{titled, same_title, first_at}
 use Rattle.sync_induct.proofs.Titles.{none_of}
 use Rattle.sync_induct.specs.Checks.{proof_of, sequent_size, is_large, judged, duty_fault}
 use Rattle.sync_terms.specs.Proofs.{ProofTree, title_of, titles_of, proofs_in}
-
-cond_at : {A : Type 0} (b : Bool) (x y : A) → b ≡ true → cond b x y ≡ x
-cond_at true x y e = refl
-cond_at false x y e = absurd (false≢true e)
-
-cond_not : {A : Type 0} (b : Bool) (x y : A) → b ≡ false → cond b x y ≡ y
-cond_not true x y e = absurd (true≢false e)
-cond_not false x y e = refl
 
 -- the proof at the place k, behind n others, is the first of the title
 pub record IsFound (s : Stored) (ps : List Proof) (t : Title) (n i : ℕ) : Type 0 where
@@ -56,23 +49,23 @@ found s [] t n i e = absurd (no_first t n i e)
 found s (p ∷ ps) t n i e =
     elim (cases_Bool (same_title (titled (title_of p)) t)) [
       | inl y ↦
-          let here : Some n ≡ Some i = sym (first_at-cons t n p ps ∙ cond_at (same_title (titled (title_of p)) t) (Some n) (first_at t (suc n) (titles_of ps)) y) ∙ e in
+          let here : Some n ≡ Some i = sym (first_at-cons t n p ps ∙ cond_true (same_title (titled (title_of p)) t) (Some n) (first_at t (suc n) (titles_of ps)) y) ∙ e in
           record {
             place = 0;
             is = some_is n i here ∙ sym (add-zero n);
             proof = p;
             there = refl;
-            script = proof_of-cons s t p ps ∙ cond_at (same_title (titled (title_of p)) t) (Some (plan_of s p.script.block)) (proof_of t (proofs_in s ps)) y;
+            script = proof_of-cons s t p ps ∙ cond_true (same_title (titled (title_of p)) t) (Some (plan_of s p.script.block)) (proof_of t (proofs_in s ps)) y;
           }
       | inr f ↦
-          let later : first_at t (suc n) (titles_of ps) ≡ Some i = sym (first_at-cons t n p ps ∙ cond_not (same_title (titled (title_of p)) t) (Some n) (first_at t (suc n) (titles_of ps)) f) ∙ e in
+          let later : first_at t (suc n) (titles_of ps) ≡ Some i = sym (first_at-cons t n p ps ∙ cond_false (same_title (titled (title_of p)) t) (Some n) (first_at t (suc n) (titles_of ps)) f) ∙ e in
           let r = found s ps t (suc n) i later in
           record {
             place = suc r.place;
             is = r.is ∙ moved n r.place;
             proof = r.proof;
             there = r.there;
-            script = proof_of-cons s t p ps ∙ (cond_not (same_title (titled (title_of p)) t) (Some (plan_of s p.script.block)) (proof_of t (proofs_in s ps)) f ∙ r.script);
+            script = proof_of-cons s t p ps ∙ (cond_false (same_title (titled (title_of p)) t) (Some (plan_of s p.script.block)) (proof_of t (proofs_in s ps)) f ∙ r.script);
           }
     ] where
       moved : (n k : ℕ) → suc n + k ≡ n + suc k
@@ -89,9 +82,9 @@ pub missing : (s : Stored) (ps : List Proof) (t : Title) (n : ℕ) → first_at 
 missing s [] t n e = no_proof s t
 missing s (p ∷ ps) t n e =
     elim (cases_Bool (same_title (titled (title_of p)) t)) [
-      | inl y ↦ absurd (none_some n (sym (first_at-cons t n p ps ∙ cond_at (same_title (titled (title_of p)) t) (Some n) (first_at t (suc n) (titles_of ps)) y) ∙ e))
-      | inr f ↦ proof_of-cons s t p ps ∙ (cond_not (same_title (titled (title_of p)) t) (Some (plan_of s p.script.block)) (proof_of t (proofs_in s ps)) f
-          ∙ missing s ps t (suc n) (sym (first_at-cons t n p ps ∙ cond_not (same_title (titled (title_of p)) t) (Some n) (first_at t (suc n) (titles_of ps)) f) ∙ e))
+      | inl y ↦ absurd (none_some n (sym (first_at-cons t n p ps ∙ cond_true (same_title (titled (title_of p)) t) (Some n) (first_at t (suc n) (titles_of ps)) y) ∙ e))
+      | inr f ↦ proof_of-cons s t p ps ∙ (cond_false (same_title (titled (title_of p)) t) (Some (plan_of s p.script.block)) (proof_of t (proofs_in s ps)) f
+          ∙ missing s ps t (suc n) (sym (first_at-cons t n p ps ∙ cond_false (same_title (titled (title_of p)) t) (Some n) (first_at t (suc n) (titles_of ps)) f) ∙ e))
     ]
 
 -- ---- what the proof of a duty is worth
@@ -100,11 +93,7 @@ pub judged-none : (ps : List ProofTree) (d : Duty) → proof_of (titled d.obliga
 judged-none ps d e = ap (judged d) e
 
 pub judged-too-large : (ps : List ProofTree) (d : Duty) (plan : Plan) → proof_of (titled d.obligation) ps ≡ Some plan → is_large d ≡ true → duty_fault ps d ≡ Some (record { line = d.obligation.line; rule = K8 })
-judged-too-large ps d plan e large = ap (judged d) e ∙ cond_at (is_large d) (Some (record { line = d.obligation.line; rule = K8 })) (script_fault d.facts d.claim plan) large
-
-or_right : (a b : Bool) → b ≡ true → (a || b) ≡ true
-or_right true b e = refl
-or_right false b e = e
+judged-too-large ps d plan e large = ap (judged d) e ∙ cond_true (is_large d) (Some (record { line = d.obligation.line; rule = K8 })) (script_fault d.facts d.claim plan) large
 
 -- the test of the size of a sequent
 is_over : (b : Bool) → false ≡ not b → b ≡ true
@@ -118,11 +107,6 @@ is_within false e = refl
 pub judged-large : (ps : List ProofTree) (d : Duty) (plan : Plan) → proof_of (titled d.obligation) ps ≡ Some plan → false ≡ not (ltb most_nodes (sequent_size d.facts d.claim)) → duty_fault ps d ≡ Some (record { line = d.obligation.line; rule = K8 })
 judged-large ps d plan e large = judged-too-large ps d plan e (or_right (ltb most_nodes (formula_size d.claim)) (ltb most_nodes (sequent_size d.facts d.claim)) (is_over (ltb most_nodes (sequent_size d.facts d.claim)) large))
 
--- the claim alone is too large
-or_left : (a b : Bool) → a ≡ true → (a || b) ≡ true
-or_left true b e = refl
-or_left false b e = absurd (false≢true e)
-
 pub large-claim : (d : Duty) → most_nodes < formula_size d.claim → is_large d ≡ true
 large-claim d large = or_left (ltb most_nodes (formula_size d.claim)) (ltb most_nodes (sequent_size d.facts d.claim)) (lt-ltb most_nodes (formula_size d.claim) large)
 
@@ -131,7 +115,7 @@ small-both a b p q = rw p q
 
 pub judged-script : (ps : List ProofTree) (d : Duty) (plan : Plan) → proof_of (titled d.obligation) ps ≡ Some plan → formula_size d.claim ≤ most_nodes → true ≡ not (ltb most_nodes (sequent_size d.facts d.claim)) → duty_fault ps d ≡ script_fault d.facts d.claim plan
 judged-script ps d plan e claim small = ap (judged d) e
-    ∙ cond_not (is_large d) (Some (record { line = d.obligation.line; rule = K8 })) (script_fault d.facts d.claim plan)
+    ∙ cond_false (is_large d) (Some (record { line = d.obligation.line; rule = K8 })) (script_fault d.facts d.claim plan)
     (small-both (ltb most_nodes (formula_size d.claim)) (ltb most_nodes (sequent_size d.facts d.claim)) (le-ltb most_nodes (formula_size d.claim) claim) (is_within (ltb most_nodes (sequent_size d.facts d.claim)) small))
 
 pub passes-same : {A : Type 0} (r : Result A Stop) (x y : Option Refusal) → x ≡ y → Passes r x → Passes r y

@@ -1,5 +1,6 @@
 -- Lists of checks that are gone through one after another: what is left of them stands for all.
 use Rattle.std.proofs.Common.{◌≡◌, List, [], ◌∷◌, ◌++◌, Option, Some, None, Err, refl, sym, ap, subst, ◌∙◌}
+use Rattle.sync_base.proofs.Basics.{first_assoc}
 use Rattle.sync_base.specs.declared.stops.Refusal.{Refusal}
 use Rattle.sync_base.specs.declared.stops.Stop.{Stop}
 use Rattle.sync_base.specs.declared.stops.Stop.TheVariants.{Refused, Memory}
@@ -8,14 +9,10 @@ use Rattle.sync_induct.specs.Checklist.{Check, IsShown, AreShown}
 use Rattle.sync_induct.specs.Checks.{check_fault, checks_fault}
 use Rattle.sync_terms.specs.Proofs.{ProofTree}
 
-first-assoc : (x y z : Option Refusal) → first (first x y) z ≡ first x (first y z)
-first-assoc (Some r) y z = refl
-first-assoc None y z = refl
-
 pub fault-append : (ps : List ProofTree) (xs ys : List Check) → checks_fault ps (xs ++ ys) ≡ first (checks_fault ps xs) (checks_fault ps ys)
 unfolding checks_fault
 fault-append ps [] ys = refl
-fault-append ps (x ∷ xs) ys = ap (first (check_fault ps x)) (fault-append ps xs ys) ∙ sym (first-assoc (check_fault ps x) (checks_fault ps xs) (checks_fault ps ys))
+fault-append ps (x ∷ xs) ys = ap (first (check_fault ps x)) (fault-append ps xs ys) ∙ sym (first_assoc (check_fault ps x) (checks_fault ps xs) (checks_fault ps ys))
 
 pub shown-append : (xs ys : List Check) → AreShown xs → AreShown ys → AreShown (xs ++ ys)
 shown-append [] ys p q = q

@@ -6,6 +6,7 @@ use Rattle.std.proofs.lemmas.Bool.{cases_Bool, ltb-true, ltb-false, lt-ltb, le-l
 use Rattle.std.proofs.lemmas.List.{length-map}
 use Rattle.std.proofs.lemmas.List.FromFn.{get_or-map-range_with_len, length-map-range_with_len}
 use Rattle.std.proofs.lemmas.List.Elements.{All-contains, All-from_recursion}
+use Rattle.sync_base.proofs.Basics.{cond_false, cond_true}
 use Rattle.sync_terms.specs.Trees.{Tree, Name, Nil, Formula, replaced_in}
 use Rattle.sync_terms.specs.Values.{Valuation, num, mapped, Holds, HoldsForAll, with_value, IsValid}
 use Rattle.sync_machine.specs.declared.fields.Field.{Field}
@@ -22,14 +23,6 @@ use Rattle.sync_induct.proofs.DutyLists.{step_duties, duties_of, AreProved}
 use Rattle.sync_induct.proofs.Agreement.{Agree, Agree-part, num-agree, mapped-agree, truth-agree, composed, truth-replaced}
 use Rattle.sync_induct.proofs.Along.{FactsHold, as_givens, all-left, all-right, behind-holds, steps-safe, KeepsIt, keeps-valid, IsOperationProved, operations-proved, met-agree, last-length, Spares, last-spared, untouched, nothing-changed, isat-agree, values-length, values-at}
 
-cond-true : {A : Type 0} (b : Bool) (x y : A) → b ≡ true → cond b x y ≡ x
-cond-true true x y e = refl
-cond-true false x y e = absurd (false≢true e)
-
-cond-false : {A : Type 0} (b : Bool) (x y : A) → b ≡ false → cond b x y ≡ y
-cond-false true x y e = absurd (true≢false e)
-cond-false false x y e = refl
-
 -- ---- which symbols are known
 
 -- a known symbol is a field, of its field's sort, or it is one of the names, a number
@@ -37,11 +30,11 @@ known-cases : (fs : List Field) (given : List ℕ) (x : ℕ) (z : Sort) → know
     → ((x < length fs) × (sort_of (strategy_at fs x) ≡ z)) ⊎ ((length fs ≤ x) × (list_any (nat_eq x) given ≡ true) × (z ≡ Numbers))
 known-cases fs given x z e =
     elim (cases_Bool (ltb x (length fs))) [
-      | inl t ↦ let s : Some (sort_of (strategy_at fs x)) ≡ Some z = sym (cond-true (ltb x (length fs)) (Some (sort_of (strategy_at fs x))) (cond (list_any (nat_eq x) given) (Some Numbers) None) t) ∙ e in inl (ltb-true _ _ t, cc)
-      | inr f ↦ let s : cond (list_any (nat_eq x) given) (Some Numbers) None ≡ Some z = sym (cond-false (ltb x (length fs)) (Some (sort_of (strategy_at fs x))) (cond (list_any (nat_eq x) given) (Some Numbers) None) f) ∙ e in
+      | inl t ↦ let s : Some (sort_of (strategy_at fs x)) ≡ Some z = sym (cond_true (ltb x (length fs)) (Some (sort_of (strategy_at fs x))) (cond (list_any (nat_eq x) given) (Some Numbers) None) t) ∙ e in inl (ltb-true _ _ t, cc)
+      | inr f ↦ let s : cond (list_any (nat_eq x) given) (Some Numbers) None ≡ Some z = sym (cond_false (ltb x (length fs)) (Some (sort_of (strategy_at fs x))) (cond (list_any (nat_eq x) given) (Some Numbers) None) f) ∙ e in
           elim (cases_Bool (list_any (nat_eq x) given)) [
-            | inl t ↦ let u : Some Numbers ≡ Some z = sym (cond-true (list_any (nat_eq x) given) (Some Numbers) None t) ∙ s in inr (ltb-false _ _ f, t, cc)
-            | inr g ↦ let u : None ≡ Some z = sym (cond-false (list_any (nat_eq x) given) (Some Numbers) None g) ∙ s in absurd cc
+            | inl t ↦ let u : Some Numbers ≡ Some z = sym (cond_true (list_any (nat_eq x) given) (Some Numbers) None t) ∙ s in inr (ltb-false _ _ f, t, cc)
+            | inr g ↦ let u : None ≡ Some z = sym (cond_false (list_any (nat_eq x) given) (Some Numbers) None g) ∙ s in absurd cc
           ]
     ]
 
@@ -93,13 +86,13 @@ known-no-dollar fs given params x z few are_names are_params e =
 
 agree-dollar : (fs : List Field) (given params : List ℕ) (v w : Valuation) → length fs ≤ 32 → AllByRecursion IsNameSymbol given → AllByRecursion IsNameSymbol params → Agree (knows fs given) (λ _. true) v (dollar params w v)
 agree-dollar fs given params v w few are_names are_params = record {
-  number = λ x t k. sym (cond-false _ (w.number (x - 1)) (v.number x) (known-no-dollar fs given params x Numbers few are_names are_params k));
+  number = λ x t k. sym (cond_false _ (w.number (x - 1)) (v.number x) (known-no-dollar fs given params x Numbers few are_names are_params k));
   mapping = λ x t k. refl;
 }
 
 isat-dollar : (s : State) (params : List ℕ) (v w : Valuation) → length s ≤ 32 → AllByRecursion IsNameSymbol params → IsAt s v → IsAt s (dollar params w v)
 isat-dollar s params v w few are_params h =
-    isat-agree 0 s v (dollar params w v) (λ x lt. (sym (cond-false _ (w.number (x - 1)) (v.number x) (no-dollar x params are_params (λ n same. omega arith))), refl)) h
+    isat-agree 0 s v (dollar params w v) (λ x lt. (sym (cond_false _ (w.number (x - 1)) (v.number x) (no-dollar x params are_params (λ n same. omega arith))), refl)) h
 
 -- ---- an invariant behind an operation
 
@@ -115,12 +108,12 @@ field-mapping fs last v w x lt same sort h =
     (subst (λ (k : ℕ). StandsFor w k (value_in v (sort_of (strategy_at fs x)) (get_or last x Nil))) (zero-add x) (values-at v w fs last 0 x lt same h))
 
 closing-field : (params : List ℕ) (last : List Tree) (x : ℕ) → x < length last → closing params last x ≡ get_or last x Nil
-closing-field params last x lt = cond-true (ltb x (length last)) (get_or last x Nil) (cond (list_any (nat_eq x) params) (Name (suc x)) (Name x)) (lt-ltb x (length last) lt)
+closing-field params last x lt = cond_true (ltb x (length last)) (get_or last x Nil) (cond (list_any (nat_eq x) params) (Name (suc x)) (Name x)) (lt-ltb x (length last) lt)
 
 closing-param : (params : List ℕ) (last : List Tree) (x : ℕ) → length last ≤ x → list_any (nat_eq x) params ≡ true → closing params last x ≡ Name (suc x)
 closing-param params last x le t =
-    cond-false (ltb x (length last)) (get_or last x Nil) (cond (list_any (nat_eq x) params) (Name (suc x)) (Name x)) (le-ltb x (length last) le)
-    ∙ cond-true (list_any (nat_eq x) params) (Name (suc x)) (Name x) t
+    cond_false (ltb x (length last)) (get_or last x Nil) (cond (list_any (nat_eq x) params) (Name (suc x)) (Name x)) (le-ltb x (length last) le)
+    ∙ cond_true (list_any (nat_eq x) params) (Name (suc x)) (Name x) t
 
 -- what the operation speaks of, and what its last terms are
 pub record Ends (fs : List Field) (given : List ℕ) (last : List Tree) : Type 0 where
@@ -164,7 +157,7 @@ closing-agrees fs given params last v w form ends are_params at = record { numbe
         | inl f ↦ ap (num z) (closing-field params last x (omega (arith, ends.length_is, f.0)))
             ∙ (sym (last-number fs given params last v w x ends are_params f.0 f.1) ∙ sym (field-number fs last v w x f.0 ends.length_is f.1 at))
         | inr g ↦ ap (num z) (closing-param params last x (omega (arith, ends.length_is, g.0)) g.1)
-            ∙ (cond-true (list_any (λ p. nat_eq (suc x) (suc p)) params) (w.number (suc x - 1)) (v.number (suc x)) (is-dollar x params g.1) ∙ ap w.number (back x))
+            ∙ (cond_true (list_any (λ p. nat_eq (suc x) (suc p)) params) (w.number (suc x - 1)) (v.number (suc x)) (is-dollar x params g.1) ∙ ap w.number (back x))
       ]
 
   mapping : (x : ℕ) → form_names x form ≡ true → knows fs params x ≡ Some Maps → mapped z (closing params last x) ≡ w.mapping x
@@ -195,26 +188,26 @@ stays fs params last s v w form scoped same len unchanged before meets at =
       u = fields_of (length fs) v w
 
       is_at : IsAt s u
-      is_at = isat-agree 0 s v u (λ x lt. (sym (cond-true (ltb x (length fs)) (v.number x) (w.number x) (lt-ltb x (length fs) (omega arith))), sym (cond-true (ltb x (length fs)) (v.mapping x) (w.mapping x) (lt-ltb x (length fs) (omega arith))))) before
+      is_at = isat-agree 0 s v u (λ x lt. (sym (cond_true (ltb x (length fs)) (v.number x) (w.number x) (lt-ltb x (length fs) (omega arith))), sym (cond_true (ltb x (length fs)) (v.mapping x) (w.mapping x) (lt-ltb x (length fs) (omega arith))))) before
 
       number : (x : ℕ) → form_names x form ≡ true → knows fs params x ≡ Some Numbers → u.number x ≡ w.number x
       number x named known =
           elim (known-cases fs params x Numbers known) [
-            | inl f ↦ cond-true (ltb x (length fs)) (v.number x) (w.number x) (lt-ltb x (length fs) f.0) ∙ (sym (ap (num v) (unchanged x f.0 named)) ∙ sym (field-number fs last v w x f.0 same f.1 at))
-            | inr g ↦ cond-false (ltb x (length fs)) (v.number x) (w.number x) (le-ltb x (length fs) g.0)
+            | inl f ↦ cond_true (ltb x (length fs)) (v.number x) (w.number x) (lt-ltb x (length fs) f.0) ∙ (sym (ap (num v) (unchanged x f.0 named)) ∙ sym (field-number fs last v w x f.0 same f.1 at))
+            | inr g ↦ cond_false (ltb x (length fs)) (v.number x) (w.number x) (le-ltb x (length fs) g.0)
           ]
 
       mapping : (x : ℕ) → form_names x form ≡ true → knows fs params x ≡ Some Maps → u.mapping x ≡ w.mapping x
       mapping x named known =
           elim (known-cases fs params x Maps known) [
-            | inl f ↦ cond-true (ltb x (length fs)) (v.mapping x) (w.mapping x) (lt-ltb x (length fs) f.0) ∙ (sym (ap (mapped v) (unchanged x f.0 named)) ∙ sym (field-mapping fs last v w x f.0 same f.1 at))
+            | inl f ↦ cond_true (ltb x (length fs)) (v.mapping x) (w.mapping x) (lt-ltb x (length fs) f.0) ∙ (sym (ap (mapped v) (unchanged x f.0 named)) ∙ sym (field-mapping fs last v w x f.0 same f.1 at))
             | inr g ↦ absurd (maps≢numbers g.2)
           ]
 
 -- ---- the induction
 
 is_numbered : {A : Type 0} (x p : ℕ) (n a : A) → x < 64 → IsNameSymbol p → cond (nat_eq x p) n a ≡ a
-is_numbered x p n a lt name = cond-false (nat_eq x p) n a (ne_eqb x p (λ e. let is : p ≡ 64 + 4 * name.0 = name.1 in omega arith))
+is_numbered x p n a lt name = cond_false (nat_eq x p) n a (ne_eqb x p (λ e. let is : p ≡ 64 + 4 * name.0 = name.1 in omega arith))
 
 -- an invariant that is true at s holds there whatever its parameters stand for
 invariant-holds : (s : State) (params : List ℕ) (form : Formula) (v : Valuation) → length s ≤ 32 → AllByRecursion IsNameSymbol params → ((u : Valuation) → IsAt s u → Holds u form) → IsAt s v → HoldsForAll params v form

@@ -2,6 +2,7 @@
 use Rattle.std.proofs.Common.{◌≡◌, ◌⊎◌, inl, inr, ℕ, suc, ◌+◌, ◌<◌, ◌≤◌, List, [], ◌∷◌, ◌++◌, length, map, get_or, take, refl, sym, ap, subst, ◌∙◌, arith, add-one, zero-add, add-zero}
 use Rattle.std.specs.List.{AllByRecursion, range_with_len}
 use Rattle.std.proofs.lemmas.List.{take_more, take_all, map-append, length-take-le}
+use Rattle.sync_base.proofs.Basics.{all_push}
 use Rattle.sync_terms.specs.Trees.{Tree, Name}
 use Rattle.sync_terms.specs.declared.nodes.TermId.{TermId}
 use Rattle.sync_terms.specs.Stored.{Stored, tree, IsTerm, IsForm, Extends}
@@ -22,10 +23,6 @@ use Rattle.sync_induct.proofs.Lasting.{trees-stay, terms-stay, invariants-stay}
 
 -- ---- ids with their trees
 
-all-push : {X : Type 0} (P : X → Type 0) (xs : List X) (x : X) → AllByRecursion P xs → P x → AllByRecursion P (xs ++ x ∷ [])
-all-push P [] x all one = (one, tt)
-all-push P (y ∷ ys) x all one = (all.0, all-push P ys x all.1 one)
-
 pub trees-last : (s t : Stored) (ids : List TermId) (ts : List Tree) → Extends s t → HaveTrees s ids ts → HaveTrees t ids ts
 trees-last s t ids ts e h = record { terms = terms-stay s t e ids h.terms; are = trees-stay s t e ids h.terms ∙ h.are }
 
@@ -33,7 +30,7 @@ pub trees-push : (s t : Stored) (ids : List TermId) (ts : List Tree) (id : TermI
 trees-push s t ids ts id x e h is same =
     let more = trees-last s t ids ts e h in
     let are = more.are in
-    record { terms = all-push (IsTerm t) ids id more.terms is; are = map-append (tree t) ids (id ∷ []) ∙ (λ i. are i ++ same i ∷ []) }
+    record { terms = all_push (IsTerm t) ids id more.terms is; are = map-append (tree t) ids (id ∷ []) ∙ (λ i. are i ++ same i ∷ []) }
 
 -- ---- the first values
 

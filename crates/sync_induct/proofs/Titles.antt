@@ -12,6 +12,7 @@ use Rattle.sync_terms.specs.declared.proofs.Proof.{Proof}
 use Rattle.std.proofs.Math.Seq.{drop-cons}
 use Rattle.std.proofs.lemmas.List.{take_more, map-append}
 use Rattle.std.proofs.Math.ListN.{drop_of_length-le}
+use Rattle.sync_base.proofs.Basics.{cond_false, cond_true}
 use Rattle.sync_induct.specs.Checks.{has_title, stray_fault}
 use Rattle.sync_terms.specs.Proofs.{title_of, titles_of}
 use Rattle.sync_induct.specs.Titles.{titled, same_title, first_at}
@@ -36,14 +37,6 @@ pub none_of : (x : Option ℕ) → is_some x ≡ false → x ≡ None
 none_of (Some n) e = absurd (true≢false e)
 none_of None e = refl
 
-cond_at : {A : Type 0} (b : Bool) (x y : A) → b ≡ true → cond b x y ≡ x
-cond_at true x y e = refl
-cond_at false x y e = absurd (false≢true e)
-
-cond_not : {A : Type 0} (b : Bool) (x y : A) → b ≡ false → cond b x y ≡ y
-cond_not true x y e = absurd (true≢false e)
-cond_not false x y e = refl
-
 first_at-cons : (t : Title) (i : ℕ) (o : Obligation) (rest : List Obligation) → first_at t i (o ∷ rest) ≡ cond (same_title (titled o) t) (Some i) (first_at t (suc i) rest)
 unfolding first_at
 first_at-cons t i o rest = refl
@@ -54,13 +47,13 @@ pub placed_more : (t : Title) (o : Obligation) (i : ℕ) (old new : Option ℕ) 
 placed_more t o i old new rest total free is so_far =
     elim (cases_Bool (same_title (titled o) t)) [
       | inl e ↦
-          let n : new ≡ Some i = is ∙ cond_at (same_title (titled o) t) (Some i) old e in
-          let c : first_at t i (o ∷ rest) ≡ Some i = first_at-cons t i o rest ∙ cond_at (same_title (titled o) t) (Some i) (first_at t (suc i) rest) e in
+          let n : new ≡ Some i = is ∙ cond_true (same_title (titled o) t) (Some i) old e in
+          let c : first_at t i (o ∷ rest) ≡ Some i = first_at-cons t i o rest ∙ cond_true (same_title (titled o) t) (Some i) (first_at t (suc i) rest) e in
           let here : first old (first_at t i (o ∷ rest)) ≡ Some i = ap (λ x. first x (first_at t i (o ∷ rest))) (free e) ∙ ap (λ y. first None y) c in
           ap (λ x. first x (first_at t (suc i) rest)) n ∙ (sym here ∙ so_far)
       | inr e ↦
-          let n : new ≡ old = is ∙ cond_not (same_title (titled o) t) (Some i) old e in
-          let c : first_at t i (o ∷ rest) ≡ first_at t (suc i) rest = first_at-cons t i o rest ∙ cond_not (same_title (titled o) t) (Some i) (first_at t (suc i) rest) e in
+          let n : new ≡ old = is ∙ cond_false (same_title (titled o) t) (Some i) old e in
+          let c : first_at t i (o ∷ rest) ≡ first_at t (suc i) rest = first_at-cons t i o rest ∙ cond_false (same_title (titled o) t) (Some i) (first_at t (suc i) rest) e in
           ap (λ x. first x (first_at t (suc i) rest)) n ∙ (ap (λ y. first old y) (sym c) ∙ so_far)
     ]
 
@@ -94,14 +87,14 @@ pub stray_more : (os came : List Obligation) (o : Obligation) (rest : List Oblig
     → stray_fault os came (o ∷ rest) ≡ total → stray_fault os (came ++ o ∷ []) rest ≡ total
 unfolding stray_fault
 stray_more os came o rest total in_it fresh so_far =
-    sym (cond_at (has_title os (titled o) && not (has_title came (titled o))) (stray_fault os (came ++ o ∷ []) rest) (Some (record { line = o.line; rule = I2 })) (rw (in_it, fresh) refl)) ∙ so_far
+    sym (cond_true (has_title os (titled o) && not (has_title came (titled o))) (stray_fault os (came ++ o ∷ []) rest) (Some (record { line = o.line; rule = I2 })) (rw (in_it, fresh) refl)) ∙ so_far
 
 -- a proof that is one
 pub stray_here : (os came : List Obligation) (o : Obligation) (rest : List Obligation) (total : Option Refusal) → (has_title os (titled o) && not (has_title came (titled o))) ≡ false
     → stray_fault os came (o ∷ rest) ≡ total → total ≡ Some (record { line = o.line; rule = I2 })
 unfolding stray_fault
 stray_here os came o rest total stray so_far =
-    sym so_far ∙ cond_not (has_title os (titled o) && not (has_title came (titled o))) (stray_fault os (came ++ o ∷ []) rest) (Some (record { line = o.line; rule = I2 })) stray
+    sym so_far ∙ cond_false (has_title os (titled o) && not (has_title came (titled o))) (stray_fault os (came ++ o ∷ []) rest) (Some (record { line = o.line; rule = I2 })) stray
 
 pub stray_end : (os came : List Obligation) (total : Option Refusal) → stray_fault os came [] ≡ total → total ≡ None
 unfolding stray_fault

@@ -3,6 +3,7 @@ use Rattle.std.proofs.Common.{◌≡◌, ℕ, zero, suc, ◌+◌, ◌<◌, Bool,
 use Rattle.std.specs.Prelude.{nat_eq, slice_get}
 use Rattle.std.proofs.lemmas.Bool.{ne_eqb, eq-eqb}
 use Rattle.std.proofs.lemmas.List.Folds.{list_any-append}
+use Rattle.sync_base.proofs.Basics.{and_false, or_false}
 use Rattle.sync_machine.specs.declared.fields.Field.{Field}
 use Rattle.sync_machine.specs.Machines.{StepTree, OperationTree, InvariantTree, MachineTree}
 use Rattle.sync_terms.specs.declared.proofs.Claim.TheVariants.{At, Keeps}
@@ -20,10 +21,6 @@ keeping op j = title op (Keeps j)
 has-append : (xs ys : List Obligation) (t : Title) → has_title (xs ++ ys) t ≡ (has_title xs t || has_title ys t)
 has-append xs ys t = list_any-append (λ (o : Obligation). same_title (titled o) t) xs ys
 
-and-false : (a : Bool) → (a && false) ≡ false
-and-false true = refl
-and-false false = refl
-
 false-and : (a b : Bool) → a ≡ false → (a && b) ≡ false
 false-and a b e = rw e refl
 
@@ -37,7 +34,7 @@ safety-apart : (fs : List Field) (op n : ℕ) (ss : List StepTree) (k j : ℕ) �
 unfolding safety_claims
 safety-apart fs op n [] k j = refl
 safety-apart fs op n (s ∷ ss) k j =
-    other-first (has_safety fs s) (record { op = op; claim = At n; line = s.line }) (safety_claims fs op (suc n) ss) (keeping k j) (and-false (nat_eq op k)) ∙ safety-apart fs op (suc n) ss k j
+    other-first (has_safety fs s) (record { op = op; claim = At n; line = s.line }) (safety_claims fs op (suc n) ss) (keeping k j) (and_false (nat_eq op k)) ∙ safety-apart fs op (suc n) ss k j
 
 -- of another operation
 keeps-apart : (o : OperationTree) (op n : ℕ) (is : List InvariantTree) (k j : ℕ) → (op ≡ k → ⊥) → has_title (keeps_claims o op n is) (keeping k j) ≡ false
@@ -47,7 +44,7 @@ keeps-apart o op n (i ∷ is) k j apart =
     other-first (has_to_keep o i) (record { op = op; claim = Keeps n; line = o.line }) (keeps_claims o op (suc n) is) (keeping k j) (false-and (nat_eq op k) (nat_eq n j) (ne_eqb op k apart)) ∙ keeps-apart o op (suc n) is k j apart
 
 other-number : (op n j : ℕ) → (n ≡ j → ⊥) → (nat_eq op op && nat_eq n j) ≡ false
-other-number op n j apart = ap (λ (x : Bool). nat_eq op op && x) (ne_eqb n j apart) ∙ and-false (nat_eq op op)
+other-number op n j apart = ap (λ (x : Bool). nat_eq op op && x) (ne_eqb n j apart) ∙ and_false (nat_eq op op)
 
 -- of a later invariant
 keeps-later : (o : OperationTree) (op n : ℕ) (is : List InvariantTree) (j : ℕ) → j < n → has_title (keeps_claims o op n is) (keeping op j) ≡ false
@@ -79,10 +76,6 @@ keeps-here o op n (x ∷ is) (suc j) i e =
 or-parts : (a b : Bool) → a ≡ false → (a || b) ≡ b
 or-parts a b e = rw e refl
 
-or-none : (a : Bool) → (a || false) ≡ a
-or-none true = refl
-or-none false = refl
-
 -- of a later operation
 claims-later : (m : MachineTree) (op : ℕ) (os : List OperationTree) (k j : ℕ) → k < op → has_title (claims_of m op os) (keeping k j) ≡ false
 unfolding claims_of
@@ -106,7 +99,7 @@ claims-here m op (x ∷ os) zero o j i e f =
     let same : x ≡ o = some-same x o e in
     ap (λ (k : ℕ). has_title ((own ++ kept) ++ rest) (keeping k j)) (add-zero op)
     ∙ (has-append (own ++ kept) rest (keeping op j)
-    ∙ (ap (λ (b : Bool). has_title (own ++ kept) (keeping op j) || b) (claims-later m (suc op) os op j (omega arith)) ∙ (or-none (has_title (own ++ kept) (keeping op j))
+    ∙ (ap (λ (b : Bool). has_title (own ++ kept) (keeping op j) || b) (claims-later m (suc op) os op j (omega arith)) ∙ (or_false (has_title (own ++ kept) (keeping op j))
     ∙ (has-append own kept (keeping op j) ∙ (or-parts _ _ (safety-apart m.fields op 1 x.steps op j)
     ∙ (ap (λ (n : ℕ). has_title kept (keeping op n)) (sym (zero-add j)) ∙ (keeps-here x op 0 m.invariants j i f ∙ ap (λ (y : OperationTree). has_to_keep y i) same)))))))
 claims-here m op (x ∷ os) (suc k) o j i e f =

@@ -53,7 +53,8 @@ fn dollar(param: Sym) -> Sym
 /// Adds `$p` for each parameter p.
 fn add_dollars(terms: &mut Terms, pairs: &mut Vec<Pair>, params: &[Sym]) -> Result<(), NoMemory>
     requires { AllByRecursion IsNameSymbol (symbols_of params.now) }
-    ensures pairs { (ps : List (ℕ × Tree)) → HavePairs terms.old pairs.old.items ps → OnOk result (HavePairs terms.new pairs.new.items (ps ++ map dollar_pair (symbols_of params.now))) }
+    ensures pairs { (ps : List (ℕ × Tree)) → HavePairs terms.old pairs.old.items ps
+        → OnOk result (HavePairs terms.new pairs.new.items (ps ++ map dollar_pair (symbols_of params.now))) }
     ensures keeps { Extends terms.old terms.new }
 {
     for param in params {
@@ -75,8 +76,12 @@ impl Walk {
     ) -> Result<FormId, TermStop>
         requires walk { IsWalk terms.old self.now }
         requires invariant { IsKeepable terms.old invariant.now }
-        ensures value { IfOk result (λ id. IsForm terms.new id × (formula terms.new id ≡ closed_form (values_of terms.old self.now) (invariant_tree terms.old invariant.now))) }
-        ensures too_large { result ≡ Err TermStop.TooLarge → most_nodes < formula_size (closed_form (values_of terms.old self.now) (invariant_tree terms.old invariant.now)) }
+        ensures value { IfOk result (λ id. IsForm terms.new id
+            × (formula terms.new id ≡ closed_form (values_of terms.old self.now)
+            (invariant_tree terms.old invariant.now))) }
+        ensures too_large { result ≡ Err TermStop.TooLarge
+            → most_nodes < formula_size (closed_form (values_of terms.old self.now)
+            (invariant_tree terms.old invariant.now)) }
         ensures keeps { Extends terms.old terms.new }
     {
         let mut pairs = field_pairs(alloc, self.current.as_slice())?;
@@ -96,9 +101,13 @@ impl Walk {
         requires walk { IsWalk terms.old self.old }
         requires invariant { IsKeepable terms.old invariant.now }
         requires book { IsBook terms.old book }
-        ensures exact { Passes result (duty_fault (proofs_in terms.old book.entry.proofs.now) (kept_duty obligation (known_of terms.old self.old) (values_of terms.old self.old) (invariant_tree terms.old invariant.now))) }
-        ensures proved { OnOk result (IsProved (kept_duty obligation (known_of terms.old self.old) (values_of terms.old self.old) (invariant_tree terms.old invariant.now))) }
-        ensures come { OnOk result (HasCome terms.new self.new (known_of terms.old self.old) (values_of terms.old self.old)) }
+        ensures exact { Passes result (duty_fault (proofs_in terms.old book.entry.proofs.now)
+            (kept_duty obligation (known_of terms.old self.old) (values_of terms.old self.old)
+            (invariant_tree terms.old invariant.now))) }
+        ensures proved { OnOk result (IsProved (kept_duty obligation (known_of terms.old self.old)
+            (values_of terms.old self.old) (invariant_tree terms.old invariant.now))) }
+        ensures come { OnOk result (HasCome terms.new self.new (known_of terms.old self.old)
+            (values_of terms.old self.old)) }
         ensures keeps { Extends terms.old terms.new }
     {
         match self.closed(alloc, terms, invariant) {
@@ -120,12 +129,15 @@ impl Walk {
     ) -> Result<(), Stop>
         requires walk { IsWalk terms.old self.old }
         requires invariants { AllByRecursion (IsKeepable terms.old) invariants.now }
-        requires wanted { AreWanted (contains same_title book.wanted.now) op (operation_tree terms.old operation.now) (map (invariant_tree terms.old) invariants.now) }
+        requires wanted { AreWanted (contains same_title book.wanted.now) op (operation_tree terms.old operation.now)
+            (map (invariant_tree terms.old) invariants.now) }
         requires book { IsBook terms.old book }
         ensures exact { Passes result (checks_fault (proofs_in terms.old book.entry.proofs.now)
-            (proves (keeps_duties (operation_tree terms.old operation.now) op (known_of terms.old self.old) (values_of terms.old self.old) 0 (map (invariant_tree terms.old) invariants.now)))) }
+            (proves (keeps_duties (operation_tree terms.old operation.now) op (known_of terms.old self.old)
+            (values_of terms.old self.old) 0 (map (invariant_tree terms.old) invariants.now)))) }
         ensures shown { OnOk result (AreShown
-            (proves (keeps_duties (operation_tree terms.old operation.now) op (known_of terms.old self.old) (values_of terms.old self.old) 0 (map (invariant_tree terms.old) invariants.now)))) }
+            (proves (keeps_duties (operation_tree terms.old operation.now) op (known_of terms.old self.old)
+            (values_of terms.old self.old) 0 (map (invariant_tree terms.old) invariants.now)))) }
         ensures keeps { Extends terms.old terms.new }
     {
         for (j, invariant) in invariants.iter().enumerate() {

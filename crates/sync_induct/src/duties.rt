@@ -25,7 +25,8 @@ pub fn refused(line: u32, rule: Rule) -> Stop
 /// Why an obligation is refused whose claim would be too large: it has no proof, or its sequent is too large.
 pub fn too_large(book: Book<'_>, obligation: Obligation) -> Stop
     requires { ArePlaced book }
-    ensures { (s : Stored) (d : Duty) → d.obligation ≡ obligation → is_large d ≡ true → Passes {A = Unit {0}} (Err result) (duty_fault (proofs_in s book.entry.proofs.now) d) }
+    ensures { (s : Stored) (d : Duty) → d.obligation ≡ obligation → is_large d ≡ true
+        → Passes {A = Unit {0}} (Err result) (duty_fault (proofs_in s book.entry.proofs.now) d) }
 {
     let title = Title::new(obligation.op, obligation.claim);
     if book.places.contains_key(&title) {
@@ -47,7 +48,8 @@ pub fn check_duty(
     requires ready { AreReady terms.old hyps.old }
     requires claim { IsForm terms.old claim }
     requires book { IsBook terms.old book }
-    ensures exact { Passes result (duty_fault (proofs_in terms.old book.entry.proofs.now) (duty_of terms.old hyps.old claim obligation)) }
+    ensures exact { Passes result (duty_fault (proofs_in terms.old book.entry.proofs.now)
+        (duty_of terms.old hyps.old claim obligation)) }
     ensures valid { OnOk result (IsValid (as_hypotheses (known_in terms.old hyps.old)) (formula terms.old claim)) }
     ensures ready { OnOk result (AreReady terms.new hyps.new) }
     ensures hyps { OnOk result (known_in terms.new hyps.new ≡ known_in terms.old hyps.old) }

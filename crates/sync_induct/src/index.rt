@@ -67,7 +67,8 @@ pub fn wanted(alloc: Global, obligations: &[Obligation]) -> Result<HashSet<Title
 /// The place of each title's first proof, where no proof is of no obligation and none is a second one.
 pub fn places(alloc: Global, wanted: &HashSet<Title>, proofs: &[Proof]) -> Result<Places, Stop>
     ensures placed { IfOk result (λ m. (t : Title) → get same_title m t ≡ first_at t 0 (titles_of proofs.now)) }
-    ensures exact { (os : List Obligation) → ((t : Title) → contains same_title wanted.now t ≡ has_title os t) → Passes result (stray_fault os [] (titles_of proofs.now)) }
+    ensures exact { (os : List Obligation) → ((t : Title) → contains same_title wanted.now t ≡ has_title os t)
+        → Passes result (stray_fault os [] (titles_of proofs.now)) }
 {
     let mut places = HashMap::new(alloc);
     for (i, p) in proofs.iter().enumerate() {

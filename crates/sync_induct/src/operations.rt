@@ -32,11 +32,14 @@ fn check_operation(
 ) -> Result<(), Stop>
     requires invariants { AllByRecursion (IsKeepable terms.old) invariants.now }
     requires ids { All (λ x. HasActIds terms.old x.act) operation.now.steps }
-    requires wanted { AreWanted (contains same_title book.wanted.now) number (operation_tree terms.old operation.now) (map (invariant_tree terms.old) invariants.now) }
+    requires wanted { AreWanted (contains same_title book.wanted.now) number (operation_tree terms.old operation.now)
+        (map (invariant_tree terms.old) invariants.now) }
     requires book { IsBook terms.old book }
     ensures exact { Passes result (checks_fault (proofs_in terms.old book.entry.proofs.now)
-        (operation_checks fields.now (map (invariant_tree terms.old) invariants.now) number (operation_tree terms.old operation.now))) }
-    ensures shown { OnOk result (AreShown (operation_checks fields.now (map (invariant_tree terms.old) invariants.now) number (operation_tree terms.old operation.now))) }
+        (operation_checks fields.now (map (invariant_tree terms.old) invariants.now) number
+        (operation_tree terms.old operation.now))) }
+    ensures shown { OnOk result (AreShown (operation_checks fields.now
+        (map (invariant_tree terms.old) invariants.now) number (operation_tree terms.old operation.now))) }
     ensures keeps { Extends terms.old terms.new }
 {
     let mut walk = Walk::begin(alloc, terms, fields, invariants, operation.mode)?;
@@ -66,8 +69,10 @@ pub fn check_operations(
         → AreWanted (contains same_title book.wanted.now) k (operation_tree terms.old o) (map (invariant_tree terms.old) invariants.now) }
     requires book { IsBook terms.old book }
     ensures exact { Passes result (checks_fault (proofs_in terms.old book.entry.proofs.now)
-        (checks_from fields.now (map (invariant_tree terms.old) invariants.now) 0 (map (operation_tree terms.old) operations.now))) }
-    ensures shown { OnOk result (AreShown (checks_from fields.now (map (invariant_tree terms.old) invariants.now) 0 (map (operation_tree terms.old) operations.now))) }
+        (checks_from fields.now (map (invariant_tree terms.old) invariants.now) 0
+        (map (operation_tree terms.old) operations.now))) }
+    ensures shown { OnOk result (AreShown (checks_from fields.now (map (invariant_tree terms.old) invariants.now) 0
+        (map (operation_tree terms.old) operations.now))) }
     ensures keeps { Extends terms.old terms.new }
 {
     for (i, operation) in operations.iter().enumerate() {

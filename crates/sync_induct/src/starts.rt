@@ -83,7 +83,8 @@ impl Walk {
         mode: OpMode,
     ) -> Result<Walk, NoMemory>
         requires { AllByRecursion (λ (i : Declared). IsForm terms.old i.form) invariants.now }
-        ensures come { IfOk result (λ w. HasCome terms.new w (base_facts mode (map (invariant_tree terms.old) invariants.now)) (states.first_values fields.now mode)) }
+        ensures come { IfOk result (λ w. HasCome terms.new w
+            (base_facts mode (map (invariant_tree terms.old) invariants.now)) (states.first_values fields.now mode)) }
         ensures keeps { Extends terms.old terms.new }
     {
         let mut walk = Walk {
@@ -108,7 +109,9 @@ impl Walk {
     ) -> Result<(), NoMemory>
         requires walk { IsWalk terms.now self.old }
         requires forms { AllByRecursion (λ (i : Declared). IsForm terms.now i.form) invariants.now }
-        ensures { OnOk result (HasCome terms.now self.new (known_of terms.now self.old ++ invariant_facts (map (invariant_tree terms.now) invariants.now)) (values_of terms.now self.old)) }
+        ensures { OnOk result (HasCome terms.now self.new
+            (known_of terms.now self.old ++ invariant_facts (map (invariant_tree terms.now) invariants.now))
+            (values_of terms.now self.old)) }
     {
         for invariant in invariants {
             let params = Items::from_slice(alloc, invariant.params.as_slice())?;

@@ -65,7 +65,8 @@ impl Walk {
     /// The same, or the empty map.
     fn value_or_nil(&self, terms: &mut Terms, act: Act) -> Result<TermId, NoMemory>
         requires walk { IsWalk terms.old self.now }
-        ensures value { IfOk result (HasTerm terms.new (current_of (values_of terms.old self.now) (act_tree terms.old act))) }
+        ensures value { IfOk result (HasTerm terms.new
+            (current_of (values_of terms.old self.now) (act_tree terms.old act))) }
         ensures keeps { Extends terms.old terms.new }
     {
         if let Some(value) = self.value(act) {
@@ -88,7 +89,8 @@ impl Walk {
     ) -> Result<Statement, NoMemory>
         requires walk { IsWalk terms.old self.now }
         requires ids { HasActIds terms.old step.act }
-        ensures is { IfOk result (IsStatement terms.new fields.now op number (values_of terms.old self.now) (step_tree terms.old step)) }
+        ensures is { IfOk result (IsStatement terms.new fields.now op number (values_of terms.old self.now)
+            (step_tree terms.old step)) }
         ensures keeps { Extends terms.old terms.new }
     {
         Ok(Statement {
@@ -112,9 +114,11 @@ impl Walk {
         requires current { IsTerm terms.old statement.current }
         requires ids { HasActIds terms.old statement.step.act }
         requires book { IsBook terms.old book }
-        ensures exact { Passes result (checks_fault (proofs_in terms.old book.entry.proofs.now) (owed terms.old self.old statement)) }
+        ensures exact { Passes result (checks_fault (proofs_in terms.old book.entry.proofs.now)
+            (owed terms.old self.old statement)) }
         ensures shown { OnOk result (AreShown (owed terms.old self.old statement)) }
-        ensures come { OnOk result (HasCome terms.new self.new (known_of terms.old self.old) (values_of terms.old self.old)) }
+        ensures come { OnOk result (HasCome terms.new self.new (known_of terms.old self.old)
+            (values_of terms.old self.old)) }
         ensures keeps { Extends terms.old terms.new }
     {
         let Statement {
@@ -142,8 +146,11 @@ impl Walk {
         requires walk { IsWalk terms.old self.old }
         requires current { IsTerm terms.old statement.current }
         requires ids { HasActIds terms.old statement.step.act }
-        ensures exact { Passes result (size_fault statement.step.line (condition_size (condition_at terms.old statement))) }
-        ensures come { OnOk result (HasCome terms.new self.new (known_of terms.old self.old ++ condition_facts statement.number (condition_at terms.old statement)) (values_of terms.old self.old)) }
+        ensures exact { Passes result (size_fault statement.step.line
+            (condition_size (condition_at terms.old statement))) }
+        ensures come { OnOk result (HasCome terms.new self.new
+            (known_of terms.old self.old ++ condition_facts statement.number (condition_at terms.old statement))
+            (values_of terms.old self.old)) }
         ensures keeps { Extends terms.old terms.new }
     {
         match condition(
@@ -169,7 +176,8 @@ impl Walk {
     fn assign(&mut self, terms: &Terms, field: Option<u32>, value: TermId)
         requires walk { IsWalk terms.now self.old }
         requires value { IsTerm terms.now value }
-        ensures { HasCome terms.now self.new (known_of terms.now self.old) (values_with field (tree terms.now value) (values_of terms.now self.old)) }
+        ensures { HasCome terms.now self.new (known_of terms.now self.old)
+            (values_with field (tree terms.now value) (values_of terms.now self.old)) }
     {
         let Some(field) = field else {
             return;
@@ -186,7 +194,9 @@ impl Walk {
         requires current { IsTerm terms.old statement.current }
         requires ids { HasActIds terms.old statement.step.act }
         ensures exact { Passes result (size_fault statement.step.line (tree_size (value_at terms.old statement))) }
-        ensures come { OnOk result (HasCome terms.new self.new (known_of terms.old self.old) (values_with (statements.field_of (act_tree terms.old statement.step.act)) (value_at terms.old statement) (values_of terms.old self.old))) }
+        ensures come { OnOk result (HasCome terms.new self.new (known_of terms.old self.old)
+            (values_with (statements.field_of (act_tree terms.old statement.step.act)) (value_at terms.old statement)
+            (values_of terms.old self.old))) }
         ensures keeps { Extends terms.old terms.new }
     {
         let Statement {
@@ -217,9 +227,11 @@ impl Walk {
         requires walk { IsWalk terms.old self.old }
         requires ids { HasActIds terms.old step.act }
         requires book { IsBook terms.old book }
-        ensures exact { Passes result (checks_fault (proofs_in terms.old book.entry.proofs.now) (checks_at terms.old fields.now op number self.old step)) }
+        ensures exact { Passes result (checks_fault (proofs_in terms.old book.entry.proofs.now)
+            (checks_at terms.old fields.now op number self.old step)) }
         ensures shown { OnOk result (AreShown (checks_at terms.old fields.now op number self.old step)) }
-        ensures come { OnOk result (HasCome terms.new self.new (facts_after terms.old fields.now number self.old step) (values_after terms.old fields.now self.old step)) }
+        ensures come { OnOk result (HasCome terms.new self.new (facts_after terms.old fields.now number self.old step)
+            (values_after terms.old fields.now self.old step)) }
         ensures keeps { Extends terms.old terms.new }
     {
         let statement = self.meet(terms, fields, op, number, step)?;

@@ -32,7 +32,8 @@ impl Walk {
     pub fn add(&mut self, terms: &Terms, hyp: Hyp) -> Result<(), NoMemory>
         requires walk { IsWalk terms.now self.old }
         requires form { IsForm terms.now hyp.form }
-        ensures { OnOk result (HasCome terms.now self.new (known_of terms.now self.old ++ fact_of terms.now hyp ∷ []) (values_of terms.now self.old)) }
+        ensures { OnOk result (HasCome terms.now self.new (known_of terms.now self.old ++ fact_of terms.now hyp ∷ [])
+            (values_of terms.now self.old)) }
     {
         self.hyps.push(terms, hyp)?;
         Ok(())
@@ -51,9 +52,14 @@ impl Walk {
         requires walk { IsWalk terms.old self.old }
         requires ids { All (λ x. HasActIds terms.old x.act) steps.now }
         requires book { IsBook terms.old book }
-        ensures exact { Passes result (checks_fault (proofs_in terms.old book.entry.proofs.now) (step_checks fields.now op (values_of terms.old self.old) (known_of terms.old self.old) 1 (steps_tree terms.old steps.now))) }
-        ensures shown { OnOk result (AreShown (step_checks fields.now op (values_of terms.old self.old) (known_of terms.old self.old) 1 (steps_tree terms.old steps.now))) }
-        ensures come { OnOk result (HasCome terms.new self.new (facts_behind fields.now (values_of terms.old self.old) (known_of terms.old self.old) 1 (steps_tree terms.old steps.now))
+        ensures exact { Passes result (checks_fault (proofs_in terms.old book.entry.proofs.now)
+            (step_checks fields.now op (values_of terms.old self.old) (known_of terms.old self.old) 1
+            (steps_tree terms.old steps.now))) }
+        ensures shown { OnOk result (AreShown (step_checks fields.now op (values_of terms.old self.old)
+            (known_of terms.old self.old) 1 (steps_tree terms.old steps.now))) }
+        ensures come { OnOk result (HasCome terms.new self.new
+            (facts_behind fields.now (values_of terms.old self.old) (known_of terms.old self.old) 1
+            (steps_tree terms.old steps.now))
             (last_values fields.now (values_of terms.old self.old) (steps_tree terms.old steps.now))) }
         ensures keeps { Extends terms.old terms.new }
     {
