@@ -140,8 +140,12 @@ parts_step left ts = do
   e ← sign_at left sign.Semicolon b.1
   Ok (step.Parts h.0 a.0 b.0, e.1)
 
+-- a step made of a map, a key and the name that it gives
+abbrev pub LookupMaker : Type 0
+LookupMaker = RawExpr → RawExpr → RawName → RawStepKind
+
 -- a map and a key, as `read`, `size` and `total` take them
-unfoldable pub lookup_step : Sign → (RawExpr → RawExpr → RawName → RawStepKind) → ℕ → Reader RawStepKind
+unfoldable pub lookup_step : Sign → LookupMaker → ℕ → Reader RawStepKind
 lookup_step terminal made left ts = do
   s ← sign_at left terminal ts
   m ← expr_at left s.1

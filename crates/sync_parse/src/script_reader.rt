@@ -2,12 +2,9 @@
 ghost use Rattle.std.specs.Prelude.{◌≡◌, ◌-◌, ◌<◌};
 ghost use Rattle.sync_lex.specs.declared.signs.Sign.TheVariants as sign;
 ghost use Rattle.sync_parse.specs.declared.scripts.RawStepKind.TheVariants as step;
-ghost use Rattle.sync_parse.specs.declared.scripts.RawStepKind.{RawStepKind};
-ghost use Rattle.sync_parse_exprs.specs.declared.expressions.RawExpr.{RawExpr};
-ghost use Rattle.sync_parse_exprs.specs.declared.raw_names.RawName.{RawName};
 ghost use Rattle.sync_parse_exprs.specs.Faults.{Reads};
 ghost use Rattle.sync_parse_exprs.specs.Terminals.{series};
-ghost use Rattle.sync_parse.specs.Scripts.{statement_number, times_of, bounded_of, subject_at, hyp_at, as_name, scaled, part_at, same_step, sum_step, inst_step, parts_step, lookup_step, cong_step, blockless_step, split_step, cut_step, step_at, steps, nested, block_at, script_at};
+ghost use Rattle.sync_parse.specs.Scripts.{statement_number, times_of, bounded_of, subject_at, hyp_at, as_name, scaled, part_at, same_step, sum_step, inst_step, parts_step, LookupMaker, lookup_step, cong_step, blockless_step, split_step, cut_step, step_at, steps, nested, block_at, script_at};
 
 use crate::scripts::{
     RawBlock, RawHypName, RawPart, RawScript, RawScriptStep, RawStepKind, RawSubject,
@@ -204,7 +201,7 @@ fn lookup<'a>(
     left: u32,
     opening: Sign,
 ) -> Read<'a, (RawExpr, RawExpr, RawName)>
-    ensures { (made : RawExpr → RawExpr → RawName → RawStepKind) → Reads (λ x. (made x.0.0 x.0.1 x.0.2, x.1.now)) result (lookup_step opening made left terminals.now) }
+    ensures { (made : LookupMaker) → Reads (λ x. (made x.0.0 x.0.1 x.0.2, x.1.now)) result (lookup_step opening made left terminals.now) }
 {
     let (_, rest) = sign(terminals, left, opening)?;
     let (map, rest) = expr(alloc, rest, left)?;

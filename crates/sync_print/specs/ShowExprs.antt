@@ -3,14 +3,15 @@
 -- The productions have levels: 0 `==>`, 1 `||`, 2 `&&`, 3 relations, 4 sums, 5 a number times something, 6 operands and
 -- `!`. A place wants a level; what is of a lower level stands there in brackets, since the productions would give another tree
 -- or none without them.
-use Rattle.std.specs.Prelude.{ℕ, List, [], ◌∷◌, ◌++◌, nat_lt}
+use Rattle.std.specs.Prelude.{◌≡◌, ℕ, List, [], ◌∷◌, ◌++◌, nat_lt}
 use Rattle.sync_lex.specs.declared.signs.Sign.{Sign}
 use Rattle.sync_lex.specs.declared.signs.Sign.TheVariants as sign
 use Rattle.sync_parse_exprs.specs.declared.expressions.Function.{Function}
 use Rattle.sync_parse_exprs.specs.declared.expressions.Function.TheVariants as function
+use Rattle.sync_parse_exprs.specs.declared.expressions.Operator.{Operator}
 use Rattle.sync_parse_exprs.specs.declared.expressions.Special.{Special}
 use Rattle.sync_parse_exprs.specs.declared.expressions.Special.TheVariants as terminal
-use Rattle.sync_print.specs.Exprs.{Joint, implies, either, both, equal, at_most, below, plus, minus, Plain, number, name, param, nil, special, call, negation, times, two, Plains, none, more}
+use Rattle.sync_print.specs.Exprs.{Joint, implies, either, both, equal, at_most, below, plus, minus, Plain, number, name, param, nil, special, call, negation, times, two, Plains, none, more, joined}
 use Rattle.sync_print.specs.Lexemes.{Lexeme, one, one_name, one_number, needed, listed}
 
 abbrev pub special_sign : Special → Sign
@@ -118,3 +119,8 @@ abbrev mutual
 -- the canonical lexemes of an expression
 abbrev pub show_expr : Plain → List Lexeme
 show_expr e = (shown e).at 0
+
+-- two with this operator are shown with this sign between, on this level, and their sides at places of these levels
+abbrev pub IsShownBetween : Operator → ℕ → ℕ → Sign → ℕ → Type 0
+IsShownBetween o own left s right = (a b : Plain) (wanted : ℕ)
+    → (shown (joined o a b)).at wanted ≡ before own wanted ++ (shown a).at left ++ one s ++ (shown b).at right ++ behind own wanted

@@ -1,9 +1,9 @@
 //! Writing expressions. A place wants a level, as in the definitions: 0 `==>`, 1 `||`, 2 `&&`, 3 relations, 4 sums,
 //! 5 a number times something, 6 operands and `!`.
-ghost use Rattle.std.specs.Prelude.{◌≡◌, ℕ, ◌++◌, map, unsigned_abs, OnOk};
-ghost use Rattle.sync_print.specs.Exprs.{Plain, joined, plain};
+ghost use Rattle.std.specs.Prelude.{◌≡◌, ◌++◌, map, unsigned_abs, OnOk};
+ghost use Rattle.sync_print.specs.Exprs.{plain};
 ghost use Rattle.sync_print.specs.Lexemes.{one, printed, listed};
-ghost use Rattle.sync_print.specs.ShowExprs.{before, behind, shown, show_expr, function_sign, special_sign};
+ghost use Rattle.sync_print.specs.ShowExprs.{IsShownBetween, shown, show_expr, function_sign, special_sign};
 
 use crate::lexemes::{name, needed, number, sign};
 use std::alloc::{AllocError, Global};
@@ -56,7 +56,7 @@ struct Shape {
 
 /// The shape of an operator; `!=` is shown as the negation of `=` is.
 fn shape_of(operator: Operator) -> Shape
-    ensures { (a b : Plain) (wanted : ℕ) → (shown (joined operator a b)).at wanted ≡ before result.own wanted ++ (shown a).at result.left ++ one result.sign ++ (shown b).at result.right ++ behind result.own wanted }
+    ensures { IsShownBetween operator result.own result.left result.sign result.right }
 {
     let (own, left, right, sign) = match operator {
         Operator::Implies => (0, 1, 0, Sign::Implies),
