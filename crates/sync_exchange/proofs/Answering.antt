@@ -1,25 +1,24 @@
 -- The values that an exchange answers are what its bound names stand for at its end.
-use Rattle.std.proofs.Common.{◌≡◌, ◌≤◌, ℕ, ℤ, pos, Ok, Bool, true, false, ◌&&◌, List, [], ◌∷◌, ◌++◌, length, append_assoc, append-nil, Option, Some, None, is_none, refl, sym, ap, subst, ◌∙◌, if◌then◌else◌, nat_eq, nat_lt}
+use Rattle.std.proofs.Common.{◌≡◌, ◌≤◌, ℕ, ℤ, pos, Ok, Bool, true, false, List, [], ◌∷◌, ◌++◌, length, append_assoc, append-nil, Option, Some, None, is_none, refl, sym, ap, subst, ◌∙◌, if◌then◌else◌, nat_eq, nat_lt}
 use Rattle.std.specs.List.{cons_option}
 use Rattle.std.proofs.lemmas.Bool.{eq-eqb}
 use Rattle.sync_terms.specs.Values.{Valuation}
 use Rattle.sync_machine.specs.declared.fields.Field.{Field}
 use Rattle.sync_base.specs.declared.strategies.Strategy.{Strategy}
-use Rattle.sync_base.specs.declared.strategies.Strategy.TheVariants.{Variable, Constant, NotTokenized, Option as OptionField, Map, Set, Multiset, Count, PersistentOption, PersistentMap, PersistentSet, PersistentCount, StorageMap}
+use Rattle.sync_base.specs.declared.strategies.Strategy.TheVariants.{Variable}
 use Rattle.sync_machine.specs.Machines.{PlaceTree, ActTree, StepTree}
 use Rattle.sync_machine.specs.Machines as acts
 use Rattle.sync_machine.specs.Naming.{bound_by, bound_names}
 use Rattle.sync_machine.specs.Statements.{binds}
 use Rattle.sync_machine.specs.States.{Value, strategy_at, strategy_of, AreGiven}
 use Rattle.sync_rules.specs.declared.slots.Role.{Role}
-use Rattle.sync_rules.specs.declared.slots.Role.TheVariants.{Change, Taken, Read, Given, In, Out, Seen}
+use Rattle.sync_rules.specs.declared.slots.Role.TheVariants.{Given}
 use Rattle.sync_rules.specs.Shapes.{has_shape, fits}
 use Rattle.sync_rules.specs.Slots.{SlotTree}
-use Rattle.sync_join.specs.declared.tokens.Token.{Token}
 use Rattle.sync_join.specs.Shards.{perm}
 use Rattle.sync_join.specs.Join.{number_of}
 use Rattle.sync_exchange.specs.declared.hands.XStop.TheVariants.{Differs, Width, RequireFalse}
-use Rattle.sync_exchange.specs.Exchange.{Exchanging, Answer, unless, named, is_at_place, token_name, revaluing, after_reading, after_taking, after_seeing, after_giving, binding, storing, withdrawn, permission, key_at, started, updated, new_value, use_variable, use_variables, does, does_all}
+use Rattle.sync_exchange.specs.Exchange.{Exchanging, named, is_at_place, token_name, revaluing, after_reading, after_taking, after_seeing, after_giving, binding, storing, withdrawn, permission, key_at, started, updated, new_value, use_variable, use_variables, does, does_all}
 use Rattle.sync_exchange.proofs.Terms.{and_right}
 use Rattle.sync_exchange.proofs.Passing.{either, unless-ok, ok_is, bind-ok, asked-token, asked-object}
 use Rattle.sync_exchange.proofs.Going.{AreLawful, known-bound, fresh-beyond, names-kept_all}

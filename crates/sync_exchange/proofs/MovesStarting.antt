@@ -1,11 +1,10 @@
 -- What an init leaves is a beginning of lists of moves.
-use Rattle.std.proofs.Common.{◌≡◌, List, [], ◌∷◌, ◌++◌, Some, refl, sym, ap, subst, ◌∙◌, append-nil}
-use Rattle.sync_machine.specs.Machines.{MachineTree}
+use Rattle.std.proofs.Common.{◌≡◌, List, [], ◌∷◌, ◌++◌, sym, ap, subst, ◌∙◌, append-nil}
 use Rattle.sync_machine.specs.States.{starts}
 use Rattle.sync_join.specs.declared.tokens.Token.{Token}
 use Rattle.sync_join.specs.Shards.{AreSoundShards}
 use Rattle.sync_join.specs.Join.{join_of}
-use Rattle.sync_exchange.specs.Exchange.{Exchanged, tokens_in}
+use Rattle.sync_exchange.specs.Exchange.{tokens_in}
 use Rattle.sync_exchange.proofs.Projecting.{initialises}
 use Rattle.sync_exchange.specs.Moves.{bag_of}
 use Rattle.sync_exchange.specs.MoveLaws.{StartsGoOn}

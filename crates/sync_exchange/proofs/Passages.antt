@@ -1,5 +1,5 @@
 -- A whole exchange over what its code has at hand.
-use Rattle.std.proofs.Common.{◌≡◌, ℕ, ℤ, Bool, List, [], ◌++◌, length, map, filter_map, Ok, sym, ap, subst, ◌∙◌}
+use Rattle.std.proofs.Common.{◌≡◌, ℕ, ℤ, Bool, List, ◌++◌, length, map, filter_map, Ok, sym, ap, subst, ◌∙◌}
 use Rattle.std.specs.List.{range_with_len}
 use Rattle.sync_terms.specs.Maps as maps
 use Rattle.sync_terms.specs.declared.nodes.Sym.{Sym}

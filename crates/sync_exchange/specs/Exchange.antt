@@ -14,7 +14,7 @@ use Rattle.sync_terms.specs.Maps as maps
 use Rattle.sync_terms.specs.Values.{Valuation, num, truth, with_value}
 use Rattle.sync_machine.specs.declared.fields.Field.{Field}
 use Rattle.sync_base.specs.declared.strategies.Strategy.{Strategy}
-use Rattle.sync_base.specs.declared.strategies.Strategy.TheVariants.{Variable, Constant, NotTokenized, Option as OptionField, Map, Set, Multiset, Count, PersistentOption, PersistentMap, PersistentSet, PersistentCount, StorageMap}
+use Rattle.sync_base.specs.declared.strategies.Strategy.TheVariants.{Variable, Constant, NotTokenized, Count, PersistentOption, PersistentMap, PersistentSet, PersistentCount, StorageMap}
 use Rattle.sync_machine.specs.Machines.{PatternTree, Bind, Term, PlaceTree, ActTree, StepTree, OperationTree, MachineTree}
 use Rattle.sync_machine.specs.Machines as acts
 use Rattle.sync_machine.specs.Statements.{key_of, value_of, binds}
@@ -23,7 +23,7 @@ use Rattle.sync_join.specs.declared.tokens.Token.{Token}
 use Rattle.sync_join.specs.Shards.{Kept, perm}
 use Rattle.sync_join.specs.Join.{tokens_of, map_of, entries_of, number_of, record_at}
 use Rattle.sync_rules.specs.declared.slots.Role.{Role}
-use Rattle.sync_rules.specs.declared.slots.Role.TheVariants.{Change, Taken, Read, Given, In, Out, Seen}
+use Rattle.sync_rules.specs.declared.slots.Role.TheVariants.{Given}
 use Rattle.sync_rules.specs.Slots.{SlotTree, field_slot}
 use Rattle.sync_exchange_values.specs.Fitting.{number_fits, map_fits, form_fits}
 use Rattle.sync_exchange.specs.declared.hands.Held.{Held}

@@ -7,6 +7,8 @@ use Rattle.sync_machine.specs.States.{strategy_at}
 use Rattle.sync_join.specs.declared.tokens.Token.{Token}
 use Rattle.sync_join.specs.Shards.{Kept, AreSoundShards}
 use Rattle.sync_join.specs.Join.{join_of}
+use Rattle.sync_machine.specs.declared.machine.Machine.{Machine}
+use Rattle.sync_exchange.specs.declared.hands.Hand.{Hand}
 use Rattle.sync_exchange.specs.declared.hands.Held.{Held}
 use Rattle.sync_exchange.specs.Exchange.{held_as, tokens_in}
 
@@ -53,6 +55,10 @@ IsHeld hs name = (t : Token) × (held_as name hs ≡ Some t)
 abbrev pub KeepsShards : List Field → List Held → List Held → Type 0
 KeepsShards fs old new = (others : List Token) (kept : Kept) → AreSoundShards fs (tokens_in old ++ others) kept
     → AreSoundShards fs (tokens_in new ++ others) kept × (join_of fs (tokens_in new ++ others) kept ≡ join_of fs (tokens_in old ++ others) kept)
+
+-- the whole of one hand and of another
+abbrev pub KeepsHand : Machine → Hand → Hand → Type 0
+KeepsHand m old new = KeepsShards m.fields old.held new.held
 
 abbrev pub is_persistent : Strategy → Bool
 is_persistent PersistentOption = true

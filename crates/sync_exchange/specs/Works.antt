@@ -1,15 +1,16 @@
 -- What the parts of an exchange under way stand for.
-use Rattle.std.specs.Prelude.{◌≡◌, ℕ, ℤ, pos, Bool, true, false, List, [], ◌∷◌, ◌++◌, length, map, drop, slice_index_or, slice_set, nat_lt, nat_eq, if◌then◌else◌, Option, Some, None, Result, filter_map}
+use Rattle.std.specs.Prelude.{◌≡◌, ℕ, ℤ, pos, Bool, true, false, List, [], ◌∷◌, ◌++◌, length, map, drop, slice_index_or, slice_set, nat_lt, nat_eq, if◌then◌else◌, Option, Some, None, Result, OnOk, filter_map}
 use Rattle.std.specs.List.{range_with_len}
 use Rattle.std.specs.Ordering.{int_eq}
 use Rattle.sync_base.specs.Outcome.{first, ◌>>=◌}
+use Rattle.sync_base.specs.declared.stops.NoMemory.{NoMemory}
 use Rattle.sync_terms.specs.declared.nodes.Sym.{Sym}
 use Rattle.sync_terms.specs.Maps as maps
 use Rattle.sync_terms.specs.Trees.{Tree, Formula}
 use Rattle.sync_terms.specs.Values.{Valuation, num, mapped, truth, with_value}
 use Rattle.sync_machine.specs.declared.fields.Field.{Field}
 use Rattle.sync_base.specs.declared.strategies.Strategy.{Strategy}
-use Rattle.sync_base.specs.declared.strategies.Strategy.TheVariants.{Variable, Constant, NotTokenized, Option as OptionField, Map, Set, Multiset, Count, PersistentOption, PersistentMap, PersistentSet, PersistentCount, StorageMap}
+use Rattle.sync_base.specs.declared.strategies.Strategy.TheVariants.{StorageMap}
 use Rattle.sync_machine.specs.States.{Value, Number, Mapped, State, Sort, Numbers, Maps, strategy_at}
 use Rattle.sync_machine.specs.Machines.{PatternTree, Bind, Term, PlaceTree, ActTree, StepTree}
 use Rattle.sync_machine.specs.Statements.{one, or_one}
@@ -35,7 +36,7 @@ use Rattle.sync_exchange.specs.declared.cases.Case.{Case}
 use Rattle.sync_exchange.specs.declared.evaluation.Found.{Found}
 use Rattle.sync_exchange.specs.declared.hands.XStop.{XStop}
 use Rattle.sync_join.specs.declared.values.Value.{Value as StoredValue}
-use Rattle.sync_exchange.specs.Exchange.{Exchanging, Exchanged, Answer, seen, argument, key_at, amount_at, place_fits, value_fits, new_value, asked_token, asked_object, use_variables, does, does_all}
+use Rattle.sync_exchange.specs.Exchange.{Exchanging, Exchanged, Answer, seen, argument, key_at, amount_at, place_fits, value_fits, new_value, asked_token, asked_object, recording, storing, withdrawn, started, updated, use_variables, does, does_all}
 use Rattle.sync_exchange.specs.Outcomes.{Gives, Leaves, Measures}
 
 -- ---- records
@@ -239,3 +240,25 @@ left_by w vs = record {
   kept = record { records = recorded w.changes (map value_tree vs); stored = w.stored };
   bound = w.bound;
 }
+
+-- a field has its first value, and a new one
+abbrev pub StartsAs : {A : Type 0} → Result A NoMemory → Case → ℕ → StoredValue → Work → Work → Type 0
+StartsAs result c f v old new = OnOk result (now_of c new ≡ started (strategy_at c.outer.fields.now f) f (value_tree v) (now_of c old))
+
+abbrev pub ChangesAs : {A : Type 0} → Result A NoMemory → Case → ℕ → StoredValue → Work → Work → Type 0
+ChangesAs result c f v old new = OnOk result (now_of c new ≡ updated (strategy_at c.outer.fields.now f) f (value_tree v) (now_of c old))
+
+-- the slots of variables and the statements are as the definition has them, or it stopped as the definition stops
+abbrev pub UsesAs : {A : Type 0} → Result A XStop → Case → List SlotTree → Work → Work → Type 0
+UsesAs result c slots old new = Leaves result (now_of c new) (use_variables slots (now_of c old))
+
+abbrev pub ActsAll : {A : Type 0} → Result A XStop → Case → List StepTree → Work → Work → Type 0
+ActsAll result c steps old new = Leaves result (now_of c new) (does_all is_narrow c.outer.fields.now steps (now_of c old))
+
+-- a field has another record; the object at a key is no longer stored
+abbrev pub RecordsAs : {A : Type 0} → Result A NoMemory → Base → ℕ → Change → Work → Work → Type 0
+RecordsAs result b f change old new =
+    OnOk result (under_way b new ≡ recording f (changed change (value_in_list (under_way b old).kept.records f)) (under_way b old))
+
+abbrev pub WithdrawsAs : {A : Type 0} → Result A NoMemory → Base → ℕ → ℤ → Work → Work → Type 0
+WithdrawsAs result b f k old new = OnOk result (under_way b new ≡ storing (withdrawn f k (under_way b old).kept.stored) (under_way b old))

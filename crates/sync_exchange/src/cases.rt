@@ -11,8 +11,7 @@ use std::alloc::Global;
 use sync_join::Token;
 use sync_machine::Machine;
 
-/// Where memory comes from, a machine, what symbols stand for before the first slot, and the names that are said slot by
-/// slot.
+/// The allocator, a machine, what symbols stand for before the first slot, and the names said slot by slot.
 #[derive(Clone, Copy)]
 pub(crate) struct Case<'a> {
     pub alloc: Global,

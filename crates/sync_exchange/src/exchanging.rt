@@ -1,12 +1,11 @@
 //! Exchanges: operations of a machine done locally, on the tokens of one holder.
 ghost use Rattle.std.specs.Prelude.{◌≡◌, ◌<◌, length, map, IfOk, OnErr};
 ghost use Rattle.std.specs.List.{AllByRecursion};
-ghost use Rattle.sync_machine.specs.Machines.{OperationTree};
 ghost use Rattle.sync_machine.specs.Views.{steps_tree, HasActIds, HasOwnIds};
 ghost use Rattle.sync_machine.specs.declared.machine.Step.{Step as Statement};
-ghost use Rattle.sync_join.specs.Views.{value_tree, kept_of};
-ghost use Rattle.sync_exchange.specs.Calls.{IsOperation, whole_of, exchange_at, IsStepAt, IsStartAt};
-ghost use Rattle.sync_exchange.specs.Outcomes.{Gives, Leaves, Exchanges};
+ghost use Rattle.sync_join.specs.Views.{value_tree};
+ghost use Rattle.sync_exchange.specs.Calls.{whole_of, ExchangesAt, IsStepOf, IsStartOf, RunsAt};
+ghost use Rattle.sync_exchange.specs.Outcomes.{Leaves};
 ghost use Rattle.sync_exchange.specs.Works.{now_of, finished, fresh, left_by, goes_on};
 
 use crate::cases::Case;
@@ -22,8 +21,7 @@ use sync_join::{Rest, State, Value};
 use sync_machine::{Machine, Step};
 use sync_rules::variable_slots;
 
-/// Does the operation with this number on the tokens of one holder and on what is kept beside all tokens, and tells
-/// the values of the names that it binds.
+/// Does an operation on the tokens of one holder and on what is kept, and tells the values of the names that it binds.
 ///
 /// Token names and new names are said slot by slot. `whole` is the joined state; it is read where the new value of a
 /// field without tokens names what is not at hand, and counts as empty where it is not given. The first failure in the
@@ -44,10 +42,10 @@ pub fn exchange(
 ) -> Result<Bound, XStop>
     requires ids { HasOwnIds m.now }
     requires op { op < length m.now.ops }
-    ensures exact { (o : OperationTree) → IsOperation m.now op o → Exchanges result hand.new.held (kept_of rest.new) (exchange_at m.now o args.now names.now (whole_of whole.entry) hand.old rest.old) }
+    ensures exact { ExchangesAt result m.now op args.now names.now (whole_of whole.entry) hand.old rest.old hand.new rest.new }
     ensures unchanged { OnErr result ((hand.new ≡ hand.old) × (rest.new ≡ rest.old)) }
-    ensures steps { IfOk result (λ b. (o : OperationTree) → IsOperation m.now op o → IsStepAt m.now o args.now names.now (whole_of whole.entry) hand.old rest.old b hand.new rest.new) }
-    ensures starts { IfOk result (λ b. (o : OperationTree) → IsOperation m.now op o → IsStartAt m.now o args.now names.now hand.old rest.old b hand.new rest.new) }
+    ensures steps { IfOk result (λ b. IsStepOf m.now op args.now names.now (whole_of whole.entry) hand.old rest.old b hand.new rest.new) }
+    ensures starts { IfOk result (λ b. IsStartOf m.now op args.now names.now hand.old rest.old b hand.new rest.new) }
 {
     exchange_exactly(alloc, m, op, args, names, whole, hand, rest)
 }
@@ -65,7 +63,7 @@ fn exchange_exactly(
 ) -> Result<Bound, XStop>
     requires ids { HasOwnIds m.now }
     requires op { op < length m.now.ops }
-    ensures exact { (o : OperationTree) → IsOperation m.now op o → Exchanges result hand.new.held (kept_of rest.new) (exchange_at m.now o args.now names.now (whole_of whole.entry) hand.old rest.old) }
+    ensures exact { ExchangesAt result m.now op args.now names.now (whole_of whole.entry) hand.old rest.old hand.new rest.new }
     ensures unchanged { OnErr result ((hand.new ≡ hand.old) × (rest.new ≡ rest.old)) }
 {
     let done = run(alloc, m, op, args, names, values_of(whole), hand, rest)?;
@@ -104,7 +102,7 @@ fn run<'x>(
 ) -> Result<Finished, XStop>
     requires ids { HasOwnIds m.now }
     requires op { op < length m.now.ops }
-    ensures exact { (o : OperationTree) → IsOperation m.now op o → Gives (finished rest.now.records) result (exchange_at m.now o args.now names.now (map value_tree whole.now) hand.now rest.now) }
+    ensures exact { RunsAt result m.now op args.now names.now (map value_tree whole.now) hand.now rest.now }
     ensures len { IfOk result (λ x. length x.records ≡ length rest.now.records) }
 {
     let operation = &m.ops.as_slice()[op as usize];

@@ -19,8 +19,7 @@ pub(crate) struct Known {
     pub number: i128,
 }
 
-/// What symbols stand for before the first slot: records, stored objects and the whole state for the fields, and the
-/// arguments for the parameters.
+/// What symbols stand for before the first slot: what is kept and the whole state, and the arguments.
 #[derive(Clone, Copy)]
 pub(crate) struct Outer<'a> {
     pub fields: &'a [Field],

@@ -4,7 +4,7 @@ ghost use Rattle.std.specs.Int.{w128};
 ghost use Rattle.sync_exchange.specs.declared.hands.Held.{Held as Owned};
 ghost use Rattle.sync_base.specs.declared.strategies.Strategy.TheVariants.{Count};
 ghost use Rattle.sync_machine.specs.States.{strategy_at};
-ghost use Rattle.sync_exchange.specs.Splitting.{held, split_of, merged_of, copied_of, is_persistent, OfHeld, OfBoth, IsHeld, KeepsShards};
+ghost use Rattle.sync_exchange.specs.Splitting.{held, split_of, merged_of, copied_of, is_persistent, OfHeld, OfBoth, IsHeld, KeepsHand};
 
 use crate::hands::{Hand, Held};
 use std::alloc::Global;
@@ -60,7 +60,7 @@ pub fn split_token(
     requires natural { pos 0 ≤ℤ amount }
     requires within { OfHeld hand.old.held name (λ t. amount ≤ℤ t.value) }
     ensures split { OfHeld hand.old.held name (λ t. OnOk result (hand.new.held ≡ split_of name t amount first second hand.old.held)) }
-    ensures keeps { OfHeld hand.old.held name (λ t. strategy_at _m.now.fields t.field ≡ Count → OnOk result (KeepsShards _m.now.fields hand.old.held hand.new.held)) }
+    ensures keeps { OfHeld hand.old.held name (λ t. strategy_at _m.now.fields t.field ≡ Count → OnOk result (KeepsHand _m.now hand.old hand.new)) }
     ensures unchanged { OnErr result (hand.new ≡ hand.old) }
 {
     let Some(at) = place_of(hand.held.as_slice(), name) else {
@@ -82,7 +82,7 @@ pub fn merge_tokens(_m: &Machine, hand: &mut Hand, a: u32, b: u32, into: u32)
     requires apart { a ≢ b }
     requires fits { OfBoth hand.old.held a b (λ t u. FitsSigned w128 (t.value +ℤ u.value)) }
     ensures merged { OfBoth hand.old.held a b (λ t u. hand.new.held ≡ merged_of a t b u into hand.old.held) }
-    ensures keeps { OfBoth hand.old.held a b (λ t u. u.field ≡ t.field → strategy_at _m.now.fields t.field ≡ Count → KeepsShards _m.now.fields hand.old.held hand.new.held) }
+    ensures keeps { OfBoth hand.old.held a b (λ t u. u.field ≡ t.field → strategy_at _m.now.fields t.field ≡ Count → KeepsHand _m.now hand.old hand.new) }
 {
     let Some(second) = place_of(hand.held.as_slice(), b) else {
         unreachable!()
@@ -108,7 +108,7 @@ pub fn copy_token(
 ) -> Result<(), NoMemory>
     requires { IsHeld hand.old.held name }
     ensures copied { OfHeld hand.old.held name (λ t. OnOk result (hand.new.held ≡ copied_of t new hand.old.held)) }
-    ensures keeps { OfHeld hand.old.held name (λ t. is_persistent (strategy_at _m.now.fields t.field) ≡ true → OnOk result (KeepsShards _m.now.fields hand.old.held hand.new.held)) }
+    ensures keeps { OfHeld hand.old.held name (λ t. is_persistent (strategy_at _m.now.fields t.field) ≡ true → OnOk result (KeepsHand _m.now hand.old hand.new)) }
     ensures unchanged { OnErr result (hand.new ≡ hand.old) }
 {
     let Some(at) = place_of(hand.held.as_slice(), name) else {

@@ -6,14 +6,12 @@ ghost use Rattle.sync_machine.specs.Machines as acts;
 ghost use Rattle.sync_machine.specs.States as states;
 ghost use Rattle.sync_machine.specs.Views.{step_tree, steps_tree, act_tree, place_tree, HasActIds, HasPlaceIds};
 ghost use Rattle.sync_machine.specs.declared.machine.Step.{Step as Statement};
-ghost use Rattle.sync_entries.specs.Narrow.{is_narrow};
 ghost use Rattle.sync_join.specs.Join as shards;
 ghost use Rattle.sync_join.specs.Views.{value_tree};
 ghost use Rattle.sync_rules.specs.Views.{slots_tree};
 ghost use Rattle.sync_exchange.specs.Exchange as exchanges;
-ghost use Rattle.sync_exchange.specs.Exchange.{does_all};
 ghost use Rattle.sync_exchange.specs.Outcomes.{Leaves};
-ghost use Rattle.sync_exchange.specs.Works.{now_of, changed, ActsAt, ActsAs};
+ghost use Rattle.sync_exchange.specs.Works.{now_of, changed, StartsAs, ChangesAs, UsesAs, ActsAt, ActsAs, ActsAll};
 
 use crate::cases::{Asked, Case};
 use crate::changes::Change;
@@ -112,7 +110,7 @@ impl Work {
 
     /// The slots of variables, one after another.
     pub(crate) fn use_variables(&mut self, case: &Case<'_>, slots: &[Slot]) -> Result<(), XStop>
-        ensures { Leaves result (now_of case.now self.new) (exchanges.use_variables (slots_tree case.now.m.now.terms slots.now) (now_of case.now self.old)) }
+        ensures { UsesAs result case.now (slots_tree case.now.m.now.terms slots.now) self.old self.new }
     {
         for slot in slots {
             self.use_variable(case, slot)?;
@@ -133,7 +131,7 @@ impl Work {
 
     /// A field has its first value.
     fn start(&mut self, case: &Case<'_>, field: u32, value: Value) -> Result<(), NoMemory>
-        ensures { OnOk result (now_of case.now self.new ≡ exchanges.started (states.strategy_at case.now.outer.fields.now field) field (value_tree value) (now_of case.now self.old)) }
+        ensures { StartsAs result case.now field value self.old self.new }
     {
         match strategy_at(case.outer.fields, field) {
             Strategy::Variable => self.revalue(case, field, number(&value)),
@@ -157,7 +155,7 @@ impl Work {
 
     /// A variable or a field without tokens has a new value.
     fn change(&mut self, case: &Case<'_>, field: u32, value: Value) -> Result<(), NoMemory>
-        ensures { OnOk result (now_of case.now self.new ≡ exchanges.updated (states.strategy_at case.now.outer.fields.now field) field (value_tree value) (now_of case.now self.old)) }
+        ensures { ChangesAs result case.now field value self.old self.new }
     {
         match strategy_at(case.outer.fields, field) {
             Strategy::Variable => self.revalue(case, field, number(&value)),
@@ -308,7 +306,7 @@ impl Work {
     /// The statements of an operation, one after another.
     pub(crate) fn act_all(&mut self, case: &Case<'_>, steps: &[Step]) -> Result<(), XStop>
         requires { AllByRecursion (λ (s : Statement). HasActIds case.now.m.now.terms s.act) steps.now }
-        ensures { Leaves result (now_of case.now self.new) (does_all is_narrow case.now.outer.fields.now (steps_tree case.now.m.now.terms steps.now) (now_of case.now self.old)) }
+        ensures { ActsAll result case.now (steps_tree case.now.m.now.terms steps.now) self.old self.new }
     {
         for step in steps {
             self.act(case, step)?;

@@ -5,7 +5,7 @@ ghost use Rattle.sync_join.specs.declared.tokens.Token.{Token as Piece};
 ghost use Rattle.sync_exchange.specs.Exchange as exchanges;
 ghost use Rattle.sync_exchange.specs.Exchange.{after_reading, after_taking, after_seeing, after_giving, knowing, binding, recording, storing, revaluing};
 ghost use Rattle.sync_exchange.specs.Outcomes.{Gives};
-ghost use Rattle.sync_exchange.specs.Works.{Base, base_of, under_way, changed, value_in_list, variables_of};
+ghost use Rattle.sync_exchange.specs.Works.{Base, base_of, under_way, variables_of, RecordsAs, WithdrawsAs};
 
 use crate::cases::{Asked, Case};
 use crate::changes::{Change, Recording};
@@ -179,7 +179,7 @@ impl Work {
 
     /// A field has another record.
     pub(crate) fn record(&mut self, field: u32, change: Change) -> Result<(), NoMemory>
-        ensures { (b : Base) → OnOk result (under_way b self.new ≡ recording field (changed change (value_in_list (under_way b self.old).kept.records field)) (under_way b self.old)) }
+        ensures { (b : Base) → RecordsAs result b field change self.old self.new }
     {
         self.changes.push(Recording { field, change })?;
         Ok(())
@@ -200,7 +200,7 @@ impl Work {
         field: u32,
         asked: Asked,
     ) -> Result<(), NoMemory>
-        ensures { (b : Base) → OnOk result (under_way b self.new ≡ storing (exchanges.withdrawn field asked.key (under_way b self.old).kept.stored) (under_way b self.old)) }
+        ensures { (b : Base) → WithdrawsAs result b field asked.key self.old self.new }
     {
         self.stored = withdrawn(case.alloc, self.stored.as_slice(), field, asked.key)?;
         Ok(())

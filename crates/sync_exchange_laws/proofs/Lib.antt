@@ -9,5 +9,6 @@ pub mod Bringing
 pub mod Stopping
 pub mod Progressing
 pub mod Handling
+pub mod Along
 mod Examples
 mod Meeting

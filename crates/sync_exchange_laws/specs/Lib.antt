@@ -2,3 +2,4 @@ pub mod Permissions
 pub mod Conditions
 pub mod Widths
 pub mod Progress
+pub mod Along

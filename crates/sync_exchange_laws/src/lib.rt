@@ -1,6 +1,7 @@
 //! Laws of exchanges that what stands on them needs: they do nothing, and their clauses are proved.
 #![tactic(auto)]
 
+ghost use Rattle.sync_exchange_laws.specs.Along.{ExchangesGoAlong};
 ghost use Rattle.sync_exchange_laws.specs.Conditions.{ConditionsMakeSteps};
 ghost use Rattle.sync_exchange_laws.specs.Permissions.{PermissionsStay, FirstPermissionsStay, MovesKeepPermissions, WritesKeepShards, PermissionIsOnly, StoredIsOnly};
 ghost use Rattle.sync_exchange_laws.specs.Progress.{Progresses, StopsAreHolders};
@@ -54,4 +55,9 @@ pub fn exchanges_progress()
 /// An exchange stops for a token that is missing or differs or for a require that is false, and for nothing else.
 pub fn stops_are_holders()
     ensures { StopsAreHolders }
+{}
+
+/// An exchange that succeeds goes along one valuation: each token and object has the key and the value of its terms there.
+pub fn exchanges_go_along()
+    ensures { ExchangesGoAlong }
 {}

@@ -1,5 +1,5 @@
 -- Steps of the walk: what an answer is where its parts have theirs.
-use Rattle.std.proofs.Common.{◌≡◌, ℤ, Bool, true, false, ◌&&◌, Result, Ok, Err, refl, sym, ap, subst, ◌∙◌}
+use Rattle.std.proofs.Common.{◌≡◌, ℤ, Bool, true, false, ◌&&◌, Result, Ok, Err, sym, ap, subst, ◌∙◌}
 use Rattle.std.specs.Prelude.{FitsSigned, IfOk, OnOk}
 use Rattle.std.specs.Int.{w128}
 use Rattle.sync_terms.specs.Maps.{Map}
@@ -11,7 +11,7 @@ use Rattle.sync_exchange_values.specs.declared.operators.Relation.{Relation}
 use Rattle.sync_exchange_values.specs.declared.operators.Connective.{Connective}
 use Rattle.sync_entries.specs.Narrow.{is_narrow}
 use Rattle.sync_exchange_values.specs.Steps.{Evaluates, answer, operated, related, connected}
-use Rattle.sync_exchange_values.proofs.Narrowness.{narrow_of, wide_of, and_true, left_false, right_false}
+use Rattle.sync_exchange_values.proofs.Narrowness.{narrow_of, wide_of, and_true, right_false}
 
 pub stop : {A B : Type 0} (e : EvalStop) (x : A) (z : B) (f g : Bool) → (f ≡ false → g ≡ false) → Evaluates {A = A} (Err e) x f → Evaluates {A = B} (Err e) z g
 stop Width x z f g h k = h k

@@ -16,7 +16,7 @@ use Rattle.sync_exchange_values.specs.declared.operators.Operator.TheVariants as
 use Rattle.sync_exchange_values.specs.Fitting.{number_fits, map_fits, values_fit}
 use Rattle.sync_entries.specs.Narrow.{is_narrow}
 use Rattle.sync_exchange_values.specs.Steps.{Evaluates, answer, operated}
-use Rattle.sync_exchange_values.proofs.Narrowness.{and_true, left_false, right_false, narrow_of}
+use Rattle.sync_exchange_values.proofs.Narrowness.{left_false, right_false, narrow_of}
 use Rattle.sync_exchange_values.proofs.Evaluating.{exact, asked_of, stop}
 
 -- the answers at an id of the store

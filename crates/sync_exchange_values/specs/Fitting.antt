@@ -1,9 +1,8 @@
 -- Which terms and formulas have values within a bound, all of their parts among them.
 --
 -- `fits` says which numbers are within it. A map is within it where its values are.
-use Rattle.std.specs.Prelude.{ℤ, ◌≤ℤ◌, Bool, true, ◌&&◌, int_le}
+use Rattle.std.specs.Prelude.{ℤ, Bool, true, ◌&&◌}
 use Rattle.std.specs.List.{list_all}
-use Rattle.std.specs.Int.{w128}
 use Rattle.std.specs.FinMap as finmap
 use Rattle.sync_terms.specs.Trees.{Tree, Lit, Name, Add, Sub, Scale, Get, Has, Size, Sum, Nil, Put, Del, Bump, Formula, Le, Lt, Eq, Not, And, Or, Imp}
 use Rattle.sync_terms.specs.Maps as maps

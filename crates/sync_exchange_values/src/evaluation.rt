@@ -1,10 +1,7 @@
 //! The walk over stored terms.
-ghost use Rattle.std.specs.Prelude.{◌≡◌, ◌<◌, ◌&&◌, length};
+ghost use Rattle.std.specs.Prelude.{◌<◌, length};
 ghost use Rattle.sync_terms.specs.Stored.{tree, formula, IsTerm, IsForm};
-ghost use Rattle.sync_terms.specs.Values.{num, mapped, truth};
-ghost use Rattle.sync_exchange_values.specs.Fitting.{number_fits, map_fits, form_fits};
-ghost use Rattle.sync_entries.specs.Narrow.{is_narrow};
-ghost use Rattle.sync_exchange_values.specs.Steps.{Evaluates, answer};
+ghost use Rattle.sync_exchange_values.specs.Evaluations.{EvaluatesNumber, EvaluatesMap, EvaluatesTruth, EvaluatesAnswer};
 
 use crate::changes::{bumped, copied, put, removed};
 use crate::meanings::Meanings;
@@ -28,7 +25,7 @@ impl<'a, M: Meanings> Evaluation<'a, M> {
     #[cycle(terms)]
     pub(crate) fn number(&self, t: TermId) -> Result<i128, EvalStop>
         requires { IsTerm self.now.terms.now t }
-        ensures { Evaluates result (num (M.meaning self.now.names.now) (tree self.now.terms.now t)) (number_fits is_narrow (M.meaning self.now.names.now) (tree self.now.terms.now t)) }
+        ensures { EvaluatesNumber result (M.meaning self.now.names.now) (tree self.now.terms.now t) }
     {
         match self.terms.term(t) {
             Node::Lit(n) => Ok(n),
@@ -54,7 +51,7 @@ impl<'a, M: Meanings> Evaluation<'a, M> {
     #[cycle(terms)]
     fn ask(&self, m: TermId, question: Question) -> Result<i128, EvalStop>
         requires { IsTerm self.now.terms.now m }
-        ensures { let map = mapped (M.meaning self.now.names.now) (tree self.now.terms.now m) in Evaluates result (answer question map) (map_fits is_narrow (M.meaning self.now.names.now) (tree self.now.terms.now m) && is_narrow (answer question map)) }
+        ensures { EvaluatesAnswer result (M.meaning self.now.names.now) question (tree self.now.terms.now m) }
     {
         match self.terms.term(m) {
             Node::Name(x) => match self.names.map(x) {
@@ -75,7 +72,7 @@ impl<'a, M: Meanings> Evaluation<'a, M> {
     #[cycle(terms)]
     pub(crate) fn map(&self, t: TermId) -> Result<Entries, EvalStop>
         requires { IsTerm self.now.terms.now t }
-        ensures { Evaluates result (mapped (M.meaning self.now.names.now) (tree self.now.terms.now t)) (map_fits is_narrow (M.meaning self.now.names.now) (tree self.now.terms.now t)) }
+        ensures { EvaluatesMap result (M.meaning self.now.names.now) (tree self.now.terms.now t) }
     {
         match self.terms.term(t) {
             Node::Name(x) => match self.names.map(x) {
@@ -103,7 +100,7 @@ impl<'a, M: Meanings> Evaluation<'a, M> {
     /// A formula, with all of its terms.
     pub(crate) fn truth(&self, f: FormId) -> Result<bool, EvalStop>
         requires { IsForm self.now.terms.now f }
-        ensures { Evaluates result (truth (M.meaning self.now.names.now) (formula self.now.terms.now f)) (form_fits is_narrow (M.meaning self.now.names.now) (formula self.now.terms.now f)) }
+        ensures { EvaluatesTruth result (M.meaning self.now.names.now) (formula self.now.terms.now f) }
     {
         match self.terms.form(f) {
             FormNode::Le(a, b) => Relation::Le.apply(self.number(a), self.number(b)),

@@ -1,7 +1,7 @@
-use Rattle.std.proofs.Common.{rules, ◌≡◌, ◌<ℤ◌, ◌≤ℤ◌, ℤ, pos, ◌+ℤ◌, Bool, true, false, not, ◌&&◌, Option, is_some, unwrap_or, sym, ap, subst, ◌∙◌, refl, arith, to_z, of_z, if◌then◌else◌}
+use Rattle.std.proofs.Common.{rules, ◌&&◌, ◌∙◌, to_z, of_z}
 use Rattle.std.specs.Prelude.{FitsSigned}
 use Rattle.std.specs.Int.{w128}
-use Rattle.std.proofs.lemmas.Int.{ints, to_z-of_z, to_z_pos}
+use Rattle.std.proofs.lemmas.Int.{to_z-of_z}
 use Rattle.sync_terms.specs.Maps as maps
 use Rattle.sync_exchange_values.proofs.Narrowness.{left_false, right_false}
 use Rattle.sync_exchange_values.proofs.Evaluating.{stop_at, got}

@@ -1,7 +1,7 @@
-use Rattle.std.proofs.Common.{rules, ◌≡◌, ◌<ℤ◌, ◌≤ℤ◌, ℤ, pos, ◌+ℤ◌, Bool, true, false, not, ◌&&◌, Option, is_some, unwrap_or, sym, ap, subst, ◌∙◌, refl, arith, to_z, of_z, if◌then◌else◌}
+use Rattle.std.proofs.Common.{rules, ℤ, pos, sym, subst, ◌∙◌, refl, to_z, of_z}
 use Rattle.std.specs.Prelude.{FitsSigned}
 use Rattle.std.specs.Int.{w128}
-use Rattle.std.proofs.lemmas.Int.{ints, to_z-of_z, to_z_pos}
+use Rattle.std.proofs.lemmas.Int.{to_z-of_z}
 use Rattle.sync_exchange_values.specs.declared.questions.Question.TheVariants as question
 use Rattle.sync_exchange_values.proofs.Nodes.{AnswerAt, lit_at, name_at, add_at, sub_at, scale_at, get_at, has_at, get_stop, has_stop, size_at, sum_at, no_number, named_at, put_at, del_at, bump_at, empty_at, named_answer, built_answer, stopped_answer}
 use Rattle.sync_exchange_values.proofs.evaluation.Evaluation.+terms.Goals as goal
