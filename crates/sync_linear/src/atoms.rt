@@ -12,6 +12,25 @@ use std::collections::BTreeMap;
 /// How many times each atom stands in a line, none of them 0.
 pub(crate) type Atoms = BTreeMap<u32, i128>;
 
+/// Changes how many times an atom stands there that does not stand there yet.
+fn start_at(atoms: &mut Atoms, how: Change, id: u32, by: &i128) -> Result<(), LinearStop>
+    requires { times atoms.old.entries id ≡ pos 0 }
+    ensures fits { OnOk result (ChangeFits how (times atoms.old.entries id) by.now) }
+    ensures width { result ≡ Err Width → ChangeFits how (times atoms.old.entries id) by.now → ⊥ }
+    ensures others { OnOk result ((q : ℕ) → times atoms.new.entries q
+        ≡ (if nat_eq id q then changed how (times atoms.old.entries q) by.now else times atoms.old.entries q)) }
+    ensures no_zero { OnOk result (HasNoZero atoms.old.entries → HasNoZero atoms.new.entries) }
+{
+    match how.of(Pair { old: 0, by: *by }) {
+        None => Err(LinearStop::Width),
+        Some(0) => Ok(()),
+        Some(new) => {
+            atoms.insert(id, new)?;
+            Ok(())
+        }
+    }
+}
+
 /// Changes how many times one atom stands there.
 pub(crate) fn change_at(
     atoms: &mut Atoms,
@@ -21,18 +40,24 @@ pub(crate) fn change_at(
 ) -> Result<(), LinearStop>
     ensures fits { OnOk result (ChangeFits how (times atoms.old.entries id) by.now) }
     ensures width { result ≡ Err Width → ChangeFits how (times atoms.old.entries id) by.now → ⊥ }
-    ensures others { OnOk result ((q : ℕ) → times atoms.new.entries q ≡ (if nat_eq id q then changed how (times atoms.old.entries q) by.now else times atoms.old.entries q)) }
+    ensures others { OnOk result ((q : ℕ) → times atoms.new.entries q
+        ≡ (if nat_eq id q then changed how (times atoms.old.entries q) by.now else times atoms.old.entries q)) }
     ensures no_zero { OnOk result (HasNoZero atoms.old.entries → HasNoZero atoms.new.entries) }
 {
-    let old = atoms.get(&id).copied().unwrap_or(0);
-    match how.of(Pair { old, by: *by }) {
+    let Some(times) = atoms.get_mut(&id) else {
+        return start_at(atoms, how, id, by);
+    };
+    match how.of(Pair {
+        old: *times,
+        by: *by,
+    }) {
         None => Err(LinearStop::Width),
         Some(0) => {
             atoms.remove(&id);
             Ok(())
         }
         Some(new) => {
-            atoms.insert(id, new)?;
+            *times = new;
             Ok(())
         }
     }
@@ -41,9 +66,12 @@ pub(crate) fn change_at(
 /// All the atoms of `by` change those of `atoms`, which are given back.
 pub(crate) fn change_all(atoms: Atoms, how: Change, by: &Atoms) -> Result<Atoms, LinearStop>
     requires { HasNoZero by.now.entries }
-    ensures changed { IfOk result (λ new. (q : ℕ) → times new.entries q ≡ changed how (times atoms.entries q) (times by.now.entries q)) }
-    ensures fits { OnOk result ((q : ℕ) → times by.now.entries q ≢ pos 0 → ChangeFits how (times atoms.entries q) (times by.now.entries q)) }
-    ensures width { result ≡ Err Width → ((q : ℕ) → ChangeFits how (times atoms.entries q) (times by.now.entries q)) → ⊥ }
+    ensures changed { IfOk result (λ new. (q : ℕ) → times new.entries q
+        ≡ changed how (times atoms.entries q) (times by.now.entries q)) }
+    ensures fits { OnOk result ((q : ℕ) → times by.now.entries q ≢ pos 0
+        → ChangeFits how (times atoms.entries q) (times by.now.entries q)) }
+    ensures width { result ≡ Err Width → ((q : ℕ) → ChangeFits how (times atoms.entries q) (times by.now.entries q))
+        → ⊥ }
     ensures no_zero { IfOk result (λ new. HasNoZero atoms.entries → HasNoZero new.entries) }
 {
     let mut sum = atoms;

@@ -210,10 +210,13 @@ impl Linear {
         second: TermId,
     ) -> Result<Linear, LinearStop>
         requires { IsTerm terms.now second }
-        ensures line { IfOk result (λ line. (first : Tree) → IsLineOf terms.now first self → IsLineOf terms.now (joined how first (tree terms.now second)) line) }
-        ensures fits { OnOk result ((first : Tree) → IsLineOf terms.now first self → JoinFits how first (tree terms.now second)) }
+        ensures line { IfOk result (λ line. (first : Tree) → IsLineOf terms.now first self
+            → IsLineOf terms.now (joined how first (tree terms.now second)) line) }
+        ensures fits { OnOk result ((first : Tree) → IsLineOf terms.now first self
+            → JoinFits how first (tree terms.now second)) }
         ensures narrow { OnOk result (Narrow (tree terms.now second)) }
-        ensures width { result ≡ Err Width → (first : Tree) → IsLineOf terms.now first self → JoinFits how first (tree terms.now second) → Narrow (tree terms.now second) → ⊥ }
+        ensures width { result ≡ Err Width → (first : Tree) → IsLineOf terms.now first self
+            → JoinFits how first (tree terms.now second) → Narrow (tree terms.now second) → ⊥ }
     {
         match part_of(terms, second) {
             Part::Alone(leaf) => self.changed_by_leaf(how, leaf),
