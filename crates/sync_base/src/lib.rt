@@ -2,6 +2,7 @@
 #![tactic(auto)]
 
 mod gates;
+mod limits;
 mod mem_sinks;
 mod mem_sources;
 mod names;
@@ -14,6 +15,7 @@ mod strategies;
 mod tables;
 
 pub use gates::{Gate, OpenGate};
+pub use limits::{LARGEST, LONGEST_NAME, LONGEST_TEXT};
 pub use mem_sinks::MemSink;
 pub use mem_sources::MemSource;
 pub use names::{Name, NameList};
@@ -23,6 +25,3 @@ pub use sources::Source;
 pub use stops::{Failed, NoMemory, Refusal, Rule, Stop};
 pub use strategies::{OpMode, Strategy};
 pub use tables::Table;
-
-#[cfg(test)]
-mod tests;

@@ -2,19 +2,20 @@
 use Rattle.std.proofs.Common.{◌≡◌, ℕ, zero, suc, ◌+◌, ◌-◌, ◌<◌, ◌≤◌, add-one, length, drop, take, drop-cons, length-drop, ◌≢◌, ne_eqb, get_or, arith, List, [], ◌∷◌, ◌++◌, Ok, Err, refl, sym, ap, ◌∙◌, append_assoc}
 use Rattle.std.proofs.lemmas.List.{append-nil, drop_all, take_all}
 use Rattle.std.proofs.lemmas.Bool.{le-ltb}
+use Rattle.sync_base.specs.Limits.{longest_text}
 use Rattle.sync_base.specs.declared.stops.Rule.{Rule}
 use Rattle.sync_base.specs.Outcome.{◌>>=◌}
 use Rattle.sync_lex.specs.declared.lexemes.Kind.{Kind}
 use Rattle.sync_lex.specs.declared.lexemes.Lexeme.{Lexeme}
 use Rattle.sync_lex.specs.declared.pieces.Piece.{Piece}
-use Rattle.sync_lex.specs.declared.pieces.Piece.TheVariants.{Gap, Word, Broken}
+use Rattle.sync_lex.specs.declared.pieces.Piece.TheVariants.{Gap, Match, Broken}
 use Rattle.sync_lex.specs.Pieces.{piece}
-use Rattle.sync_lex.specs.Lexemes.{Lexed, line_after, with_first, placed, lexemes_from, lexemes_of}
+use Rattle.sync_lex.specs.Lexemes.{Lexed, line_after, with_first, with_piece, lexemes_from, lexemes_of}
 
 -- as placed, behind the lexemes found so far
 abbrev pub held_on : List Lexeme → ℕ → ℕ → Piece → (List Lexeme → ℕ → Lexed) → Lexed
 held_on held at line (Gap len) follows = follows held (len - 1)
-held_on held at line (Word kind len) follows = follows (held ++ record { kind = kind; start = at; end = at + len; line = line } ∷ []) (len - 1)
+held_on held at line (Match kind len) follows = follows (held ++ record { kind = kind; start = at; end = at + len; line = line } ∷ []) (len - 1)
 held_on held at line (Broken rule) follows = Err (record { line = line; rule = rule })
 
 -- the loop: lexemes_from, behind the lexemes found so far
@@ -31,9 +32,9 @@ held_first held x (Ok r) = ap (λ (xs : List Lexeme). Ok (xs, r.1)) (append_asso
 held_first held x (Err e) = refl
 
 held_placed : (held : List Lexeme) (at line : ℕ) (p : Piece) (follows : List Lexeme → ℕ → Lexed) (alone : ℕ → Lexed)
-    → ((more : List Lexeme) (skip : ℕ) → follows more skip ≡ with_front more (alone skip)) → held_on held at line p follows ≡ with_front held (placed at line p alone)
+    → ((more : List Lexeme) (skip : ℕ) → follows more skip ≡ with_front more (alone skip)) → held_on held at line p follows ≡ with_front held (with_piece at line p alone)
 held_placed held at line (Gap len) follows alone same = same held (len - 1)
-held_placed held at line (Word kind len) follows alone same =
+held_placed held at line (Match kind len) follows alone same =
     let x : Lexeme = record { kind = kind; start = at; end = at + len; line = line } in
     same (held ++ x ∷ []) (len - 1) ∙ held_first held x (alone (len - 1))
 held_placed held at line (Broken rule) follows alone same = refl
@@ -74,7 +75,7 @@ module _ (text : List ℕ) (held : List Lexeme) (at line : ℕ) (total : Lexed) 
       → held_from held (at + 1) (line_after (get_or text at 0) line) (len - 1) (drop (at + 1) text) ≡ total
   gap_begins len lt is so_far = rw (← is) at (begins lt so_far)
 
-  pub word_begins : (kind : Kind) (len : ℕ) → at < length text → Word kind len ≡ piece (drop at text) → held_from held at line 0 (drop at text) ≡ total
+  pub word_begins : (kind : Kind) (len : ℕ) → at < length text → Match kind len ≡ piece (drop at text) → held_from held at line 0 (drop at text) ≡ total
       → held_from (held ++ record { kind = kind; start = at; end = at + len; line = line } ∷ []) (at + 1) (line_after (get_or text at 0) line) (len - 1) (drop (at + 1) text) ≡ total
   word_begins kind len lt is so_far = rw (← is) at (begins lt so_far)
 
@@ -96,6 +97,6 @@ pub is_same_line : (b line new : ℕ) → b ≢ 10 → new ≡ line → new ≡ 
 is_same_line b line new other is = rw (ne_eqb b 10 other) is
 
 -- where the text is not too long, the loop gives its lexemes
-pub whole : (text : List ℕ) → length text ≤ 1048576 → lexemes_of text ≡ held_from [] 0 1 0 text
+pub whole : (text : List ℕ) → length text ≤ longest_text → lexemes_of text ≡ held_from [] 0 1 0 text
 unfolding lexemes_of
-whole text le = rw (le-ltb 1048576 (length text) le) (held_is 0 1 0 text)
+whole text le = rw (le-ltb longest_text (length text) le) (held_is 0 1 0 text)

@@ -3,6 +3,7 @@ pub mod SignLen
 pub mod Numbers
 pub mod Within
 pub mod Matches
+pub mod Parting
 pub mod Places
 pub mod TerminalNumbers
 pub mod Interned

@@ -9,13 +9,15 @@ use Rattle.std.proofs.lemmas.Bool.Decides.{nat_tests}
 use Rattle.std.proofs.lemmas.List.Folds.{length-prefix_len}
 use lib.Pointwise.{bytes_decides}
 use Rattle.sync_lex.specs.declared.pieces.Piece.{Piece}
-use Rattle.sync_lex.specs.declared.pieces.Piece.TheVariants.{Gap, Word, Broken}
+use Rattle.sync_lex.specs.declared.pieces.Piece.TheVariants.{Gap, Match, Broken}
 use Rattle.sync_lex.specs.declared.lexemes.Kind.{Kind}
 use Rattle.sync_lex.specs.declared.lexemes.Kind.TheVariants.{Name, Number, Sign}
 use Rattle.sync_base.specs.declared.stops.Rule.TheVariants.{L3, L4}
 use Rattle.sync_lex.specs.Bytes.{is_blank, begins_name, continues_name, number_value}
-use Rattle.sync_lex.specs.Punctuation.{signs, longest, sign_len}
-use Rattle.sync_lex.specs.Pieces.{largest, name_piece, number_piece, sign_piece, piece}
+use Rattle.sync_lex.specs.Signs.{spelling_of}
+use Rattle.sync_lex.specs.Punctuation.{punctuation, longest, sign_len}
+use Rattle.sync_lex.specs.Pieces.{name_piece, number_piece, sign_piece, piece}
+use Rattle.sync_base.specs.Limits.{largest, longest_name}
 use Rattle.sync_lex.specs.Spelling.{IsSpelled}
 use Rattle.sync_lex.proofs.SignLen.{both}
 use Rattle.sync_lex.proofs.Numbers.{digit_bounds}
@@ -27,7 +29,7 @@ NoLonger bytes len = (kind : Kind) (n : ℕ) → len < n → n ≤ length bytes 
 
 abbrev pub IsMatch : List ℕ → Piece → Type 0
 IsMatch bytes (Gap len) = Unit {0}
-IsMatch bytes (Word kind len) = IsSpelled kind (take len bytes) × NoLonger bytes len
+IsMatch bytes (Match kind len) = IsSpelled kind (take len bytes) × NoLonger bytes len
 IsMatch bytes (Broken rule) = Unit {0}
 
 module _ (p : ℕ → Bool) where
@@ -58,8 +60,8 @@ all_at p (word ∷ words) (suc k) d e lt = all_at p words k d (both (p word) (li
 begins_other : ℕ → Bool
 begins_other b = not (begins_name b || is_ascii_digit b)
 
-signs_begin_other : list_all (λ sign. begins_other (get_or sign 0 0)) signs ≡ true
-unfolding begins_other begins_name
+signs_begin_other : list_all (λ sign. begins_other (get_or sign 0 0)) punctuation ≡ true
+unfolding begins_other begins_name spelling_of
 signs_begin_other = refl
 
 neither : (a b : Bool) → not (a || b) ≡ true → (a ≡ false) × (b ≡ false)
@@ -67,10 +69,10 @@ neither true b e = absurd cc
 neither false true e = absurd cc
 neither false false e = (refl, refl)
 
-sign_begins : (b : ℕ) (bytes : List ℕ) → Contains signs (b ∷ bytes) → (begins_name b ≡ false) × (is_ascii_digit b ≡ false)
+sign_begins : (b : ℕ) (bytes : List ℕ) → Contains punctuation (b ∷ bytes) → (begins_name b ≡ false) × (is_ascii_digit b ≡ false)
 unfolding begins_other
 sign_begins b bytes (k, lt, e) =
-    let other = all_at (λ sign. begins_other (get_or sign 0 0)) signs k (b ∷ bytes) signs_begin_other lt in
+    let other = all_at (λ sign. begins_other (get_or sign 0 0)) punctuation k (b ∷ bytes) signs_begin_other lt in
     neither (begins_name b) (is_ascii_digit b) (rw e at other)
 
 digit_begins : (b : ℕ) → is_ascii_digit b ≡ true → begins_name b ≡ false
@@ -89,7 +91,7 @@ name_no_longer b bytes e Sign (suc n) lt le spelled = false≢true (sym (sign_be
 name_is_match : (b : ℕ) (bytes : List ℕ) → begins_name b ≡ true → IsMatch (b ∷ bytes) (name_piece (prefix_len continues_name (b ∷ bytes)))
 name_is_match b bytes e =
     let len = prefix_len continues_name (b ∷ bytes) in
-    by_test (IsMatch (b ∷ bytes)) (nat_lt 64 len) (Broken L4) (Word Name len) (λ _. tt)
+    by_test (IsMatch (b ∷ bytes)) (nat_lt longest_name len) (Broken L4) (Match Name len) (λ _. tt)
     (λ _. (rw (take_run continues_name b bytes (continues b e)) (e, prefix_passes continues_name bytes), name_no_longer b bytes e))
 
 number_no_longer : (b : ℕ) (bytes : List ℕ) (len : ℕ) → len ≡ prefix_len is_ascii_digit (b ∷ bytes) → is_ascii_digit b ≡ true → NoLonger (b ∷ bytes) len
@@ -106,7 +108,7 @@ number_is_match : (b : ℕ) (bytes : List ℕ) → is_ascii_digit b ≡ true →
 number_is_match b bytes e =
     let digits = take_while is_ascii_digit (b ∷ bytes) in
     let is = length-prefix_len is_ascii_digit (b ∷ bytes) in
-    by_test (IsMatch (b ∷ bytes)) (nat_lt largest (number_value digits)) (Broken L3) (Word Number (length digits)) (λ _. tt)
+    by_test (IsMatch (b ∷ bytes)) (nat_lt largest (number_value digits)) (Broken L3) (Match Number (length digits)) (λ _. tt)
     (λ _. (number_spelled b bytes (length digits) is e, number_no_longer b bytes (length digits) is e))
 
 max_is : (a b c : ℕ) → max a b ≡ c → (a ≡ c) ⊎ (b ≡ c)
@@ -150,14 +152,14 @@ sign_no_longer b bytes no_name no_digit Number (suc n) lt le spelled =
 sign_no_longer b bytes no_name no_digit Sign (suc n) lt le (k, lt_k, e) =
     let all = b ∷ bytes in
     let own = starts_own (suc n) all le in
-    let most = longest_ge signs all k (take (suc n) all) lt_k (ap (starts_with nat_eq all) e ∙ own) in
+    let most = longest_ge punctuation all k (take (suc n) all) lt_k (ap (starts_with nat_eq all) e ∙ own) in
     absurd (omega (arith, most, ap length e, length-take (suc n) all))
 
 sign_is_match : (b : ℕ) (bytes : List ℕ) (len : ℕ) → len ≡ sign_len (b ∷ bytes) → begins_name b ≡ false → is_ascii_digit b ≡ false → IsMatch (b ∷ bytes) (sign_piece len)
 unfolding sign_len
 sign_is_match b bytes zero is no_name no_digit = tt
 sign_is_match b bytes (suc len) is no_name no_digit =
-    (longest_is_in signs (b ∷ bytes) len (sym is), rw is (sign_no_longer b bytes no_name no_digit))
+    (longest_is_in punctuation (b ∷ bytes) len (sym is), rw is (sign_no_longer b bytes no_name no_digit))
 
 pub piece_is_match : (bytes : List ℕ) → IsMatch bytes (piece bytes)
 unfolding piece

@@ -9,7 +9,8 @@ use Rattle.std.proofs.lemmas.Bool.Decides.{nat_tests}
 use Rattle.std.proofs.lemmas.Bool.{leb-true, lt-ltb}
 use Rattle.sync_base.specs.declared.stops.Rule.TheVariants.{L3}
 use Rattle.sync_lex.specs.declared.pieces.Piece.TheVariants.{Broken}
-use Rattle.sync_lex.specs.Pieces.{largest, number_piece}
+use Rattle.sync_lex.specs.Pieces.{number_piece}
+use Rattle.sync_base.specs.Limits.{largest}
 use Rattle.sync_lex.proofs.SignLen.{both}
 use Rattle.sync_lex.specs.Bytes.{number_value}
 

@@ -1,9 +1,11 @@
 -- The longest sign is of three bytes, of two, of one, or there is none.
-use Rattle.std.proofs.Common.{◌≡◌, ℕ, Bool, true, false, cond, max, eqb, List, [], ◌∷◌, ◌++◌, length, refl, arith}
+use Rattle.std.proofs.Common.{◌≡◌, ℕ, Bool, true, false, cond, max, eqb, List, [], ◌∷◌, ◌++◌, length, map, refl, arith}
 use Rattle.std.specs.Prelude.{codes, nat_eq, ◌&&◌, ◌||◌}
 use Rattle.std.specs.List.{starts_with, list_all}
 use Rattle.std.proofs.lemmas.Bool.{eqb-true}
-use Rattle.sync_lex.specs.Punctuation.{pairs, singles, begins_any, longest, sign_len}
+use Rattle.sync_lex.specs.declared.signs.Sign.TheVariants as sign
+use Rattle.sync_lex.specs.Signs.{singles, doubles, spelling_of}
+use Rattle.sync_lex.specs.Punctuation.{begins_any, longest, sign_len}
 
 pub both : (a b : Bool) → (a && b) ≡ true → (a ≡ true) × (b ≡ true)
 both true true e = (refl, refl)
@@ -46,6 +48,7 @@ longest_of_table triple twos ones bytes three two one =
     rw (longest-append twos ones bytes, longest_of_len 2 twos bytes two, longest_of_len 1 ones bytes one)
     (chosen (length triple) (starts_with nat_eq bytes triple) (begins_any twos bytes) (begins_any ones bytes) three)
 
-pub sign_len_is : (bytes : List ℕ) → sign_len bytes ≡ cond (starts_with nat_eq bytes (codes "==>")) 3 (cond (begins_any pairs bytes) 2 (cond (begins_any singles bytes) 1 0))
-unfolding sign_len
-sign_len_is bytes = longest_of_table (codes "==>") pairs singles bytes refl refl refl
+pub sign_len_is : (bytes : List ℕ)
+    → sign_len bytes ≡ cond (starts_with nat_eq bytes (codes "==>")) 3 (cond (begins_any (map spelling_of doubles) bytes) 2 (cond (begins_any (map spelling_of singles) bytes) 1 0))
+unfolding sign_len spelling_of
+sign_len_is bytes = longest_of_table (spelling_of sign.Implies) (map spelling_of doubles) (map spelling_of singles) bytes refl refl refl

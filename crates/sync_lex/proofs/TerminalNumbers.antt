@@ -1,6 +1,7 @@
 -- Cutting a decimal number off on the way or at its end.
 use Rattle.std.proofs.Common.{◌≡◌, ℕ, ◌+◌, ◌-◌, ◌*◌, ◌<◌, List, [], ◌∷◌, length, drop, get_or, min, sym, ap, ◌∙◌, arith, add-one, drop-cons}
-use Rattle.sync_lex.specs.Terminals.{largest, decimal_after}
+use Rattle.sync_lex.specs.Terminals.{decimal_after}
+use Rattle.sync_base.specs.Limits.{largest}
 
 -- digits behind two numbers that are alike up to l
 pub alike : (l : ℕ) (digits : List ℕ) (a b : ℕ) → min l a ≡ min l b → min l (decimal_after a digits) ≡ min l (decimal_after b digits)

@@ -9,19 +9,20 @@ use Rattle.std.proofs.lemmas.List.Sums.{prefix_len-le-length}
 use Rattle.std.proofs.lemmas.List.Folds.{length-prefix_len}
 use lib.Pointwise.{pointwise, pointwise_long}
 use Rattle.sync_lex.specs.declared.pieces.Piece.{Piece}
-use Rattle.sync_lex.specs.declared.pieces.Piece.TheVariants.{Gap, Word, Broken}
+use Rattle.sync_lex.specs.declared.pieces.Piece.TheVariants.{Gap, Match, Broken}
 use Rattle.sync_lex.specs.declared.lexemes.Kind.{Kind}
 use Rattle.sync_lex.specs.declared.lexemes.Kind.TheVariants.{Name, Number}
+use Rattle.sync_base.specs.Limits.{largest, longest_name}
 use Rattle.sync_base.specs.declared.stops.Rule.TheVariants.{L3, L4}
 use Rattle.sync_lex.specs.Bytes.{is_blank, begins_name, continues_name, number_value}
-use Rattle.sync_lex.specs.Punctuation.{signs, longest, sign_len}
+use Rattle.sync_lex.specs.Punctuation.{punctuation, longest, sign_len}
 use Rattle.sync_lex.specs.Pieces.{name_piece, number_piece, sign_piece, piece}
 use Rattle.sync_lex.proofs.SignLen.{both}
 
 -- the piece is not empty and lies within so many bytes
 abbrev pub IsIn : ℕ → Piece → Type 0
 IsIn size (Gap len) = (0 < len) × (len ≤ size)
-IsIn size (Word kind len) = (0 < len) × (len ≤ size)
+IsIn size (Match kind len) = (0 < len) × (len ≤ size)
 IsIn size (Broken rule) = Unit {0}
 
 -- a fact of the piece that a test chooses
@@ -58,14 +59,14 @@ longest_within (word ∷ words) bytes =
 
 sign_within : (bytes : List ℕ) → sign_len bytes ≤ length bytes
 unfolding sign_len
-sign_within bytes = longest_within signs bytes
+sign_within bytes = longest_within punctuation bytes
 
 name_is_in : (size len : ℕ) → (0 < len) × (len ≤ size) → IsIn size (name_piece len)
-name_is_in size len fits = by_test (IsIn size) (nat_lt 64 len) (Broken L4) (Word Name len) (λ _. tt) (λ _. fits)
+name_is_in size len fits = by_test (IsIn size) (nat_lt longest_name len) (Broken L4) (Match Name len) (λ _. tt) (λ _. fits)
 
 number_is_in : (size : ℕ) (digits : List ℕ) → (0 < length digits) × (length digits ≤ size) → IsIn size (number_piece digits)
 number_is_in size digits fits =
-    by_test (IsIn size) (nat_lt 170141183460469231731687303715884105727 (number_value digits)) (Broken L3) (Word Number (length digits)) (λ _. tt) (λ _. fits)
+    by_test (IsIn size) (nat_lt largest (number_value digits)) (Broken L3) (Match Number (length digits)) (λ _. tt) (λ _. fits)
 
 sign_is_in : (size len : ℕ) → len ≤ size → IsIn size (sign_piece len)
 sign_is_in size zero le = tt
@@ -85,5 +86,5 @@ piece_is_in (b ∷ bytes) =
 pub gap_fits : (bytes : List ℕ) (len : ℕ) → Gap len ≡ piece bytes → (0 < len) × (len ≤ length bytes)
 gap_fits bytes len e = subst (IsIn (length bytes)) (sym e) (piece_is_in bytes)
 
-pub word_fits : (bytes : List ℕ) (kind : Kind) (len : ℕ) → Word kind len ≡ piece bytes → (0 < len) × (len ≤ length bytes)
+pub word_fits : (bytes : List ℕ) (kind : Kind) (len : ℕ) → Match kind len ≡ piece bytes → (0 < len) × (len ≤ length bytes)
 word_fits bytes kind len e = subst (IsIn (length bytes)) (sym e) (piece_is_in bytes)

@@ -5,7 +5,8 @@ use Rattle.sync_base.specs.declared.stops.Rule.TheVariants.{L1}
 use Rattle.sync_base.specs.Outcome.{◌>>=◌}
 use Rattle.sync_lex.specs.declared.lexemes.Lexeme.{Lexeme}
 use Rattle.sync_lex.specs.declared.pieces.Piece.{Piece}
-use Rattle.sync_lex.specs.declared.pieces.Piece.TheVariants.{Gap, Word, Broken}
+use Rattle.sync_lex.specs.declared.pieces.Piece.TheVariants.{Gap, Match, Broken}
+use Rattle.sync_base.specs.Limits.{longest_text}
 use Rattle.sync_lex.specs.Pieces.{piece}
 
 -- lexemes in order and the line of the end, or the first broken rule
@@ -20,17 +21,17 @@ abbrev pub with_first : Lexeme → Lexed → Lexed
 with_first x rest = rest >>= λ r. Ok (x ∷ r.0, r.1)
 
 -- a piece at this place and line, and what follows it where so many bytes more belong to it
-abbrev pub placed : ℕ → ℕ → Piece → (ℕ → Lexed) → Lexed
-placed at line (Gap len) follows = follows (len - 1)
-placed at line (Word kind len) follows = with_first (record { kind = kind; start = at; end = at + len; line = line }) (follows (len - 1))
-placed at line (Broken rule) follows = Err (record { line = line; rule = rule })
+abbrev pub with_piece : ℕ → ℕ → Piece → (ℕ → Lexed) → Lexed
+with_piece at line (Gap len) follows = follows (len - 1)
+with_piece at line (Match kind len) follows = with_first (record { kind = kind; start = at; end = at + len; line = line }) (follows (len - 1))
+with_piece at line (Broken rule) follows = Err (record { line = line; rule = rule })
 
 -- the lexemes from a place and a line on, where the next so many bytes belong to a piece before them
 unfoldable pub lexemes_from : ℕ → ℕ → ℕ → List ℕ → Lexed
 lexemes_from at line skip [] = Ok ([], line)
 lexemes_from at line (suc skip) (b ∷ bytes) = lexemes_from (at + 1) (line_after b line) skip bytes
-lexemes_from at line zero (b ∷ bytes) = placed at line (piece (b ∷ bytes)) (λ skip. lexemes_from (at + 1) (line_after b line) skip bytes)
+lexemes_from at line zero (b ∷ bytes) = with_piece at line (piece (b ∷ bytes)) (λ skip. lexemes_from (at + 1) (line_after b line) skip bytes)
 
--- the lexemes of a text and the line of its end; a text has at most 1,048,576 bytes
+-- the lexemes of a text and the line of its end
 unfoldable pub lexemes_of : List ℕ → Lexed
-lexemes_of text = if nat_lt 1048576 (length text) then Err (record { line = 1; rule = L1 }) else lexemes_from 0 1 0 text
+lexemes_of text = if nat_lt longest_text (length text) then Err (record { line = 1; rule = L1 }) else lexemes_from 0 1 0 text

@@ -5,26 +5,23 @@ use Rattle.std.specs.List.{starts_with, prefix_len, take_while}
 use Rattle.sync_base.specs.declared.stops.Rule.TheVariants.{L2, L3, L4}
 use Rattle.sync_lex.specs.declared.lexemes.Kind.TheVariants.{Name, Number, Sign}
 use Rattle.sync_lex.specs.declared.pieces.Piece.{Piece}
-use Rattle.sync_lex.specs.declared.pieces.Piece.TheVariants.{Gap, Word, Broken}
+use Rattle.sync_lex.specs.declared.pieces.Piece.TheVariants.{Gap, Match, Broken}
 use Rattle.sync_lex.specs.Bytes.{is_blank, begins_name, continues_name, number_value}
+use Rattle.sync_base.specs.Limits.{longest_name, largest}
 use Rattle.sync_lex.specs.Punctuation.{sign_len}
 
 -- a name of so many bytes
 abbrev pub name_piece : ℕ → Piece
-name_piece len = if nat_lt 64 len then Broken L4 else Word Name len
-
--- 2 ^ 127 - 1
-abbrev pub largest : ℕ
-largest = 170141183460469231731687303715884105727
+name_piece len = if nat_lt longest_name len then Broken L4 else Match Name len
 
 -- a number of these digits
 abbrev pub number_piece : List ℕ → Piece
-number_piece digits = if nat_lt largest (number_value digits) then Broken L3 else Word Number (length digits)
+number_piece digits = if nat_lt largest (number_value digits) then Broken L3 else Match Number (length digits)
 
 -- a sign of so many bytes
 abbrev pub sign_piece : ℕ → Piece
 sign_piece zero = Broken L2
-sign_piece (suc len) = Word Sign (suc len)
+sign_piece (suc len) = Match Sign (suc len)
 
 -- a blank, a name, a number, a comment to the end of its line, or a sign
 unfoldable pub piece : List ℕ → Piece

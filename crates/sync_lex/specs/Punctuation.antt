@@ -1,24 +1,20 @@
--- The signs of the language.
-use Rattle.std.specs.Prelude.{ℕ, Bool, max, List, [], ◌∷◌, ◌++◌, length, map, codes, nat_eq, if◌then◌else◌}
+-- Which sign that is no reserved word stands at the front of bytes.
+use Rattle.std.specs.Prelude.{ℕ, Bool, max, List, [], ◌∷◌, length, map, nat_eq, if◌then◌else◌}
 use Rattle.std.specs.List.{starts_with, list_any}
+use Rattle.sync_lex.specs.Signs.{symbols, spelling_of}
 
-abbrev pub pairs : List (List ℕ)
-pairs = codes "!=" ∷ codes "<=" ∷ codes ">=" ∷ codes "+=" ∷ codes "-=" ∷ codes "->" ∷ codes "=>" ∷ codes "&&" ∷ codes "||" ∷ []
+-- how the signs are written that are no reserved words
+abbrev pub punctuation : List (List ℕ)
+punctuation = map spelling_of symbols
 
-abbrev pub singles : List (List ℕ)
-singles = map (λ b. b ∷ []) (codes "{}()[],;:?@$!*/%+-=<")
-
-abbrev pub signs : List (List ℕ)
-signs = codes "==>" ∷ (pairs ++ singles)
-
--- whether the bytes begin with one of the words
+-- whether the bytes begin with one of the spellings
 abbrev pub begins_any : List (List ℕ) → List ℕ → Bool
-begins_any words bytes = list_any (λ word. starts_with nat_eq bytes word) words
+begins_any spellings bytes = list_any (λ spelling. starts_with nat_eq bytes spelling) spellings
 
--- the length of the longest of the words that the bytes begin with, 0 where there is none
+-- the length of the longest of the spellings that the bytes begin with, 0 where there is none
 abbrev pub longest : List (List ℕ) → List ℕ → ℕ
 longest [] bytes = 0
-longest (word ∷ words) bytes = max (if starts_with nat_eq bytes word then length word else 0) (longest words bytes)
+longest (spelling ∷ spellings) bytes = max (if starts_with nat_eq bytes spelling then length spelling else 0) (longest spellings bytes)
 
 unfoldable pub sign_len : List ℕ → ℕ
-sign_len bytes = longest signs bytes
+sign_len bytes = longest punctuation bytes

@@ -1,5 +1,5 @@
 -- The signs and reserved words, and how they are written.
-use Rattle.std.specs.Prelude.{ℕ, Bool, List, [], ◌∷◌, Option, codes}
+use Rattle.std.specs.Prelude.{ℕ, Bool, List, [], ◌∷◌, ◌++◌, Option, codes}
 use Rattle.std.specs.List.{find}
 use Rattle.std.specs.Str.{bytes_eq}
 use Rattle.sync_lex.specs.declared.signs.Sign.{Sign}
@@ -134,8 +134,38 @@ spelling_of sign.Merge = codes "merge"
 spelling_of sign.Copy = codes "copy"
 spelling_of sign.Move = codes "move"
 
+-- the signs of one byte, and of two
+abbrev pub singles : List Sign
+singles =
+    sign.OpenBrace ∷ sign.CloseBrace ∷ sign.OpenRound ∷ sign.CloseRound ∷ sign.OpenSquare ∷ sign.CloseSquare ∷
+    sign.Comma ∷ sign.Semicolon ∷ sign.Colon ∷ sign.Question ∷ sign.Label ∷ sign.Dollar ∷ sign.Bang ∷ sign.Star ∷
+    sign.Slash ∷ sign.Percent ∷ sign.Plus ∷ sign.Minus ∷ sign.Equal ∷ sign.Below ∷ []
+
+abbrev pub doubles : List Sign
+doubles =
+    sign.NotEqual ∷ sign.AtMost ∷ sign.AtLeast ∷ sign.PlusEqual ∷ sign.MinusEqual ∷ sign.Arrow ∷ sign.MapsTo ∷
+    sign.And ∷ sign.Or ∷ []
+
+-- the signs that are no reserved words
+abbrev pub symbols : List Sign
+symbols = sign.Implies ∷ (doubles ++ singles)
+
+abbrev pub reserved_words : List Sign
+reserved_words =
+    sign.Version ∷ sign.Machine ∷ sign.Field ∷ sign.Init ∷ sign.Transition ∷ sign.Property ∷ sign.Invariant ∷
+    sign.Require ∷ sign.Assert ∷ sign.Update ∷ sign.Have ∷ sign.Guard ∷ sign.Add ∷ sign.Deposit ∷ sign.Remove ∷
+    sign.Withdraw ∷ sign.Nil ∷ sign.Value ∷ sign.Index ∷ sign.Old ∷ sign.New ∷ sign.Wrap ∷ sign.Get ∷ sign.Has ∷
+    sign.Size ∷ sign.Sum ∷ sign.Put ∷ sign.Del ∷ sign.Bump ∷ sign.Held ∷ sign.Proofs ∷ sign.Keeps ∷ sign.At ∷
+    sign.By ∷ sign.Same ∷ sign.Inst ∷ sign.As ∷ sign.Parts ∷ sign.Split ∷ sign.Cut ∷ sign.Read ∷ sign.Total ∷
+    sign.Cong ∷ sign.Denied ∷ sign.Low ∷ sign.High ∷ sign.Program ∷ sign.Word ∷ sign.With ∷ sign.Holds ∷
+    sign.When ∷ sign.Fact ∷ sign.Cell ∷ sign.Perm ∷ sign.Start ∷ sign.Seal ∷ sign.Give ∷ sign.No ∷ sign.Thread ∷
+    sign.Ends ∷ sign.Final ∷ sign.Store ∷ sign.Write ∷ sign.Print ∷ sign.If ∷ sign.Else ∷ sign.Join ∷ sign.Loop ∷
+    sign.From ∷ sign.After ∷ sign.Next ∷ sign.Break ∷ sign.Meet ∷ sign.End ∷ sign.Peek ∷ sign.Via ∷ sign.Load ∷
+    sign.Swap ∷ sign.Sub ∷ sign.Cas ∷ sign.Proof ∷ sign.Open ∷ sign.Case ∷ sign.Yes ∷ sign.Close ∷ sign.Still ∷
+    sign.Let ∷ sign.Do ∷ sign.Merge ∷ sign.Copy ∷ sign.Move ∷ []
+
 abbrev pub signs : List Sign
-signs = sign.OpenBrace ∷ sign.CloseBrace ∷ sign.OpenRound ∷ sign.CloseRound ∷ sign.OpenSquare ∷ sign.CloseSquare ∷ sign.Comma ∷ sign.Semicolon ∷ sign.Colon ∷ sign.Question ∷ sign.Label ∷ sign.Dollar ∷ sign.Bang ∷ sign.Star ∷ sign.Slash ∷ sign.Percent ∷ sign.Plus ∷ sign.Minus ∷ sign.Equal ∷ sign.Below ∷ sign.NotEqual ∷ sign.AtMost ∷ sign.AtLeast ∷ sign.PlusEqual ∷ sign.MinusEqual ∷ sign.Arrow ∷ sign.MapsTo ∷ sign.Implies ∷ sign.And ∷ sign.Or ∷ sign.Version ∷ sign.Machine ∷ sign.Field ∷ sign.Init ∷ sign.Transition ∷ sign.Property ∷ sign.Invariant ∷ sign.Require ∷ sign.Assert ∷ sign.Update ∷ sign.Have ∷ sign.Guard ∷ sign.Add ∷ sign.Deposit ∷ sign.Remove ∷ sign.Withdraw ∷ sign.Nil ∷ sign.Value ∷ sign.Index ∷ sign.Old ∷ sign.New ∷ sign.Wrap ∷ sign.Get ∷ sign.Has ∷ sign.Size ∷ sign.Sum ∷ sign.Put ∷ sign.Del ∷ sign.Bump ∷ sign.Held ∷ sign.Proofs ∷ sign.Keeps ∷ sign.At ∷ sign.By ∷ sign.Same ∷ sign.Inst ∷ sign.As ∷ sign.Parts ∷ sign.Split ∷ sign.Cut ∷ sign.Read ∷ sign.Total ∷ sign.Cong ∷ sign.Denied ∷ sign.Low ∷ sign.High ∷ sign.Program ∷ sign.Word ∷ sign.With ∷ sign.Holds ∷ sign.When ∷ sign.Fact ∷ sign.Cell ∷ sign.Perm ∷ sign.Start ∷ sign.Seal ∷ sign.Give ∷ sign.No ∷ sign.Thread ∷ sign.Ends ∷ sign.Final ∷ sign.Store ∷ sign.Write ∷ sign.Print ∷ sign.If ∷ sign.Else ∷ sign.Join ∷ sign.Loop ∷ sign.From ∷ sign.After ∷ sign.Next ∷ sign.Break ∷ sign.Meet ∷ sign.End ∷ sign.Peek ∷ sign.Via ∷ sign.Load ∷ sign.Swap ∷ sign.Sub ∷ sign.Cas ∷ sign.Proof ∷ sign.Open ∷ sign.Case ∷ sign.Yes ∷ sign.Close ∷ sign.Still ∷ sign.Let ∷ sign.Do ∷ sign.Merge ∷ sign.Copy ∷ sign.Move ∷ []
+signs = symbols ++ reserved_words
 
 -- the sign or reserved word that is written so
 unfoldable pub sign_of : List ℕ → Option Sign

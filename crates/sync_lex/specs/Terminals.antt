@@ -14,6 +14,7 @@ use Rattle.sync_lex.specs.declared.terminals.TerminalKind.{TerminalKind}
 use Rattle.sync_lex.specs.declared.terminals.TerminalKind.TheVariants as what
 use Rattle.sync_lex.specs.declared.terminals.Terminal.{Terminal}
 use Rattle.sync_lex.specs.declared.terminals.Terminals.{Terminals}
+use Rattle.sync_base.specs.Limits.{largest}
 use Rattle.sync_lex.specs.Signs.{is_same, sign_of}
 use Rattle.sync_lex.specs.Strategies.{strategy_of}
 
@@ -24,10 +25,6 @@ says_sign (what.Number n) s = false
 
 abbrev pub is_sign : Terminal → Sign → Bool
 is_sign w s = says_sign w.what s
-
--- 2 ^ 127 - 1
-abbrev pub largest : ℕ
-largest = 170141183460469231731687303715884105727
 
 -- the number that decimal digits write behind those of n
 abbrev pub decimal_after : ℕ → List ℕ → ℕ

@@ -2,15 +2,13 @@
 ghost use Rattle.std.specs.Prelude.{◌≡◌, ◌≤◌, IfOk, All, AllPairs, length};
 ghost use Rattle.sync_base.specs.Outcome.{Gives};
 ghost use Rattle.sync_lex.specs.Lexemes.{lexemes_of};
-ghost use Rattle.sync_lex.specs.Spelling.{IsLexeme, line_at};
+ghost use Rattle.sync_lex.specs.Spelling.{IsLexeme, AreParted, line_at};
 
 use crate::lexemes::{Lexeme, Tokens};
 use crate::pieces::{Piece, next_piece};
 use sqlite_items::Items;
 use std::alloc::Global;
-use sync_base::{Refusal, Rule, Stop};
-
-const LONGEST_TEXT: usize = 1_048_576;
+use sync_base::{LONGEST_TEXT, Refusal, Rule, Stop};
 
 /// The lexemes of a text in order, or the first of the rules L1 to L4 that it breaks.
 ///
@@ -21,6 +19,7 @@ pub fn lex(alloc: Global, text: &[u8]) -> Result<Tokens, Stop>
     ensures exact { Gives (λ t. (t.list, t.last_line)) result (lexemes_of text.now) }
     ensures lexemes { IfOk result (λ t. All (IsLexeme text.now) t.list) }
     ensures apart { IfOk result (λ t. AllPairs (λ x y. x.end ≤ y.start) t.list) }
+    ensures parted { IfOk result (λ t. AreParted text.now 0 t.list) }
     ensures last { IfOk result (λ t. t.last_line ≡ line_at text.now (length text.now)) }
 {
     if text.len() > LONGEST_TEXT {
@@ -36,7 +35,7 @@ pub fn lex(alloc: Global, text: &[u8]) -> Result<Tokens, Stop>
         if skip == 0 {
             match next_piece(&text[at..]) {
                 Piece::Gap(len) => skip = len,
-                Piece::Word(kind, len) => {
+                Piece::Match(kind, len) => {
                     list.push(Lexeme {
                         kind,
                         start: at as u32,

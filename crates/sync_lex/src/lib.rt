@@ -16,5 +16,5 @@ pub use lexemes::{Kind, Lexeme, Tokens};
 pub use lexer::lex;
 pub use signs::{SIGNS, Sign, sign_of};
 pub use strategies::{strategy_name, strategy_of};
-pub use terminal_reader::{LARGEST, read_terminals};
+pub use terminal_reader::read_terminals;
 pub use terminals::{Terminal, TerminalKind, Terminals};

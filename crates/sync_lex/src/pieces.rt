@@ -8,17 +8,14 @@ ghost use Rattle.sync_lex.specs.Pieces.{name_piece, number_piece, piece};
 use crate::bytes::{begins_name, continues_name, is_blank};
 use crate::lexemes::Kind;
 use crate::punctuation::sign_len;
-use sync_base::Rule;
-
-const LARGEST: u128 = 170141183460469231731687303715884105727;
-
-const LONGEST_NAME: usize = 64;
+use sync_base::{LARGEST, LONGEST_NAME, Rule};
 
 /// The longest thing at the front of a text, with its length in bytes.
 pub(crate) enum Piece {
     /// A blank or a comment.
     Gap(usize),
-    Word(Kind, usize),
+    /// A lexeme of this kind.
+    Match(Kind, usize),
     /// It breaks this rule.
     Broken(Rule),
 }
@@ -45,7 +42,7 @@ fn name_piece(bytes: &[u8]) -> Piece
     if len > LONGEST_NAME {
         Piece::Broken(Rule::L4)
     } else {
-        Piece::Word(Kind::Name, len)
+        Piece::Match(Kind::Name, len)
     }
 }
 
@@ -65,7 +62,7 @@ fn number_piece(bytes: &[u8]) -> Piece
         }
         len += 1;
     }
-    Piece::Word(Kind::Number, len)
+    Piece::Match(Kind::Number, len)
 }
 
 /// The piece at the front of the bytes. No bytes break rule L2.
@@ -90,6 +87,6 @@ pub(crate) fn next_piece(bytes: &[u8]) -> Piece
     }
     match sign_len(bytes) {
         0 => Piece::Broken(Rule::L2),
-        len => Piece::Word(Kind::Sign, len),
+        len => Piece::Match(Kind::Sign, len),
     }
 }

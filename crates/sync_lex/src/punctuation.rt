@@ -1,11 +1,13 @@
-//! The signs of the language.
-ghost use Rattle.std.specs.Prelude.{◌≡◌};
-ghost use Rattle.sync_lex.specs.Punctuation.{pairs, singles, begins_any, sign_len};
+//! Which sign that is no reserved word stands at the front of bytes.
+ghost use Rattle.std.specs.Prelude.{◌≡◌, map};
+ghost use Rattle.sync_lex.specs.Punctuation.{begins_any, sign_len};
+ghost use Rattle.sync_lex.specs.Signs.{singles, doubles, spelling_of};
 
 const SINGLES: [u8; 20] = *b"{}()[],;:?@$!*/%+-=<";
 
+#[tactic(auto, unfolding(crate::specs::Signs::spelling_of))]
 fn begins_single(bytes: &[u8]) -> bool
-    ensures { result ≡ begins_any singles bytes.now }
+    ensures { result ≡ begins_any (map spelling_of singles) bytes.now }
 {
     match bytes {
         [] => false,
@@ -13,8 +15,9 @@ fn begins_single(bytes: &[u8]) -> bool
     }
 }
 
-fn begins_pair(bytes: &[u8]) -> bool
-    ensures { result ≡ begins_any pairs bytes.now }
+#[tactic(auto, unfolding(crate::specs::Signs::spelling_of))]
+fn begins_double(bytes: &[u8]) -> bool
+    ensures { result ≡ begins_any (map spelling_of doubles) bytes.now }
 {
     matches!(
         bytes,
@@ -32,7 +35,7 @@ pub(crate) fn sign_len(bytes: &[u8]) -> usize
 {
     if bytes.starts_with(b"==>") {
         3
-    } else if begins_pair(bytes) {
+    } else if begins_double(bytes) {
         2
     } else if begins_single(bytes) {
         1

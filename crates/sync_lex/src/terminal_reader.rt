@@ -15,10 +15,7 @@ use crate::terminals::{Terminal, TerminalKind, Terminals};
 use sqlite_items::Items;
 use std::alloc::Global;
 use std::collections::HashMap;
-use sync_base::{Name, NameList, NoMemory, Stop};
-
-/// The largest number of a text: 2^127 - 1.
-pub const LARGEST: u128 = 170_141_183_460_469_231_731_687_303_715_884_105_727;
+use sync_base::{LARGEST, Name, NameList, NoMemory, Stop};
 
 #[tactic(auto, unfolding(crate::specs::Terminals::bytes_at))]
 fn bytes_at<'a>(text: &'a [u8], lexeme: Lexeme) -> &'a [u8]

@@ -10,15 +10,15 @@ use Rattle.sync_lex.specs.declared.terminals.Terminal.{Terminal}
 use Rattle.sync_lex.specs.Terminals.{is_sign, terminals_in}
 use Rattle.sync_parse_exprs.specs.declared.faults.Fault.{Fault}
 use Rattle.sync_parse_exprs.specs.declared.faults.Fault.TheVariants.{Ended, Wanted, Version, Unbuilt}
-use Rattle.sync_parse_exprs.specs.declared.expressions.Expr.{Expr}
-use Rattle.sync_parse_exprs.specs.declared.naming.Named.{Named}
+use Rattle.sync_parse_exprs.specs.declared.expressions.RawExpr.{RawExpr}
+use Rattle.sync_parse_exprs.specs.declared.raw_names.RawName.{RawName}
 use Rattle.sync_parse.specs.declared.trees.RawText.{RawText}
 use Rattle.sync_parse.specs.declared.trees.RawMachine.{RawMachine}
 use Rattle.sync_parse.specs.declared.trees.RawField.{RawField}
 use Rattle.sync_parse.specs.declared.trees.RawOperation.{RawOperation}
+use Rattle.sync_parse.specs.declared.trees.RawStep.{RawStep}
 use Rattle.sync_parse.specs.declared.trees.RawAct.{RawAct}
-use Rattle.sync_parse.specs.declared.trees.RawActKind.{RawActKind}
-use Rattle.sync_parse.specs.declared.trees.RawActKind.TheVariants as act
+use Rattle.sync_parse.specs.declared.trees.RawAct.TheVariants as act
 use Rattle.sync_parse.specs.declared.trees.RawPlace.{RawPlace}
 use Rattle.sync_parse.specs.declared.trees.RawPlace.TheVariants as place
 use Rattle.sync_parse.specs.declared.trees.RawPattern.{RawPattern}
@@ -28,9 +28,9 @@ use Rattle.sync_parse.specs.declared.trees.RawProof.{RawProof}
 use Rattle.sync_parse.specs.declared.trees.RawClaim.{RawClaim}
 use Rattle.sync_parse.specs.declared.trees.RawClaim.TheVariants as claim
 use Rattle.sync_parse.specs.Faults.{refused}
-use Rattle.sync_parse_exprs.specs.Lexemes.{Read, Reader, within, first_line, begins_with, sign_at, name_at, number_at, strategy_at, row, goes_on, names_at}
+use Rattle.sync_parse_exprs.specs.Terminals.{levels, Read, Reader, unless_deep, first_line, begins_with, sign_at, name_at, number_at, strategy_at, row, goes_on, names_at}
 use Rattle.sync_parse_exprs.specs.Expressions.{expr_at}
-use Rattle.sync_parse.specs.Scripts.{place_of, refuse, script_at}
+use Rattle.sync_parse.specs.Scripts.{statement_number, wanted_other, script_at}
 
 -- ---- places
 
@@ -43,7 +43,7 @@ pattern_at left ts = if begins_with sign.Question ts then (do
     Ok (pattern.Term e.0, e.1))
 
 -- the value of a place with a key, where `=>` comes
-unfoldable pub keyed : ℕ → Expr → Reader RawPlace
+unfoldable pub keyed : ℕ → RawExpr → Reader RawPlace
 keyed left key ts = if begins_with sign.MapsTo ts then (do
   m ← sign_at left sign.MapsTo ts
   p ← pattern_at left m.1
@@ -64,7 +64,7 @@ place_at left ts = if begins_with sign.OpenRound ts then (do
 -- ---- statements of operations
 
 -- a formula or a term, and `;`
-unfoldable pub closed_expr : ℕ → Reader Expr
+unfoldable pub closed_expr : ℕ → Reader RawExpr
 closed_expr left ts = do
   e ← expr_at left ts
   s ← sign_at left sign.Semicolon e.1
@@ -78,14 +78,14 @@ closed_place left ts = do
   Ok (p.0, s.1)
 
 -- `require` and `assert`
-unfoldable pub formula_act : Sign → (Expr → RawActKind) → ℕ → Reader RawActKind
+unfoldable pub formula_act : Sign → (RawExpr → RawAct) → ℕ → Reader RawAct
 formula_act terminal made left ts = do
   w ← sign_at left terminal ts
   e ← closed_expr left w.1
   Ok (made e.0, e.1)
 
 -- `init` and `update`
-unfoldable pub value_act : Sign → (Named → Expr → RawActKind) → ℕ → Reader RawActKind
+unfoldable pub value_act : Sign → (RawName → RawExpr → RawAct) → ℕ → Reader RawAct
 value_act terminal made left ts = do
   w ← sign_at left terminal ts
   n ← name_at left w.1
@@ -94,7 +94,7 @@ value_act terminal made left ts = do
   Ok (made n.0 e.0, e.1)
 
 -- a terminal, the name of a field, a sign and a place
-unfoldable pub field_place : Sign → Sign → ℕ → Reader (Named × RawPlace)
+unfoldable pub field_place : Sign → Sign → ℕ → Reader (RawName × RawPlace)
 field_place terminal symbol left ts = do
   w ← sign_at left terminal ts
   n ← name_at left w.1
@@ -102,13 +102,13 @@ field_place terminal symbol left ts = do
   p ← closed_place left q.1
   Ok ((n.0, p.0), p.1)
 
-unfoldable pub place_act : Sign → Sign → (Named → RawPlace → RawActKind) → ℕ → Reader RawActKind
+unfoldable pub place_act : Sign → Sign → (RawName → RawPlace → RawAct) → ℕ → Reader RawAct
 place_act terminal symbol made left ts = do
   x ← field_place terminal symbol left ts
   Ok (made x.0.0 x.0.1, x.1)
 
 -- `;` after the name, or a place
-unfoldable pub have_act : ℕ → Reader RawActKind
+unfoldable pub have_act : ℕ → Reader RawAct
 have_act left ts = do
   w ← sign_at left sign.Have ts
   n ← name_at left w.1
@@ -119,7 +119,7 @@ have_act left ts = do
       p ← closed_place left q.1
       Ok (act.Have n.0 p.0, p.1))
 
-unfoldable pub act_kind : ℕ → Reader RawActKind
+unfoldable pub act_kind : ℕ → Reader RawAct
 act_kind left ts =
     if begins_with sign.Init ts then value_act sign.Init act.Init left ts
     else if begins_with sign.Require ts then formula_act sign.Require act.Require left ts
@@ -131,14 +131,14 @@ act_kind left ts =
     else if begins_with sign.Deposit ts then place_act sign.Deposit sign.PlusEqual act.Deposit left ts
     else if begins_with sign.Remove ts then place_act sign.Remove sign.MinusEqual act.Remove left ts
     else if begins_with sign.Withdraw ts then place_act sign.Withdraw sign.MinusEqual act.Withdraw left ts
-    else refuse ts
+    else wanted_other ts
 
-unfoldable pub act_at : ℕ → Reader RawAct
+unfoldable pub act_at : ℕ → Reader RawStep
 act_at left ts = do
   x ← act_kind left ts
   Ok (record { what = x.0; line = first_line ts }, x.1)
 
-unfoldable pub acts : ℕ → Reader (List RawAct)
+unfoldable pub acts : ℕ → Reader (List RawStep)
 acts left ts = row goes_on (act_at left) (length ts) [] ts
 
 -- ---- machines
@@ -163,7 +163,7 @@ mode_of w =
     else None
 
 abbrev pub mode_said : ℕ → Terminal → List Terminal → Option OpMode → Read OpMode
-mode_said left w ws (Some m) = within left w.line (Ok (m, ws))
+mode_said left w ws (Some m) = unless_deep left w.line (Ok (m, ws))
 mode_said left w ws None = Err (Wanted w.line)
 
 unfoldable pub mode_at : ℕ → Reader OpMode
@@ -178,7 +178,7 @@ operation_at left ts = do
   o ← sign_at left sign.OpenBrace ps.1
   xs ← acts (left - 1) o.1
   e ← sign_at (left - 1) sign.CloseBrace xs.1
-  Ok (record { mode = m.0; name = n.0; params = ps.0; acts = xs.0; line = first_line ts }, e.1)
+  Ok (record { mode = m.0; name = n.0; params = ps.0; steps = xs.0; line = first_line ts }, e.1)
 
 abbrev pub begins_operation : List Terminal → Bool
 begins_operation [] = false
@@ -216,7 +216,7 @@ unfoldable pub claim_at : ℕ → Reader RawClaim
 claim_at left ts = if begins_with sign.At ts then (do
   a ← sign_at left sign.At ts
   n ← number_at left a.1
-  Ok (claim.At (place_of n.0), n.1)) else (do
+  Ok (claim.At (statement_number n.0), n.1)) else (do
     k ← sign_at left sign.Keeps ts
     n ← name_at left k.1
     Ok (claim.Keeps n.0, n.1))
@@ -254,13 +254,13 @@ abbrev pub at_end : {A : Type 0} → A → List Terminal → Result A Fault
 at_end x [] = Ok x
 at_end x (w ∷ ws) = if is_sign w sign.Program then Err (Unbuilt w.line) else Err (Wanted w.line)
 
--- a machine and its proofs, where 65 levels are left
+-- a machine and its proofs, where all levels are left
 unfoldable pub text_of : List Terminal → Result (RawMachine × List RawProof) Fault
 text_of ts = do
-  v ← version_at 65 ts
-  s ← sign_at 65 sign.Semicolon v.1
-  m ← machine_at 65 s.1
-  ps ← proofs_at 65 m.1
+  v ← version_at levels ts
+  s ← sign_at levels sign.Semicolon v.1
+  m ← machine_at levels s.1
+  ps ← proofs_at levels m.1
   at_end (m.0, ps.0) ps.1
 
 -- the raw tree that a text spells, or the first rule L, else the first rule G, that it breaks

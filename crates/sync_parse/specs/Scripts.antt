@@ -9,31 +9,31 @@ use Rattle.sync_lex.specs.declared.terminals.Terminal.{Terminal}
 use Rattle.sync_lex.specs.Signs.{is_same}
 use Rattle.sync_lex.specs.Terminals.{is_sign}
 use Rattle.sync_parse_exprs.specs.declared.faults.Fault.TheVariants.{Ended, Wanted}
-use Rattle.sync_parse_exprs.specs.declared.naming.Named.{Named}
-use Rattle.sync_parse_exprs.specs.declared.expressions.Expr.{Expr}
+use Rattle.sync_parse_exprs.specs.declared.raw_names.RawName.{RawName}
+use Rattle.sync_parse_exprs.specs.declared.expressions.RawExpr.{RawExpr}
 use Rattle.sync_parse_exprs.specs.declared.expressions.Special.{Special}
 use Rattle.sync_parse_exprs.specs.declared.expressions.Special.TheVariants as special
-use Rattle.sync_parse.specs.declared.scripts.Subject.{Subject}
-use Rattle.sync_parse.specs.declared.scripts.Subject.TheVariants as subject
-use Rattle.sync_parse.specs.declared.scripts.RawHyp.{RawHyp}
-use Rattle.sync_parse.specs.declared.scripts.RawHyp.TheVariants as hyp
+use Rattle.sync_parse.specs.declared.scripts.RawSubject.{RawSubject}
+use Rattle.sync_parse.specs.declared.scripts.RawSubject.TheVariants as subject
+use Rattle.sync_parse.specs.declared.scripts.RawHypName.{RawHypName}
+use Rattle.sync_parse.specs.declared.scripts.RawHypName.TheVariants as hyp
 use Rattle.sync_parse.specs.declared.scripts.RawPart.{RawPart}
 use Rattle.sync_parse.specs.declared.scripts.RawScript.{RawScript}
 use Rattle.sync_parse.specs.declared.scripts.RawBlock.{RawBlock, roll-RawBlock}
-use Rattle.sync_parse.specs.declared.scripts.RawStep.{RawStep, roll-RawStep}
+use Rattle.sync_parse.specs.declared.scripts.RawScriptStep.{RawScriptStep, roll-RawScriptStep}
 use Rattle.sync_parse.specs.declared.scripts.RawStepKind.{RawStepKind}
 use Rattle.sync_parse.specs.declared.scripts.RawStepKind.TheVariants as step
-use Rattle.sync_parse_exprs.specs.Lexemes.{Read, Reader, within, first_line, begins_with, sign_at, name_at, number_at, row, goes_on, series}
+use Rattle.sync_parse_exprs.specs.Terminals.{Read, Reader, unless_deep, first_line, begins_with, sign_at, name_at, number_at, row, goes_on, series}
 use Rattle.sync_parse_exprs.specs.Expressions.{signed, expr_at, exprs_at}
 
 -- a number of a statement; 4,294,967,295 stands for all from there on
-abbrev pub place_of : ℕ → ℕ
-place_of n = min n 4294967295
+abbrev pub statement_number : ℕ → ℕ
+statement_number n = min n 4294967295
 
 -- another lexeme was wanted here
-abbrev pub refuse : {A : Type 0} → Reader A
-refuse [] = Err Ended
-refuse (w ∷ ws) = Err (Wanted w.line)
+abbrev pub wanted_other : {A : Type 0} → Reader A
+wanted_other [] = Err Ended
+wanted_other (w ∷ ws) = Err (Wanted w.line)
 
 -- ---- hypotheses
 
@@ -44,21 +44,21 @@ bounded_of s =
     else if is_same s sign.Wrap then Some special.Wrap
     else None
 
-abbrev pub subject_terminal : ℕ → ℕ → List Terminal → Option Special → Read Subject
+abbrev pub subject_terminal : ℕ → ℕ → List Terminal → Option Special → Read RawSubject
 subject_terminal left line ws None = Err (Wanted line)
-subject_terminal left line ws (Some terminal) = within left line (Ok (subject.Special terminal line, ws))
+subject_terminal left line ws (Some terminal) = unless_deep left line (Ok (subject.Special terminal line, ws))
 
-abbrev pub subject_said : ℕ → ℕ → List Terminal → TerminalKind → Read Subject
-subject_said left line ws (what.Name n strategy) = within left line (Ok (subject.Name (record { name = n; line = line }), ws))
+abbrev pub subject_said : ℕ → ℕ → List Terminal → TerminalKind → Read RawSubject
+subject_said left line ws (what.Name n strategy) = unless_deep left line (Ok (subject.Name (record { name = n; line = line }), ws))
 subject_said left line ws (what.Number n) = Err (Wanted line)
 subject_said left line ws (what.Sign s) = subject_terminal left line ws (bounded_of s)
 
 -- a name, or `old`, `new` or `wrap`
-unfoldable pub subject_at : ℕ → Reader Subject
+unfoldable pub subject_at : ℕ → Reader RawSubject
 subject_at left [] = Err Ended
 subject_at left (w ∷ ws) = subject_said left w.line ws w.what
 
-unfoldable pub hyp_at : ℕ → Reader RawHyp
+unfoldable pub hyp_at : ℕ → Reader RawHypName
 hyp_at left ts =
     if begins_with sign.Denied ts then (do
       d ← sign_at left sign.Denied ts
@@ -66,7 +66,7 @@ hyp_at left ts =
     else if begins_with sign.At ts then (do
       a ← sign_at left sign.At ts
       n ← number_at left a.1
-      Ok (hyp.At (place_of n.0), n.1))
+      Ok (hyp.At (statement_number n.0), n.1))
     else if begins_with sign.Low ts then (do
       l ← sign_at left sign.Low ts
       s ← subject_at left l.1
@@ -80,7 +80,7 @@ hyp_at left ts =
       Ok (hyp.Label n.0, n.1))
 
 -- `as` and the name that a step gives
-unfoldable pub as_name : ℕ → Reader Named
+unfoldable pub as_name : ℕ → Reader RawName
 as_name left ts = do
   a ← sign_at left sign.As ts
   name_at left a.1
@@ -138,7 +138,7 @@ parts_step left ts = do
   Ok (step.Parts h.0 a.0 b.0, e.1)
 
 -- a map and a key, as `read`, `size` and `total` take them
-unfoldable pub lookup_step : Sign → (Expr → Expr → Named → RawStepKind) → ℕ → Reader RawStepKind
+unfoldable pub lookup_step : Sign → (RawExpr → RawExpr → RawName → RawStepKind) → ℕ → Reader RawStepKind
 lookup_step terminal made left ts = do
   s ← sign_at left terminal ts
   m ← expr_at left s.1
@@ -161,8 +161,8 @@ cong_step left ts = do
   Ok (step.Cong m.0 j.0 k.0 a.0, e.1)
 
 -- a step without a block
-unfoldable pub plain_step : ℕ → Reader RawStepKind
-plain_step left ts =
+unfoldable pub blockless_step : ℕ → Reader RawStepKind
+blockless_step left ts =
     if begins_with sign.Same ts then same_step left ts
     else if begins_with sign.Sum ts then sum_step left ts
     else if begins_with sign.Inst ts then inst_step left ts
@@ -171,7 +171,7 @@ plain_step left ts =
     else if begins_with sign.Size ts then lookup_step sign.Size step.Size left ts
     else if begins_with sign.Total ts then lookup_step sign.Total step.Total left ts
     else if begins_with sign.Cong ts then cong_step left ts
-    else refuse ts
+    else wanted_other ts
 
 -- ---- steps with blocks, which `block` reads
 
@@ -196,15 +196,15 @@ abbrev pub step_kind : Reader RawBlock → ℕ → Reader RawStepKind
 step_kind block left ts =
     if begins_with sign.Split ts then split_step block left ts
     else if begins_with sign.Cut ts then cut_step block left ts
-    else plain_step left ts
+    else blockless_step left ts
 
-unfoldable pub step_at : Reader RawBlock → ℕ → Reader RawStep
+unfoldable pub step_at : Reader RawBlock → ℕ → Reader RawScriptStep
 step_at block left ts = do
   x ← step_kind block left ts
-  Ok (roll-RawStep (record { what = x.0; line = first_line ts }), x.1)
+  Ok (roll-RawScriptStep (record { what = x.0; line = first_line ts }), x.1)
 
 -- the steps up to a closing brace
-unfoldable pub steps : Reader RawBlock → ℕ → Reader (List RawStep)
+unfoldable pub steps : Reader RawBlock → ℕ → Reader (List RawScriptStep)
 steps block left ts = row goes_on (step_at block left) (length ts) [] ts
 
 -- a block whose inner blocks `nested` reads

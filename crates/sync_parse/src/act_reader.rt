@@ -1,18 +1,18 @@
 //! Reading the statements of operations. `left` is 65 less the number of brackets that are open.
 ghost use Rattle.std.specs.Prelude.{◌≡◌};
 ghost use Rattle.sync_lex.specs.declared.signs.Sign.TheVariants as sign;
-ghost use Rattle.sync_parse.specs.declared.trees.RawActKind.TheVariants as act;
+ghost use Rattle.sync_parse.specs.declared.trees.RawAct.TheVariants as act;
 ghost use Rattle.sync_parse_exprs.specs.Faults.{Reads};
 ghost use Rattle.sync_parse.specs.Machines.{pattern_at, keyed, place_at, closed_expr, closed_place, formula_act, value_act, field_place, place_act, have_act, act_kind, act_at, acts};
 
-use crate::trees::{RawAct, RawActKind, RawPattern, RawPlace};
+use crate::trees::{RawAct, RawPattern, RawPlace, RawStep};
 use sqlite_items::Items;
 use std::alloc::Global;
+use sync_lex::{Sign, Terminal};
 use sync_parse_exprs::{
-    Expr, Fault, Halt, Named, Read, begins_with, expr, first_line, goes_on, name, next, sign,
+    Fault, Halt, RawExpr, RawName, Read, begins_with, expr, first_line, goes_on, name, next, sign,
     wanted,
 };
-use sync_lex::{Sign, Terminal};
 
 #[tactic(auto, unfolding(crate::specs::Machines::pattern_at))]
 fn pattern<'a>(alloc: Global, terminals: &'a [Terminal], left: u32) -> Read<'a, RawPattern>
@@ -29,7 +29,12 @@ fn pattern<'a>(alloc: Global, terminals: &'a [Terminal], left: u32) -> Read<'a, 
 
 /// A place with a key; its value where `=>` comes.
 #[tactic(auto, unfolding(crate::specs::Machines::keyed))]
-fn keyed<'a>(alloc: Global, terminals: &'a [Terminal], left: u32, key: Expr) -> Read<'a, RawPlace>
+fn keyed<'a>(
+    alloc: Global,
+    terminals: &'a [Terminal],
+    left: u32,
+    key: RawExpr,
+) -> Read<'a, RawPlace>
     ensures { Reads (λ x. (x.0, x.1.now)) result (keyed left key terminals.now) }
 {
     if begins_with(terminals, Sign::MapsTo) {
@@ -59,7 +64,11 @@ fn place<'a>(alloc: Global, terminals: &'a [Terminal], left: u32) -> Read<'a, Ra
 
 /// An expression and `;`.
 #[tactic(auto, unfolding(crate::specs::Machines::closed_expr))]
-pub(crate) fn closed_expr<'a>(alloc: Global, terminals: &'a [Terminal], left: u32) -> Read<'a, Expr>
+pub(crate) fn closed_expr<'a>(
+    alloc: Global,
+    terminals: &'a [Terminal],
+    left: u32,
+) -> Read<'a, RawExpr>
     ensures { Reads (λ x. (x.0, x.1.now)) result (closed_expr left terminals.now) }
 {
     let (value, rest) = expr(alloc, terminals, left)?;
@@ -78,43 +87,43 @@ fn closed_place<'a>(alloc: Global, terminals: &'a [Terminal], left: u32) -> Read
 }
 
 #[tactic(auto, unfolding(crate::specs::Machines::formula_act))]
-fn require_act<'a>(alloc: Global, terminals: &'a [Terminal], left: u32) -> Read<'a, RawActKind>
+fn require_act<'a>(alloc: Global, terminals: &'a [Terminal], left: u32) -> Read<'a, RawAct>
     ensures { Reads (λ x. (x.0, x.1.now)) result (formula_act sign.Require act.Require left terminals.now) }
 {
     let (_, rest) = sign(terminals, left, Sign::Require)?;
     let (form, rest) = closed_expr(alloc, rest, left)?;
-    Ok((RawActKind::Require(form), rest))
+    Ok((RawAct::Require(form), rest))
 }
 
 #[tactic(auto, unfolding(crate::specs::Machines::formula_act))]
-fn assert_act<'a>(alloc: Global, terminals: &'a [Terminal], left: u32) -> Read<'a, RawActKind>
+fn assert_act<'a>(alloc: Global, terminals: &'a [Terminal], left: u32) -> Read<'a, RawAct>
     ensures { Reads (λ x. (x.0, x.1.now)) result (formula_act sign.Assert act.Assert left terminals.now) }
 {
     let (_, rest) = sign(terminals, left, Sign::Assert)?;
     let (form, rest) = closed_expr(alloc, rest, left)?;
-    Ok((RawActKind::Assert(form), rest))
+    Ok((RawAct::Assert(form), rest))
 }
 
 #[tactic(auto, unfolding(crate::specs::Machines::value_act))]
-fn init_act<'a>(alloc: Global, terminals: &'a [Terminal], left: u32) -> Read<'a, RawActKind>
+fn init_act<'a>(alloc: Global, terminals: &'a [Terminal], left: u32) -> Read<'a, RawAct>
     ensures { Reads (λ x. (x.0, x.1.now)) result (value_act sign.Init act.Init left terminals.now) }
 {
     let (_, rest) = sign(terminals, left, Sign::Init)?;
     let (field, rest) = name(rest, left)?;
     let (_, rest) = sign(rest, left, Sign::Equal)?;
     let (value, rest) = closed_expr(alloc, rest, left)?;
-    Ok((RawActKind::Init(field, value), rest))
+    Ok((RawAct::Init(field, value), rest))
 }
 
 #[tactic(auto, unfolding(crate::specs::Machines::value_act))]
-fn update_act<'a>(alloc: Global, terminals: &'a [Terminal], left: u32) -> Read<'a, RawActKind>
+fn update_act<'a>(alloc: Global, terminals: &'a [Terminal], left: u32) -> Read<'a, RawAct>
     ensures { Reads (λ x. (x.0, x.1.now)) result (value_act sign.Update act.Update left terminals.now) }
 {
     let (_, rest) = sign(terminals, left, Sign::Update)?;
     let (field, rest) = name(rest, left)?;
     let (_, rest) = sign(rest, left, Sign::Equal)?;
     let (value, rest) = closed_expr(alloc, rest, left)?;
-    Ok((RawActKind::Update(field, value), rest))
+    Ok((RawAct::Update(field, value), rest))
 }
 
 /// A terminal, the name of a field, a sign and a place.
@@ -125,7 +134,7 @@ fn field_and_place<'a>(
     left: u32,
     terminal: Sign,
     symbol: Sign,
-) -> Read<'a, (Named, RawPlace)>
+) -> Read<'a, (RawName, RawPlace)>
     ensures { Reads (λ x. (x.0, x.1.now)) result (field_place terminal symbol left terminals.now) }
 {
     let (_, rest) = sign(terminals, left, terminal)?;
@@ -136,23 +145,35 @@ fn field_and_place<'a>(
 }
 
 #[tactic(auto, unfolding(crate::specs::Machines::place_act))]
-fn guard_act<'a>(alloc: Global, terminals: &'a [Terminal], left: u32) -> Read<'a, RawActKind>
+fn guard_act<'a>(alloc: Global, terminals: &'a [Terminal], left: u32) -> Read<'a, RawAct>
     ensures { Reads (λ x. (x.0, x.1.now)) result (place_act sign.Guard sign.AtLeast act.Guard left terminals.now) }
 {
-    let ((field, place), rest) = field_and_place(alloc, terminals, left, Sign::Guard, Sign::AtLeast)?;
-    Ok((RawActKind::Guard(field, place), rest))
+    let ((field, place), rest) = field_and_place(
+        alloc,
+        terminals,
+        left,
+        Sign::Guard,
+        Sign::AtLeast,
+    )?;
+    Ok((RawAct::Guard(field, place), rest))
 }
 
 #[tactic(auto, unfolding(crate::specs::Machines::place_act))]
-fn add_act<'a>(alloc: Global, terminals: &'a [Terminal], left: u32) -> Read<'a, RawActKind>
+fn add_act<'a>(alloc: Global, terminals: &'a [Terminal], left: u32) -> Read<'a, RawAct>
     ensures { Reads (λ x. (x.0, x.1.now)) result (place_act sign.Add sign.PlusEqual act.Add left terminals.now) }
 {
-    let ((field, place), rest) = field_and_place(alloc, terminals, left, Sign::Add, Sign::PlusEqual)?;
-    Ok((RawActKind::Add(field, place), rest))
+    let ((field, place), rest) = field_and_place(
+        alloc,
+        terminals,
+        left,
+        Sign::Add,
+        Sign::PlusEqual,
+    )?;
+    Ok((RawAct::Add(field, place), rest))
 }
 
 #[tactic(auto, unfolding(crate::specs::Machines::place_act))]
-fn deposit_act<'a>(alloc: Global, terminals: &'a [Terminal], left: u32) -> Read<'a, RawActKind>
+fn deposit_act<'a>(alloc: Global, terminals: &'a [Terminal], left: u32) -> Read<'a, RawAct>
     ensures { Reads (λ x. (x.0, x.1.now)) result (place_act sign.Deposit sign.PlusEqual act.Deposit left terminals.now) }
 {
     let ((field, place), rest) = field_and_place(
@@ -162,11 +183,11 @@ fn deposit_act<'a>(alloc: Global, terminals: &'a [Terminal], left: u32) -> Read<
         Sign::Deposit,
         Sign::PlusEqual,
     )?;
-    Ok((RawActKind::Deposit(field, place), rest))
+    Ok((RawAct::Deposit(field, place), rest))
 }
 
 #[tactic(auto, unfolding(crate::specs::Machines::place_act))]
-fn remove_act<'a>(alloc: Global, terminals: &'a [Terminal], left: u32) -> Read<'a, RawActKind>
+fn remove_act<'a>(alloc: Global, terminals: &'a [Terminal], left: u32) -> Read<'a, RawAct>
     ensures { Reads (λ x. (x.0, x.1.now)) result (place_act sign.Remove sign.MinusEqual act.Remove left terminals.now) }
 {
     let ((field, place), rest) = field_and_place(
@@ -176,11 +197,11 @@ fn remove_act<'a>(alloc: Global, terminals: &'a [Terminal], left: u32) -> Read<'
         Sign::Remove,
         Sign::MinusEqual,
     )?;
-    Ok((RawActKind::Remove(field, place), rest))
+    Ok((RawAct::Remove(field, place), rest))
 }
 
 #[tactic(auto, unfolding(crate::specs::Machines::place_act))]
-fn withdraw_act<'a>(alloc: Global, terminals: &'a [Terminal], left: u32) -> Read<'a, RawActKind>
+fn withdraw_act<'a>(alloc: Global, terminals: &'a [Terminal], left: u32) -> Read<'a, RawAct>
     ensures { Reads (λ x. (x.0, x.1.now)) result (place_act sign.Withdraw sign.MinusEqual act.Withdraw left terminals.now) }
 {
     let ((field, place), rest) = field_and_place(
@@ -190,27 +211,27 @@ fn withdraw_act<'a>(alloc: Global, terminals: &'a [Terminal], left: u32) -> Read
         Sign::Withdraw,
         Sign::MinusEqual,
     )?;
-    Ok((RawActKind::Withdraw(field, place), rest))
+    Ok((RawAct::Withdraw(field, place), rest))
 }
 
 /// `;` after the name, or a place.
 #[tactic(auto, unfolding(crate::specs::Machines::have_act))]
-fn have_act<'a>(alloc: Global, terminals: &'a [Terminal], left: u32) -> Read<'a, RawActKind>
+fn have_act<'a>(alloc: Global, terminals: &'a [Terminal], left: u32) -> Read<'a, RawAct>
     ensures { Reads (λ x. (x.0, x.1.now)) result (have_act left terminals.now) }
 {
     let (_, rest) = sign(terminals, left, Sign::Have)?;
     let (field, rest) = name(rest, left)?;
     if begins_with(rest, Sign::Semicolon) {
         let (_, rest) = sign(rest, left, Sign::Semicolon)?;
-        return Ok((RawActKind::HaveVariable(field), rest));
+        return Ok((RawAct::HaveVariable(field), rest));
     }
     let (_, rest) = sign(rest, left, Sign::AtLeast)?;
     let (place, rest) = closed_place(alloc, rest, left)?;
-    Ok((RawActKind::Have(field, place), rest))
+    Ok((RawAct::Have(field, place), rest))
 }
 
 #[tactic(auto, unfolding(crate::specs::Machines::act_kind))]
-fn act_kind<'a>(alloc: Global, terminals: &'a [Terminal], left: u32) -> Read<'a, RawActKind>
+fn act_kind<'a>(alloc: Global, terminals: &'a [Terminal], left: u32) -> Read<'a, RawAct>
     ensures { Reads (λ x. (x.0, x.1.now)) result (act_kind left terminals.now) }
 {
     let (terminal, _) = next(terminals).ok_or(Halt::Fault(Fault::Ended))?;
@@ -240,17 +261,21 @@ fn act_kind<'a>(alloc: Global, terminals: &'a [Terminal], left: u32) -> Read<'a,
 }
 
 #[tactic(auto, unfolding(crate::specs::Machines::act_at))]
-fn act<'a>(alloc: Global, terminals: &'a [Terminal], left: u32) -> Read<'a, RawAct>
+fn act<'a>(alloc: Global, terminals: &'a [Terminal], left: u32) -> Read<'a, RawStep>
     ensures { Reads (λ x. (x.0, x.1.now)) result (act_at left terminals.now) }
 {
     let line = first_line(terminals);
     let (what, rest) = act_kind(alloc, terminals, left)?;
-    Ok((RawAct { what, line }, rest))
+    Ok((RawStep { what, line }, rest))
 }
 
 /// The statements up to a closing brace.
-#[tactic(auto, unfolding(crate::specs::Machines::acts, sync_parse_exprs::specs::Lexemes::row))]
-pub(crate) fn acts<'a>(alloc: Global, terminals: &'a [Terminal], left: u32) -> Read<'a, Items<RawAct>>
+#[tactic(auto, unfolding(crate::specs::Machines::acts, sync_parse_exprs::specs::Terminals::row))]
+pub(crate) fn acts<'a>(
+    alloc: Global,
+    terminals: &'a [Terminal],
+    left: u32,
+) -> Read<'a, Items<RawStep>>
     ensures { Reads (λ x. (x.0, x.1.now)) result (acts left terminals.now) }
 {
     let mut held = Items::new(alloc);

@@ -8,8 +8,10 @@ mod scripts;
 mod trees;
 
 pub use machine_reader::parse;
-pub use scripts::{RawBlock, RawHyp, RawPart, RawScript, RawStep, RawStepKind, Subject};
+pub use scripts::{
+    RawBlock, RawHypName, RawPart, RawScript, RawScriptStep, RawStepKind, RawSubject,
+};
 pub use trees::{
-    RawAct, RawActKind, RawClaim, RawField, RawInvariant, RawMachine, RawOperation, RawPattern,
-    RawPlace, RawProof, RawText,
+    RawAct, RawClaim, RawField, RawInvariant, RawMachine, RawOperation, RawPattern, RawPlace,
+    RawProof, RawStep, RawText,
 };

@@ -6,16 +6,16 @@ ghost use Rattle.sync_parse.specs.Faults.{refusal_of};
 ghost use Rattle.sync_parse.specs.Machines.{field_at, fields, mode_of, mode_at, begins_operation, operation_at, operations, invariant_at, invariants, machine_at, claim_at, proof_at, proof_row, proofs_at, version_at, text_of, parsed};
 
 use crate::act_reader::{acts, closed_expr};
-use crate::script_reader::{place_of, script};
+use crate::script_reader::{script, statement_number};
 use crate::trees::{RawClaim, RawField, RawInvariant, RawMachine, RawOperation, RawProof, RawText};
 use sqlite_items::Items;
 use std::alloc::Global;
 use sync_base::{OpMode, Refusal, Rule, Stop};
+use sync_lex::{Sign, Terminal, read_terminals};
 use sync_parse_exprs::{
     Fault, Halt, Read, begins_with, deep, first_line, goes_on, name, names, next, number, sign,
     strategy, wanted,
 };
-use sync_lex::{Sign, Terminal, read_terminals};
 
 /// The levels of a text: 64 brackets may be open before a lexeme.
 const LEVELS: u32 = 65;
@@ -39,7 +39,7 @@ fn field<'a>(terminals: &'a [Terminal], left: u32) -> Read<'a, RawField>
     ))
 }
 
-#[tactic(auto, unfolding(crate::specs::Machines::fields, sync_parse_exprs::specs::Lexemes::row))]
+#[tactic(auto, unfolding(crate::specs::Machines::fields, sync_parse_exprs::specs::Terminals::row))]
 fn fields<'a>(alloc: Global, terminals: &'a [Terminal], left: u32) -> Read<'a, Items<RawField>>
     ensures { Reads (λ x. (x.0, x.1.now)) result (fields left terminals.now) }
 {
@@ -104,22 +104,26 @@ fn operation<'a>(alloc: Global, terminals: &'a [Terminal], left: u32) -> Read<'a
     let (name, rest) = name(rest, left)?;
     let (params, rest) = names(alloc, rest, left)?;
     let (_, rest) = sign(rest, left, Sign::OpenBrace)?;
-    let (acts, rest) = acts(alloc, rest, left - 1)?;
+    let (steps, rest) = acts(alloc, rest, left - 1)?;
     let (_, rest) = sign(rest, left - 1, Sign::CloseBrace)?;
     Ok((
         RawOperation {
             mode,
             name,
             params,
-            acts,
+            steps,
             line,
         },
         rest,
     ))
 }
 
-#[tactic(auto, unfolding(crate::specs::Machines::operations, sync_parse_exprs::specs::Lexemes::row))]
-fn operations<'a>(alloc: Global, terminals: &'a [Terminal], left: u32) -> Read<'a, Items<RawOperation>>
+#[tactic(auto, unfolding(crate::specs::Machines::operations, sync_parse_exprs::specs::Terminals::row))]
+fn operations<'a>(
+    alloc: Global,
+    terminals: &'a [Terminal],
+    left: u32,
+) -> Read<'a, Items<RawOperation>>
     ensures { Reads (λ x. (x.0, x.1.now)) result (operations left terminals.now) }
 {
     let mut held = Items::new(alloc);
@@ -156,8 +160,12 @@ fn invariant<'a>(alloc: Global, terminals: &'a [Terminal], left: u32) -> Read<'a
     ))
 }
 
-#[tactic(auto, unfolding(crate::specs::Machines::invariants, sync_parse_exprs::specs::Lexemes::row))]
-fn invariants<'a>(alloc: Global, terminals: &'a [Terminal], left: u32) -> Read<'a, Items<RawInvariant>>
+#[tactic(auto, unfolding(crate::specs::Machines::invariants, sync_parse_exprs::specs::Terminals::row))]
+fn invariants<'a>(
+    alloc: Global,
+    terminals: &'a [Terminal],
+    left: u32,
+) -> Read<'a, Items<RawInvariant>>
     ensures { Reads (λ x. (x.0, x.1.now)) result (invariants left terminals.now) }
 {
     let mut held = Items::new(alloc);
@@ -204,7 +212,7 @@ fn claim<'a>(terminals: &'a [Terminal], left: u32) -> Read<'a, RawClaim>
     if begins_with(terminals, Sign::At) {
         let (_, rest) = sign(terminals, left, Sign::At)?;
         let (at, rest) = number(rest, left)?;
-        return Ok((RawClaim::At(place_of(at)), rest));
+        return Ok((RawClaim::At(statement_number(at)), rest));
     }
     let (_, rest) = sign(terminals, left, Sign::Keeps)?;
     let (name, rest) = name(rest, left)?;
@@ -228,7 +236,7 @@ fn proof<'a>(alloc: Global, terminals: &'a [Terminal], left: u32) -> Read<'a, Ra
     ))
 }
 
-#[tactic(auto, unfolding(crate::specs::Machines::proof_row, sync_parse_exprs::specs::Lexemes::row))]
+#[tactic(auto, unfolding(crate::specs::Machines::proof_row, sync_parse_exprs::specs::Terminals::row))]
 fn proof_row<'a>(alloc: Global, terminals: &'a [Terminal], left: u32) -> Read<'a, Items<RawProof>>
     ensures { Reads (λ x. (x.0, x.1.now)) result (proof_row left terminals.now) }
 {
@@ -285,7 +293,9 @@ fn text_of(alloc: Global, terminals: &[Terminal]) -> Result<(RawMachine, Items<R
     let (machine, rest) = machine(alloc, rest, LEVELS)?;
     let (proofs, rest) = proofs(alloc, rest, LEVELS)?;
     match next(rest) {
-        Some((terminal, _)) if terminal.is(Sign::Program) => Err(Halt::Fault(Fault::Unbuilt(terminal.line))),
+        Some((terminal, _)) if terminal.is(Sign::Program) => Err(Halt::Fault(Fault::Unbuilt(
+            terminal.line,
+        ))),
         Some((terminal, _)) => Err(wanted(terminal.line)),
         None => Ok((machine, proofs)),
     }

@@ -3,21 +3,23 @@ ghost use Rattle.std.specs.Prelude.{◌≡◌, ◌-◌, ◌<◌};
 ghost use Rattle.sync_lex.specs.declared.signs.Sign.TheVariants as sign;
 ghost use Rattle.sync_parse.specs.declared.scripts.RawStepKind.TheVariants as step;
 ghost use Rattle.sync_parse_exprs.specs.Faults.{Reads};
-ghost use Rattle.sync_parse_exprs.specs.Lexemes.{series};
-ghost use Rattle.sync_parse.specs.Scripts.{place_of, times_of, bounded_of, subject_at, hyp_at, as_name, scaled, part_at, same_step, sum_step, inst_step, parts_step, lookup_step, cong_step, plain_step, split_step, cut_step, step_at, steps, nested, block_at, script_at};
+ghost use Rattle.sync_parse_exprs.specs.Terminals.{series};
+ghost use Rattle.sync_parse.specs.Scripts.{statement_number, times_of, bounded_of, subject_at, hyp_at, as_name, scaled, part_at, same_step, sum_step, inst_step, parts_step, lookup_step, cong_step, blockless_step, split_step, cut_step, step_at, steps, nested, block_at, script_at};
 
-use crate::scripts::{RawBlock, RawHyp, RawPart, RawScript, RawStep, RawStepKind, Subject};
+use crate::scripts::{
+    RawBlock, RawHypName, RawPart, RawScript, RawScriptStep, RawStepKind, RawSubject,
+};
 use sqlite_items::Items;
 use std::alloc::Global;
+use sync_lex::{Sign, Terminal, TerminalKind};
 use sync_parse_exprs::{
-    Fault, Halt, Named, Read, Special, begins_with, deep, expr, exprs, first_line, goes_on, name,
+    Fault, Halt, RawName, Read, Special, begins_with, deep, expr, exprs, first_line, goes_on, name,
     next, number, sign, signed, wanted,
 };
-use sync_lex::{Sign, TerminalKind, Terminal};
 
 /// The number of a statement as it is kept.
-pub(crate) fn place_of(number: u128) -> u32
-    ensures { result ≡ place_of number }
+pub(crate) fn statement_number(number: u128) -> u32
+    ensures { result ≡ statement_number number }
 {
     number.min(u128::from(u32::MAX)) as u32
 }
@@ -39,15 +41,15 @@ fn bounded_of(sign: Sign) -> Option<Special>
 
 /// A name, or `old`, `new` or `wrap`.
 #[tactic(auto, unfolding(crate::specs::Scripts::subject_at))]
-fn subject<'a>(terminals: &'a [Terminal], left: u32) -> Read<'a, Subject>
+fn subject<'a>(terminals: &'a [Terminal], left: u32) -> Read<'a, RawSubject>
     ensures { Reads (λ x. (x.0, x.1.now)) result (subject_at left terminals.now) }
 {
     let (terminal, rest) = next(terminals).ok_or(Halt::Fault(Fault::Ended))?;
     let line = terminal.line;
     let subject = match terminal.what {
-        TerminalKind::Name(name, _) => Subject::Name(Named { name, line }),
+        TerminalKind::Name(name, _) => RawSubject::Name(RawName { name, line }),
         TerminalKind::Sign(sign) => match bounded_of(sign) {
-            Some(terminal) => Subject::Special(terminal, line),
+            Some(terminal) => RawSubject::Special(terminal, line),
             None => return Err(wanted(line)),
         },
         TerminalKind::Number(_) => return Err(wanted(line)),
@@ -59,35 +61,35 @@ fn subject<'a>(terminals: &'a [Terminal], left: u32) -> Read<'a, Subject>
 }
 
 #[tactic(auto, unfolding(crate::specs::Scripts::hyp_at))]
-fn hyp<'a>(terminals: &'a [Terminal], left: u32) -> Read<'a, RawHyp>
+fn hyp<'a>(terminals: &'a [Terminal], left: u32) -> Read<'a, RawHypName>
     ensures { Reads (λ x. (x.0, x.1.now)) result (hyp_at left terminals.now) }
 {
     if begins_with(terminals, Sign::Denied) {
         let (_, rest) = sign(terminals, left, Sign::Denied)?;
-        return Ok((RawHyp::Denied, rest));
+        return Ok((RawHypName::Denied, rest));
     }
     if begins_with(terminals, Sign::At) {
         let (_, rest) = sign(terminals, left, Sign::At)?;
         let (at, rest) = number(rest, left)?;
-        return Ok((RawHyp::At(place_of(at)), rest));
+        return Ok((RawHypName::At(statement_number(at)), rest));
     }
     if begins_with(terminals, Sign::Low) {
         let (_, rest) = sign(terminals, left, Sign::Low)?;
         let (subject, rest) = subject(rest, left)?;
-        return Ok((RawHyp::Low(subject), rest));
+        return Ok((RawHypName::Low(subject), rest));
     }
     if begins_with(terminals, Sign::High) {
         let (_, rest) = sign(terminals, left, Sign::High)?;
         let (subject, rest) = subject(rest, left)?;
-        return Ok((RawHyp::High(subject), rest));
+        return Ok((RawHypName::High(subject), rest));
     }
     let (label, rest) = name(terminals, left)?;
-    Ok((RawHyp::Label(label), rest))
+    Ok((RawHypName::Label(label), rest))
 }
 
 /// `as` and the name that a step gives.
 #[tactic(auto, unfolding(crate::specs::Scripts::as_name))]
-fn as_name<'a>(terminals: &'a [Terminal], left: u32) -> Read<'a, Named>
+fn as_name<'a>(terminals: &'a [Terminal], left: u32) -> Read<'a, RawName>
     ensures { Reads (λ x. (x.0, x.1.now)) result (as_name left terminals.now) }
 {
     let (_, rest) = sign(terminals, left, Sign::As)?;
@@ -127,7 +129,7 @@ fn part<'a>(terminals: &'a [Terminal], left: u32) -> Read<'a, RawPart>
 }
 
 /// Parts with commas between, at least one.
-#[tactic(auto, unfolding(sync_parse_exprs::specs::Lexemes::series, sync_parse_exprs::specs::Lexemes::behind_commas))]
+#[tactic(auto, unfolding(sync_parse_exprs::specs::Terminals::series, sync_parse_exprs::specs::Terminals::behind_commas))]
 fn part_series<'a>(alloc: Global, terminals: &'a [Terminal], left: u32) -> Read<'a, Items<RawPart>>
     ensures { Reads (λ x. (x.0, x.1.now)) result (series (part_at left) terminals.now) }
 {
@@ -246,9 +248,9 @@ fn cong_step<'a>(alloc: Global, terminals: &'a [Terminal], left: u32) -> Read<'a
 }
 
 /// A step without a block.
-#[tactic(auto, unfolding(crate::specs::Scripts::plain_step))]
-fn plain_step<'a>(alloc: Global, terminals: &'a [Terminal], left: u32) -> Read<'a, RawStepKind>
-    ensures { Reads (λ x. (x.0, x.1.now)) result (plain_step left terminals.now) }
+#[tactic(auto, unfolding(crate::specs::Scripts::blockless_step))]
+fn blockless_step<'a>(alloc: Global, terminals: &'a [Terminal], left: u32) -> Read<'a, RawStepKind>
+    ensures { Reads (λ x. (x.0, x.1.now)) result (blockless_step left terminals.now) }
 {
     let (terminal, _) = next(terminals).ok_or(Halt::Fault(Fault::Ended))?;
     if terminal.is(Sign::Same) {
@@ -299,7 +301,7 @@ fn cut_step<'a>(alloc: Global, terminals: &'a [Terminal], left: u32) -> Read<'a,
 
 #[cycle(script)]
 #[tactic(auto, unfolding(crate::specs::Scripts::step_at))]
-fn step<'a>(alloc: Global, terminals: &'a [Terminal], left: u32) -> Read<'a, RawStep>
+fn step<'a>(alloc: Global, terminals: &'a [Terminal], left: u32) -> Read<'a, RawScriptStep>
     ensures { Reads (λ x. (x.0, x.1.now)) result (step_at (block_at left) left terminals.now) }
 {
     let line = first_line(terminals);
@@ -308,15 +310,15 @@ fn step<'a>(alloc: Global, terminals: &'a [Terminal], left: u32) -> Read<'a, Raw
     } else if begins_with(terminals, Sign::Cut) {
         cut_step(alloc, terminals, left)?
     } else {
-        plain_step(alloc, terminals, left)?
+        blockless_step(alloc, terminals, left)?
     };
-    Ok((RawStep { what, line }, rest))
+    Ok((RawScriptStep { what, line }, rest))
 }
 
 /// A step inside of a block that opens at a level.
 #[cycle(script)]
 #[tactic(auto, using(crate::proofs::Inside::nested_is))]
-fn step_inside<'a>(alloc: Global, terminals: &'a [Terminal], left: u32) -> Read<'a, RawStep>
+fn step_inside<'a>(alloc: Global, terminals: &'a [Terminal], left: u32) -> Read<'a, RawScriptStep>
     requires { 0 < left }
     ensures { Reads (λ x. (x.0, x.1.now)) result (step_at (nested left) (left - 1) terminals.now) }
 {
@@ -325,8 +327,8 @@ fn step_inside<'a>(alloc: Global, terminals: &'a [Terminal], left: u32) -> Read<
 
 /// The steps of a block that opens at a level, up to its closing brace.
 #[cycle(script)]
-#[tactic(auto, unfolding(crate::specs::Scripts::steps, sync_parse_exprs::specs::Lexemes::row))]
-fn steps<'a>(alloc: Global, terminals: &'a [Terminal], left: u32) -> Read<'a, Items<RawStep>>
+#[tactic(auto, unfolding(crate::specs::Scripts::steps, sync_parse_exprs::specs::Terminals::row))]
+fn steps<'a>(alloc: Global, terminals: &'a [Terminal], left: u32) -> Read<'a, Items<RawScriptStep>>
     requires { 0 < left }
     ensures { Reads (λ x. (x.0, x.1.now)) result (steps (nested left) (left - 1) terminals.now) }
 {

@@ -1,6 +1,6 @@
 //! Proof scripts.
 use sqlite_items::Items;
-use sync_parse_exprs::{Expr, Named, Special};
+use sync_parse_exprs::{RawExpr, RawName, Special};
 
 /// `by` and a block, with the line of `by`.
 #[derive(Debug, Drop)]
@@ -13,14 +13,14 @@ pub struct RawScript {
 #[derive(Debug, Drop)]
 #[cycle(scripts)]
 pub struct RawBlock {
-    pub steps: Items<RawStep>,
+    pub steps: Items<RawScriptStep>,
     pub end_line: u32,
 }
 
 /// A step, with the line of its first terminal.
 #[derive(Debug, Drop)]
 #[cycle(scripts)]
-pub struct RawStep {
+pub struct RawScriptStep {
     pub what: RawStepKind,
     pub line: u32,
 }
@@ -31,38 +31,38 @@ pub struct RawStep {
 pub enum RawStepKind {
     Same,
     Sum(Items<RawPart>),
-    Inst(RawHyp, Items<Expr>, Named),
-    Parts(RawHyp, Named, Named),
-    Split(RawHyp, Named, RawBlock, RawBlock),
-    Cut(Expr, Named, RawBlock),
-    Read(Expr, Expr, Named),
-    Size(Expr, Expr, Named),
-    Total(Expr, Expr, Named),
-    Cong(Expr, Expr, Expr, Named),
+    Inst(RawHypName, Items<RawExpr>, RawName),
+    Parts(RawHypName, RawName, RawName),
+    Split(RawHypName, RawName, RawBlock, RawBlock),
+    Cut(RawExpr, RawName, RawBlock),
+    Read(RawExpr, RawExpr, RawName),
+    Size(RawExpr, RawExpr, RawName),
+    Total(RawExpr, RawExpr, RawName),
+    Cong(RawExpr, RawExpr, RawExpr, RawName),
 }
 
 /// One part of a `sum`: a number times a hypothesis.
 #[derive(Clone, Copy, PartialEq, Eq, Debug)]
 pub struct RawPart {
     pub times: i128,
-    pub hyp: RawHyp,
+    pub hyp: RawHypName,
 }
 
 /// How a script names a hypothesis.
 #[derive(Clone, Copy, PartialEq, Eq, Debug)]
-pub enum RawHyp {
+pub enum RawHypName {
     Denied,
-    Label(Named),
+    Label(RawName),
     /// The condition of the statement with this number, from 1; 4,294,967,295 stands for all numbers from there on.
     At(u32),
-    Low(Subject),
-    High(Subject),
+    Low(RawSubject),
+    High(RawSubject),
 }
 
 /// What `low` and `high` speak of.
 #[derive(Clone, Copy, PartialEq, Eq, Debug)]
-pub enum Subject {
-    Name(Named),
+pub enum RawSubject {
+    Name(RawName),
     /// `old`, `new` or `wrap`, with its line.
     Special(Special, u32),
 }

@@ -2,7 +2,7 @@
 use crate::scripts::RawScript;
 use sqlite_items::Items;
 use sync_base::{NameList, OpMode, Strategy};
-use sync_parse_exprs::{Expr, Named};
+use sync_parse_exprs::{RawExpr, RawName};
 
 /// A machine and its proofs, and the names of the text.
 #[derive(Debug, Drop)]
@@ -15,7 +15,7 @@ pub struct RawText {
 /// A machine; the line is that of `machine`.
 #[derive(Debug, Drop)]
 pub struct RawMachine {
-    pub name: Named,
+    pub name: RawName,
     pub fields: Items<RawField>,
     pub operations: Items<RawOperation>,
     pub invariants: Items<RawInvariant>,
@@ -25,7 +25,7 @@ pub struct RawMachine {
 /// A field; the line is that of `field`.
 #[derive(Clone, Copy, PartialEq, Eq, Debug)]
 pub struct RawField {
-    pub name: Named,
+    pub name: RawName,
     pub strategy: Strategy,
     pub line: u32,
 }
@@ -34,34 +34,34 @@ pub struct RawField {
 #[derive(Debug, Drop)]
 pub struct RawOperation {
     pub mode: OpMode,
-    pub name: Named,
-    pub params: Items<Named>,
-    pub acts: Items<RawAct>,
+    pub name: RawName,
+    pub params: Items<RawName>,
+    pub steps: Items<RawStep>,
     pub line: u32,
 }
 
 /// A statement of an operation; the line is that of its first terminal.
 #[derive(Debug, Drop)]
-pub struct RawAct {
-    pub what: RawActKind,
+pub struct RawStep {
+    pub what: RawAct,
     pub line: u32,
 }
 
 /// What a statement does. The name is that of a field.
 #[derive(Debug, Drop)]
-pub enum RawActKind {
-    Init(Named, Expr),
-    Require(Expr),
-    Assert(Expr),
-    Update(Named, Expr),
+pub enum RawAct {
+    Init(RawName, RawExpr),
+    Require(RawExpr),
+    Assert(RawExpr),
+    Update(RawName, RawExpr),
     /// `have f;`
-    HaveVariable(Named),
-    Have(Named, RawPlace),
-    Guard(Named, RawPlace),
-    Add(Named, RawPlace),
-    Deposit(Named, RawPlace),
-    Remove(Named, RawPlace),
-    Withdraw(Named, RawPlace),
+    HaveVariable(RawName),
+    Have(RawName, RawPlace),
+    Guard(RawName, RawPlace),
+    Add(RawName, RawPlace),
+    Deposit(RawName, RawPlace),
+    Remove(RawName, RawPlace),
+    Withdraw(RawName, RawPlace),
 }
 
 /// What a statement says of a field: a value, a key, or a key with a value.
@@ -70,31 +70,31 @@ pub enum RawPlace {
     /// `(v)`
     Value(RawPattern),
     /// `[k]`
-    Key(Expr),
+    Key(RawExpr),
     /// `[k => v]`
-    Entry(Expr, RawPattern),
+    Entry(RawExpr, RawPattern),
 }
 
 /// A value: `?v`, a name that is bound to it, or a term.
 #[derive(Debug, Drop)]
 pub enum RawPattern {
-    Bind(Named),
-    Term(Expr),
+    Bind(RawName),
+    Term(RawExpr),
 }
 
 /// An invariant; the line is that of `invariant`.
 #[derive(Debug, Drop)]
 pub struct RawInvariant {
-    pub name: Named,
-    pub params: Items<Named>,
-    pub form: Expr,
+    pub name: RawName,
+    pub params: Items<RawName>,
+    pub form: RawExpr,
     pub line: u32,
 }
 
 /// A proof of an obligation of the named operation; the line is that of this name.
 #[derive(Debug, Drop)]
 pub struct RawProof {
-    pub operation: Named,
+    pub operation: RawName,
     pub claim: RawClaim,
     pub script: RawScript,
 }
@@ -103,7 +103,7 @@ pub struct RawProof {
 #[derive(Clone, Copy, PartialEq, Eq, Debug)]
 pub enum RawClaim {
     /// It keeps the named invariant.
-    Keeps(Named),
+    Keeps(RawName),
     /// The safety condition of its statement with this number, from 1; 4,294,967,295 stands for all numbers from there on.
     At(u32),
 }

@@ -7,7 +7,7 @@ use Rattle.sync_lex.specs.Terminals.{is_sign}
 use Rattle.sync_parse_exprs.specs.declared.faults.Halt.{Halt}
 use Rattle.sync_parse_exprs.specs.declared.faults.Halt.TheVariants as halt
 use Rattle.sync_parse_exprs.specs.Faults.{Halts}
-use Rattle.sync_parse_exprs.specs.Lexemes.{Read, Reader, row, behind_commas}
+use Rattle.sync_parse_exprs.specs.Terminals.{Read, Reader, row, behind_commas}
 
 pub commas_go : {A : Type 0} (item : Reader A) (n i : ℕ) (held : List A) (w : Terminal) (ws : List Terminal) (x : A) (after : List Terminal) (ts : List Terminal) (more : List A) (total : Read (List A))
     → i < n → ts ≡ w ∷ ws → is_sign w sign.Comma ≡ true → item ws ≡ Ok (x, after) → more ≡ held ++ x ∷ []

@@ -7,27 +7,28 @@ use Rattle.sync_lex.specs.declared.terminals.TerminalKind.{TerminalKind}
 use Rattle.sync_lex.specs.declared.terminals.TerminalKind.TheVariants as what
 use Rattle.sync_lex.specs.declared.terminals.Terminal.{Terminal}
 use Rattle.sync_lex.specs.Signs.{is_same}
-use Rattle.sync_lex.specs.Terminals.{is_sign, largest}
+use Rattle.sync_lex.specs.Terminals.{is_sign}
+use Rattle.sync_base.specs.Limits.{largest}
 use Rattle.sync_parse_exprs.specs.declared.faults.Fault.TheVariants.{Ended, Wanted, Deep}
-use Rattle.sync_parse_exprs.specs.declared.naming.Named.{Named}
-use Rattle.sync_parse_exprs.specs.declared.expressions.Expr.{Expr, roll-Expr}
-use Rattle.sync_parse_exprs.specs.declared.expressions.ExprKind.{ExprKind}
-use Rattle.sync_parse_exprs.specs.declared.expressions.ExprKind.TheVariants as kind
+use Rattle.sync_parse_exprs.specs.declared.raw_names.RawName.{RawName}
+use Rattle.sync_parse_exprs.specs.declared.expressions.RawExpr.{RawExpr, roll-RawExpr}
+use Rattle.sync_parse_exprs.specs.declared.expressions.RawExprKind.{RawExprKind}
+use Rattle.sync_parse_exprs.specs.declared.expressions.RawExprKind.TheVariants as kind
 use Rattle.sync_parse_exprs.specs.declared.expressions.Special.{Special}
 use Rattle.sync_parse_exprs.specs.declared.expressions.Special.TheVariants as special
 use Rattle.sync_parse_exprs.specs.declared.expressions.Function.{Function}
 use Rattle.sync_parse_exprs.specs.declared.expressions.Function.TheVariants as function
 use Rattle.sync_parse_exprs.specs.declared.expressions.Operator.{Operator}
 use Rattle.sync_parse_exprs.specs.declared.expressions.Operator.TheVariants as operator
-use Rattle.sync_parse_exprs.specs.Lexemes.{Read, Reader, within, first_line, sign_at, name_at, number_at, listed, in_round}
+use Rattle.sync_parse_exprs.specs.Terminals.{longest_chain, Read, Reader, unless_deep, first_line, sign_at, name_at, number_at, listed, in_round}
 
 -- a number of the text, which is at most 2 ^ 127 - 1
 abbrev pub signed : ℕ → ℤ
 signed n = pos (min n largest)
 
 -- an expression of this kind, with the line of its first lexeme
-abbrev pub placed : ExprKind → ℕ → Expr
-placed what line = roll-Expr (record { what = what; line = line })
+abbrev pub placed : RawExprKind → ℕ → RawExpr
+placed what line = roll-RawExpr (record { what = what; line = line })
 
 -- the terminals that have a value at some places
 unfoldable pub special_of : Sign → Option Special
@@ -72,18 +73,18 @@ abbrev pub or_of : Terminal → Option Operator
 or_of w = if is_sign w sign.Or then Some operator.Or else None
 
 -- the number of a product that begins here
-abbrev pub number_in : TerminalKind → Option ℕ
-number_in (what.Number n) = Some n
-number_in (what.Name n strategy) = None
-number_in (what.Sign s) = None
+abbrev pub factor_said : TerminalKind → Option ℕ
+factor_said (what.Number n) = Some n
+factor_said (what.Name n strategy) = None
+factor_said (what.Sign s) = None
 
 unfoldable pub factor_of : List Terminal → Option ℕ
 factor_of [] = None
 factor_of (w ∷ []) = None
-factor_of (w ∷ star ∷ ws) = if is_sign star sign.Star then number_in w.what else None
+factor_of (w ∷ star ∷ ws) = if is_sign star sign.Star then factor_said w.what else None
 
 -- an expression read as what it is, with its line
-abbrev pub whole : Reader ExprKind → Reader Expr
+abbrev pub whole : Reader RawExprKind → Reader RawExpr
 whole read ts = do
   x ← read ts
   Ok (placed x.0 (first_line ts), x.1)
@@ -94,50 +95,50 @@ whole read ts = do
 unfoldable pub begins_operand : Sign → Bool
 begins_operand s = is_same s sign.Nil || is_same s sign.Dollar || is_same s sign.OpenRound || is_some (special_of s) || is_some (function_of s)
 
-abbrev pub terminal_operand : Reader ExprKind → ℕ → ℕ → Option Special → Option Function → Reader ExprKind
+abbrev pub terminal_operand : Reader RawExprKind → ℕ → ℕ → Option Special → Option Function → Reader RawExprKind
 terminal_operand inner left line (Some terminal) f ws = Ok (kind.Special terminal line, ws)
 terminal_operand inner left line None (Some f) ws = do
   x ← in_round left (listed (whole inner) sign.CloseRound) ws
   Ok (kind.Call f line x.0, x.1)
 terminal_operand inner left line None None ws = Err (Wanted line)
 
-abbrev pub bracketed : Reader ExprKind → ℕ → Reader ExprKind
+abbrev pub bracketed : Reader RawExprKind → ℕ → Reader RawExprKind
 bracketed inner left ws = do
   x ← whole inner ws
   e ← sign_at (left - 1) sign.CloseRound x.1
   Ok (kind.Bracketed x.0, e.1)
 
-abbrev pub param : ℕ → ℕ → Reader ExprKind
+abbrev pub param : ℕ → ℕ → Reader RawExprKind
 param left line ws = do
   x ← name_at left ws
   Ok (kind.Param line x.0, x.1)
 
 -- an operand that begins with this sign or reserved word
-unfoldable pub sign_operand : Reader ExprKind → ℕ → Sign → ℕ → Reader ExprKind
-sign_operand inner left s line ws = if begins_operand s then within left line (
+unfoldable pub sign_operand : Reader RawExprKind → ℕ → Sign → ℕ → Reader RawExprKind
+sign_operand inner left s line ws = if begins_operand s then unless_deep left line (
     if is_same s sign.Nil then Ok (kind.Nil, ws)
     else if is_same s sign.Dollar then param left line ws
     else if is_same s sign.OpenRound then bracketed inner left ws
     else terminal_operand inner left line (special_of s) (function_of s) ws) else Err (Wanted line)
 
-abbrev pub operand_said : Reader ExprKind → ℕ → ℕ → List Terminal → TerminalKind → Read ExprKind
-operand_said inner left line ws (what.Number n) = within left line (Ok (kind.Number (signed n), ws))
-operand_said inner left line ws (what.Name n strategy) = within left line (Ok (kind.Name (record { name = n; line = line }), ws))
+abbrev pub operand_said : Reader RawExprKind → ℕ → ℕ → List Terminal → TerminalKind → Read RawExprKind
+operand_said inner left line ws (what.Number n) = unless_deep left line (Ok (kind.Number (signed n), ws))
+operand_said inner left line ws (what.Name n strategy) = unless_deep left line (Ok (kind.Name (record { name = n; line = line }), ws))
 operand_said inner left line ws (what.Sign s) = sign_operand inner left s line ws
 
-unfoldable pub operand : Reader ExprKind → ℕ → Reader ExprKind
+unfoldable pub operand : Reader RawExprKind → ℕ → Reader RawExprKind
 operand inner left [] = Err Ended
 operand inner left (w ∷ ws) = operand_said inner left w.line ws w.what
 
 -- ---- prefix signs
 
 -- a prefix sign before what `again` reads, where it is not one too many
-abbrev pub prefixed : ℕ → Bool → Reader ExprKind → (Expr → ExprKind) → ℕ → Reader ExprKind
+abbrev pub prefixed : ℕ → Bool → Reader RawExprKind → (RawExpr → RawExprKind) → ℕ → Reader RawExprKind
 prefixed left many again make line ws = if (left == 0) || many then Err (Deep line) else (do
   x ← whole again ws
   Ok (make x.0, x.1))
 
-abbrev pub unary_with : Reader ExprKind → ℕ → Bool → Reader ExprKind → Reader ExprKind
+abbrev pub unary_with : Reader RawExprKind → ℕ → Bool → Reader RawExprKind → Reader RawExprKind
 unary_with inner left many again [] = Err Ended
 unary_with inner left many again (w ∷ ws) =
     if is_sign w sign.Bang then prefixed left many again kind.Not w.line ws
@@ -145,26 +146,26 @@ unary_with inner left many again (w ∷ ws) =
     else operand inner left (w ∷ ws)
 
 -- an operand behind a run of at most so many prefix signs
-unfoldable pub unary : Reader ExprKind → ℕ → ℕ → Reader ExprKind
+unfoldable pub unary : Reader RawExprKind → ℕ → ℕ → Reader RawExprKind
 unary inner left zero ts = unary_with inner left true (λ ws. Err Ended) ts
 unary inner left (suc run) ts = unary_with inner left false (unary inner left run) ts
 
-abbrev pub times : Reader ExprKind → ℕ → Option ℕ → Reader ExprKind
-times inner left None ts = unary inner left 64 ts
+abbrev pub times : Reader RawExprKind → ℕ → Option ℕ → Reader RawExprKind
+times inner left None ts = unary inner left longest_chain ts
 times inner left (Some factor) ts = do
   n ← number_at left ts
   star ← sign_at left sign.Star n.1
-  x ← whole (unary inner left 64) star.1
+  x ← whole (unary inner left longest_chain) star.1
   Ok (kind.Times (signed n.0) x.0, x.1)
 
 -- a number and `*` may stand before an operand
-unfoldable pub product : Reader ExprKind → ℕ → Reader ExprKind
+unfoldable pub product : Reader RawExprKind → ℕ → Reader RawExprKind
 product inner left ts = times inner left (factor_of ts) ts
 
 -- ---- chains
 
 -- the rest of a chain from the left: what was read stands at a line, and at most so many operators may come
-unfoldable pub chain : (Terminal → Option Operator) → Reader ExprKind → ℕ → ℕ → ExprKind → Reader ExprKind
+unfoldable pub chain : (Terminal → Option Operator) → Reader RawExprKind → ℕ → ℕ → RawExprKind → Reader RawExprKind
 chain op item line more held [] = Ok (held, [])
 chain op item line zero held (w ∷ ws) = if is_some (op w) then Err (Deep w.line) else Ok (held, w ∷ ws)
 chain op item line (suc more) held (w ∷ ws) = elim (op w) [
@@ -174,17 +175,17 @@ chain op item line (suc more) held (w ∷ ws) = elim (op w) [
     chain op item line more (kind.Two o (placed held line) x.0) x.1)
 ]
 
--- items with at most 64 operators between, from the left
-abbrev pub chained : (Terminal → Option Operator) → Reader ExprKind → Reader ExprKind
+-- items with operators between, from the left
+abbrev pub chained : (Terminal → Option Operator) → Reader RawExprKind → Reader RawExprKind
 chained op item ts = do
   x ← item ts
-  chain op item (first_line ts) 64 x.0 x.1
+  chain op item (first_line ts) longest_chain x.0 x.1
 
-unfoldable pub sums : Reader ExprKind → ℕ → Reader ExprKind
+unfoldable pub sums : Reader RawExprKind → ℕ → Reader RawExprKind
 sums inner left ts = chained sum_of (product inner left) ts
 
 -- a second side where a relation comes
-abbrev pub related : Reader ExprKind → ℕ → ExprKind → Reader ExprKind
+abbrev pub related : Reader RawExprKind → ℕ → RawExprKind → Reader RawExprKind
 related item line held [] = Ok (held, [])
 related item line held (w ∷ ws) = elim (relation_of w) [
   | None ↦ Ok (held, w ∷ ws)
@@ -193,19 +194,19 @@ related item line held (w ∷ ws) = elim (relation_of w) [
     Ok (kind.Two o (placed held line) x.0, x.1))
 ]
 
-unfoldable pub relation : Reader ExprKind → ℕ → Reader ExprKind
+unfoldable pub relation : Reader RawExprKind → ℕ → Reader RawExprKind
 relation inner left ts = do
   x ← sums inner left ts
   related (sums inner left) (first_line ts) x.0 x.1
 
-unfoldable pub ands : Reader ExprKind → ℕ → Reader ExprKind
+unfoldable pub ands : Reader RawExprKind → ℕ → Reader RawExprKind
 ands inner left ts = chained and_of (relation inner left) ts
 
-unfoldable pub ors : Reader ExprKind → ℕ → Reader ExprKind
+unfoldable pub ors : Reader RawExprKind → ℕ → Reader RawExprKind
 ors inner left ts = chained or_of (ands inner left) ts
 
 -- what follows from it, where `==>` comes and is not one too many
-abbrev pub implied : Bool → Reader ExprKind → ℕ → ExprKind → Reader ExprKind
+abbrev pub implied : Bool → Reader RawExprKind → ℕ → RawExprKind → Reader RawExprKind
 implied many right line held [] = Ok (held, [])
 implied many right line held (w ∷ ws) =
     if is_sign w sign.Implies then (if many then Err (Deep w.line) else (do
@@ -214,7 +215,7 @@ implied many right line held (w ∷ ws) =
     else Ok (held, w ∷ ws)
 
 -- items with at most so many `==>` between, from the right
-unfoldable pub implies : Reader ExprKind → ℕ → ℕ → Reader ExprKind
+unfoldable pub implies : Reader RawExprKind → ℕ → ℕ → Reader RawExprKind
 implies inner left zero ts = do
   x ← ors inner left ts
   implied true (λ ws. Err Ended) (first_line ts) x.0 x.1
@@ -225,14 +226,14 @@ implies inner left (suc run) ts = do
 -- ---- expressions
 
 -- what stands in brackets that open at a level; at 0 a bracket is too deep, and this is not asked
-unfoldable pub inside : ℕ → Reader ExprKind
+unfoldable pub inside : ℕ → Reader RawExprKind
 inside zero = λ ts. Err Ended
-inside (suc below) = implies (inside below) below 64
+inside (suc below) = implies (inside below) below longest_chain
 
 -- an expression at a level
-unfoldable pub expr_at : ℕ → Reader Expr
-expr_at left ts = whole (implies (inside left) left 64) ts
+unfoldable pub expr_at : ℕ → Reader RawExpr
+expr_at left ts = whole (implies (inside left) left longest_chain) ts
 
 -- expressions with commas between, or nothing, in round brackets
-abbrev pub exprs_at : ℕ → Reader (List Expr)
+abbrev pub exprs_at : ℕ → Reader (List RawExpr)
 exprs_at left ts = in_round left (listed (whole (inside left)) sign.CloseRound) ts

@@ -1,3 +1,3 @@
 pub mod Faults
-pub mod Lexemes
+pub mod Terminals
 pub mod Expressions

@@ -1,16 +1,16 @@
 //! Reading expressions. `left` is 65 less the number of brackets that are open.
 ghost use Rattle.std.specs.Prelude.{◌≡◌, ◌<◌, IfOk};
 ghost use Rattle.sync_parse_exprs.specs.Faults.{Reads};
-ghost use Rattle.sync_parse_exprs.specs.Lexemes.{series};
+ghost use Rattle.sync_parse_exprs.specs.Terminals.{series};
 ghost use Rattle.sync_parse_exprs.specs.Expressions.{signed, placed, special_of, function_of, begins_operand, relation_of, sum_of, factor_of, whole, sign_operand, operand, unary, product, sums, relation, ands, ors, implies, inside, expr_at, exprs_at};
 
-use crate::expressions::{Expr, ExprKind, Function, Operator, Special};
+use crate::expressions::{Function, Operator, RawExpr, RawExprKind, Special};
 use crate::faults::{Fault, Halt};
-use crate::lexemes::{Read, begins_with, deep, first_line, name, next, number, sign, wanted};
-use crate::naming::Named;
+use crate::raw_names::RawName;
+use crate::terminals::{Read, begins_with, deep, first_line, name, next, number, sign, wanted};
 use sqlite_items::{Boxed, Items};
 use std::alloc::{AllocError, Global};
-use sync_lex::{LARGEST, Sign, TerminalKind, Terminal};
+use sync_lex::{LARGEST, Sign, Terminal, TerminalKind};
 
 /// So many operators of a chain, or prefix signs of a run, may stand at one level.
 const CHAIN: u32 = 64;
@@ -22,26 +22,26 @@ pub fn signed(number: u128) -> i128
     number.min(LARGEST) as i128
 }
 
-fn placed(alloc: Global, what: ExprKind, line: u32) -> Result<Boxed<Expr>, AllocError>
+fn placed(alloc: Global, what: RawExprKind, line: u32) -> Result<Boxed<RawExpr>, AllocError>
     ensures { IfOk result (λ e. e ≡ placed what line) }
 {
-    Boxed::new(alloc, Expr { what, line })
+    Boxed::new(alloc, RawExpr { what, line })
 }
 
 /// Two expressions with an operator between, each with its line.
 fn two(
     alloc: Global,
     operator: Operator,
-    first: ExprKind,
+    first: RawExprKind,
     line: u32,
-    second: ExprKind,
+    second: RawExprKind,
     second_line: u32,
-) -> Result<ExprKind, AllocError>
-    ensures { IfOk result (λ e. e ≡ ExprKind.Two operator (placed first line) (placed second second_line)) }
+) -> Result<RawExprKind, AllocError>
+    ensures { IfOk result (λ e. e ≡ RawExprKind.Two operator (placed first line) (placed second second_line)) }
 {
     let first = placed(alloc, first, line)?;
     let second = placed(alloc, second, second_line)?;
-    Ok(ExprKind::Two(operator, first, second))
+    Ok(RawExprKind::Two(operator, first, second))
 }
 
 /// The terminal that has a value at some places.
@@ -146,19 +146,19 @@ fn factor_of(terminals: &[Terminal]) -> Option<u128>
 /// An expression inside of brackets that open at a level.
 #[cycle(expr)]
 #[tactic(auto, using(crate::proofs::Inside::inside_is))]
-fn expr_inside<'a>(alloc: Global, terminals: &'a [Terminal], left: u32) -> Read<'a, Expr>
+fn expr_inside<'a>(alloc: Global, terminals: &'a [Terminal], left: u32) -> Read<'a, RawExpr>
     requires { 0 < left }
     ensures { Reads (λ x. (x.0, x.1.now)) result (whole (inside left) terminals.now) }
 {
     let line = first_line(terminals);
     let (what, rest) = implies(alloc, terminals, left - 1, CHAIN)?;
-    Ok((Expr { what, line }, rest))
+    Ok((RawExpr { what, line }, rest))
 }
 
 /// Expressions with commas between, at least one, inside of brackets that open at a level.
 #[cycle(expr)]
-#[tactic(auto, unfolding(crate::specs::Lexemes::series, crate::specs::Lexemes::behind_commas))]
-fn expr_series<'a>(alloc: Global, terminals: &'a [Terminal], left: u32) -> Read<'a, Items<Expr>>
+#[tactic(auto, unfolding(crate::specs::Terminals::series, crate::specs::Terminals::behind_commas))]
+fn expr_series<'a>(alloc: Global, terminals: &'a [Terminal], left: u32) -> Read<'a, Items<RawExpr>>
     requires { 0 < left }
     ensures { Reads (λ x. (x.0, x.1.now)) result (series (whole (inside left)) terminals.now) }
 {
@@ -180,14 +180,14 @@ fn expr_series<'a>(alloc: Global, terminals: &'a [Terminal], left: u32) -> Read<
 
 /// An operand that begins with this sign or reserved word; the terminals are those behind it.
 #[cycle(expr)]
-#[tactic(auto, using(crate::proofs::Inside::inside_is), unfolding(crate::specs::Expressions::sign_operand, crate::specs::Lexemes::in_round, crate::specs::Lexemes::listed))]
+#[tactic(auto, using(crate::proofs::Inside::inside_is), unfolding(crate::specs::Expressions::sign_operand, crate::specs::Terminals::in_round, crate::specs::Terminals::listed))]
 fn sign_operand<'a>(
     alloc: Global,
     first: Sign,
     line: u32,
     terminals: &'a [Terminal],
     left: u32,
-) -> Read<'a, ExprKind>
+) -> Read<'a, RawExprKind>
     ensures { Reads (λ x. (x.0, x.1.now)) result (sign_operand (inside left) left first line terminals.now) }
 {
     if !begins_operand(first) {
@@ -197,19 +197,19 @@ fn sign_operand<'a>(
         return Err(deep(line));
     }
     if first == Sign::Nil {
-        return Ok((ExprKind::Nil, terminals));
+        return Ok((RawExprKind::Nil, terminals));
     }
     if first == Sign::Dollar {
         let (param, rest) = name(terminals, left)?;
-        return Ok((ExprKind::Param(line, param), rest));
+        return Ok((RawExprKind::Param(line, param), rest));
     }
     if first == Sign::OpenRound {
         let (inner, rest) = expr_inside(alloc, terminals, left)?;
         let (_, rest) = sign(rest, left - 1, Sign::CloseRound)?;
-        return Ok((ExprKind::Bracketed(Boxed::new(alloc, inner)?), rest));
+        return Ok((RawExprKind::Bracketed(Boxed::new(alloc, inner)?), rest));
     }
     if let Some(terminal) = special_of(first) {
-        return Ok((ExprKind::Special(terminal, line), terminals));
+        return Ok((RawExprKind::Special(terminal, line), terminals));
     }
     match function_of(first) {
         Some(function) => {
@@ -220,7 +220,7 @@ fn sign_operand<'a>(
                 expr_series(alloc, rest, left)?
             };
             let (_, rest) = sign(rest, left - 1, Sign::CloseRound)?;
-            Ok((ExprKind::Call(function, line, list), rest))
+            Ok((RawExprKind::Call(function, line, list), rest))
         }
         None => Err(wanted(line)),
     }
@@ -228,7 +228,7 @@ fn sign_operand<'a>(
 
 #[cycle(expr)]
 #[tactic(auto, unfolding(crate::specs::Expressions::operand))]
-fn operand<'a>(alloc: Global, terminals: &'a [Terminal], left: u32) -> Read<'a, ExprKind>
+fn operand<'a>(alloc: Global, terminals: &'a [Terminal], left: u32) -> Read<'a, RawExprKind>
     ensures { Reads (λ x. (x.0, x.1.now)) result (operand (inside left) left terminals.now) }
 {
     let (terminal, rest) = next(terminals).ok_or(Halt::Fault(Fault::Ended))?;
@@ -236,15 +236,15 @@ fn operand<'a>(alloc: Global, terminals: &'a [Terminal], left: u32) -> Read<'a, 
     match terminal.what {
         TerminalKind::Sign(first) => sign_operand(alloc, first, line, rest, left),
         TerminalKind::Number(_) | TerminalKind::Name(_, _) if left == 0 => Err(deep(line)),
-        TerminalKind::Number(number) => Ok((ExprKind::Number(signed(number)), rest)),
-        TerminalKind::Name(name, _) => Ok((ExprKind::Name(Named { name, line }), rest)),
+        TerminalKind::Number(number) => Ok((RawExprKind::Number(signed(number)), rest)),
+        TerminalKind::Name(name, _) => Ok((RawExprKind::Name(RawName { name, line }), rest)),
     }
 }
 
 /// An operand behind at most `run` prefix signs.
 #[cycle(expr)]
 #[tactic(auto, unfolding(crate::specs::Expressions::unary))]
-fn unary<'a>(alloc: Global, terminals: &'a [Terminal], left: u32, run: u32) -> Read<'a, ExprKind>
+fn unary<'a>(alloc: Global, terminals: &'a [Terminal], left: u32, run: u32) -> Read<'a, RawExprKind>
     ensures { Reads (λ x. (x.0, x.1.now)) result (unary (inside left) left run terminals.now) }
 {
     let (terminal, rest) = next(terminals).ok_or(Halt::Fault(Fault::Ended))?;
@@ -254,7 +254,7 @@ fn unary<'a>(alloc: Global, terminals: &'a [Terminal], left: u32, run: u32) -> R
         }
         let line = first_line(rest);
         let (what, rest) = unary(alloc, rest, left, run - 1)?;
-        return Ok((ExprKind::Not(placed(alloc, what, line)?), rest));
+        return Ok((RawExprKind::Not(placed(alloc, what, line)?), rest));
     }
     if terminal.is(Sign::Minus) {
         if left == 0 || run == 0 {
@@ -262,14 +262,14 @@ fn unary<'a>(alloc: Global, terminals: &'a [Terminal], left: u32, run: u32) -> R
         }
         let line = first_line(rest);
         let (what, rest) = unary(alloc, rest, left, run - 1)?;
-        return Ok((ExprKind::Minus(placed(alloc, what, line)?), rest));
+        return Ok((RawExprKind::Minus(placed(alloc, what, line)?), rest));
     }
     operand(alloc, terminals, left)
 }
 
 #[cycle(expr)]
 #[tactic(auto, unfolding(crate::specs::Expressions::product))]
-fn product<'a>(alloc: Global, terminals: &'a [Terminal], left: u32) -> Read<'a, ExprKind>
+fn product<'a>(alloc: Global, terminals: &'a [Terminal], left: u32) -> Read<'a, RawExprKind>
     ensures { Reads (λ x. (x.0, x.1.now)) result (product (inside left) left terminals.now) }
 {
     if factor_of(terminals).is_none() {
@@ -280,12 +280,12 @@ fn product<'a>(alloc: Global, terminals: &'a [Terminal], left: u32) -> Read<'a, 
     let line = first_line(rest);
     let (what, rest) = unary(alloc, rest, left, CHAIN)?;
     let operand = placed(alloc, what, line)?;
-    Ok((ExprKind::Times(signed(factor), operand), rest))
+    Ok((RawExprKind::Times(signed(factor), operand), rest))
 }
 
 #[cycle(expr)]
 #[tactic(auto, unfolding(crate::specs::Expressions::sums, crate::specs::Expressions::chain))]
-fn sums<'a>(alloc: Global, terminals: &'a [Terminal], left: u32) -> Read<'a, ExprKind>
+fn sums<'a>(alloc: Global, terminals: &'a [Terminal], left: u32) -> Read<'a, RawExprKind>
     ensures { Reads (λ x. (x.0, x.1.now)) result (sums (inside left) left terminals.now) }
 {
     let line = first_line(terminals);
@@ -311,7 +311,7 @@ fn sums<'a>(alloc: Global, terminals: &'a [Terminal], left: u32) -> Read<'a, Exp
 
 #[cycle(expr)]
 #[tactic(auto, unfolding(crate::specs::Expressions::relation))]
-fn relation<'a>(alloc: Global, terminals: &'a [Terminal], left: u32) -> Read<'a, ExprKind>
+fn relation<'a>(alloc: Global, terminals: &'a [Terminal], left: u32) -> Read<'a, RawExprKind>
     ensures { Reads (λ x. (x.0, x.1.now)) result (relation (inside left) left terminals.now) }
 {
     let line = first_line(terminals);
@@ -332,7 +332,7 @@ fn relation<'a>(alloc: Global, terminals: &'a [Terminal], left: u32) -> Read<'a,
 
 #[cycle(expr)]
 #[tactic(auto, unfolding(crate::specs::Expressions::ands, crate::specs::Expressions::chain))]
-fn ands<'a>(alloc: Global, terminals: &'a [Terminal], left: u32) -> Read<'a, ExprKind>
+fn ands<'a>(alloc: Global, terminals: &'a [Terminal], left: u32) -> Read<'a, RawExprKind>
     ensures { Reads (λ x. (x.0, x.1.now)) result (ands (inside left) left terminals.now) }
 {
     let line = first_line(terminals);
@@ -358,7 +358,7 @@ fn ands<'a>(alloc: Global, terminals: &'a [Terminal], left: u32) -> Read<'a, Exp
 
 #[cycle(expr)]
 #[tactic(auto, unfolding(crate::specs::Expressions::ors, crate::specs::Expressions::chain))]
-fn ors<'a>(alloc: Global, terminals: &'a [Terminal], left: u32) -> Read<'a, ExprKind>
+fn ors<'a>(alloc: Global, terminals: &'a [Terminal], left: u32) -> Read<'a, RawExprKind>
     ensures { Reads (λ x. (x.0, x.1.now)) result (ors (inside left) left terminals.now) }
 {
     let line = first_line(terminals);
@@ -385,7 +385,12 @@ fn ors<'a>(alloc: Global, terminals: &'a [Terminal], left: u32) -> Read<'a, Expr
 /// Disjunctions with at most `run` times `==>` between, from the right.
 #[cycle(expr)]
 #[tactic(auto, unfolding(crate::specs::Expressions::implies))]
-fn implies<'a>(alloc: Global, terminals: &'a [Terminal], left: u32, run: u32) -> Read<'a, ExprKind>
+fn implies<'a>(
+    alloc: Global,
+    terminals: &'a [Terminal],
+    left: u32,
+    run: u32,
+) -> Read<'a, RawExprKind>
     ensures { Reads (λ x. (x.0, x.1.now)) result (implies (inside left) left run terminals.now) }
 {
     let line = first_line(terminals);
@@ -409,17 +414,17 @@ fn implies<'a>(alloc: Global, terminals: &'a [Terminal], left: u32, run: u32) ->
 
 /// An expression with the line of its first lexeme.
 #[tactic(auto, unfolding(crate::specs::Expressions::expr_at))]
-pub fn expr<'a>(alloc: Global, terminals: &'a [Terminal], left: u32) -> Read<'a, Expr>
+pub fn expr<'a>(alloc: Global, terminals: &'a [Terminal], left: u32) -> Read<'a, RawExpr>
     ensures { Reads (λ x. (x.0, x.1.now)) result (expr_at left terminals.now) }
 {
     let line = first_line(terminals);
     let (what, rest) = implies(alloc, terminals, left, CHAIN)?;
-    Ok((Expr { what, line }, rest))
+    Ok((RawExpr { what, line }, rest))
 }
 
 /// Expressions with commas between, or nothing, in round brackets.
-#[tactic(auto, unfolding(crate::specs::Lexemes::in_round, crate::specs::Lexemes::listed))]
-pub fn exprs<'a>(alloc: Global, terminals: &'a [Terminal], left: u32) -> Read<'a, Items<Expr>>
+#[tactic(auto, unfolding(crate::specs::Terminals::in_round, crate::specs::Terminals::listed))]
+pub fn exprs<'a>(alloc: Global, terminals: &'a [Terminal], left: u32) -> Read<'a, Items<RawExpr>>
     ensures { Reads (λ x. (x.0, x.1.now)) result (exprs_at left terminals.now) }
 {
     let (_, rest) = sign(terminals, left, Sign::OpenRound)?;

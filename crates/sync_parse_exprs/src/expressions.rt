@@ -1,36 +1,36 @@
 //! Expressions: terms and formulas, whose sorts are not looked at.
-use crate::naming::Named;
+use crate::raw_names::RawName;
 use sqlite_items::{Boxed, Items};
 
 /// An expression, with the line of its first lexeme.
 #[derive(Debug, Drop)]
 #[cycle(expressions)]
-pub struct Expr {
-    pub what: ExprKind,
+pub struct RawExpr {
+    pub what: RawExprKind,
     pub line: u32,
 }
 
 /// What an expression is.
 #[derive(Debug, Drop)]
 #[cycle(expressions)]
-pub enum ExprKind {
+pub enum RawExprKind {
     /// A number from 0 to 2^127 - 1.
     Number(i128),
-    Name(Named),
+    Name(RawName),
     /// `$` before a name, with the line of `$`.
-    Param(u32, Named),
+    Param(u32, RawName),
     Nil,
     /// An expression in round brackets, which is what stands in them, but begins with a bracket.
-    Bracketed(Boxed<Expr>),
+    Bracketed(Boxed<RawExpr>),
     /// A terminal that has a value at some places, with its own line.
     Special(Special, u32),
     /// A function with its arguments, as many as there are, and the function's line.
-    Call(Function, u32, Items<Expr>),
-    Not(Boxed<Expr>),
-    Minus(Boxed<Expr>),
+    Call(Function, u32, Items<RawExpr>),
+    Not(Boxed<RawExpr>),
+    Minus(Boxed<RawExpr>),
     /// A number from 0 to 2^127 - 1 times an expression.
-    Times(i128, Boxed<Expr>),
-    Two(Operator, Boxed<Expr>, Boxed<Expr>),
+    Times(i128, Boxed<RawExpr>),
+    Two(Operator, Boxed<RawExpr>, Boxed<RawExpr>),
 }
 
 /// A terminal that has a value at some places.

@@ -4,13 +4,13 @@
 mod expr_reader;
 mod expressions;
 mod faults;
-mod lexemes;
-mod naming;
+mod raw_names;
+mod terminals;
 
 pub use expr_reader::{expr, exprs, signed};
-pub use expressions::{Expr, ExprKind, Function, Operator, Special};
+pub use expressions::{Function, Operator, RawExpr, RawExprKind, Special};
 pub use faults::{Fault, Halt};
-pub use lexemes::{
+pub use raw_names::RawName;
+pub use terminals::{
     Read, begins_with, deep, first_line, goes_on, name, names, next, number, sign, strategy, wanted,
 };
-pub use naming::Named;

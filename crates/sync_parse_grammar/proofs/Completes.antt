@@ -12,8 +12,8 @@ use Rattle.sync_lex.specs.declared.terminals.Terminal.{Terminal}
 use Rattle.sync_lex.specs.Terminals.{says_sign, is_sign}
 use Rattle.sync_parse_exprs.specs.declared.faults.Fault.{Fault}
 use Rattle.sync_parse_exprs.specs.declared.faults.Fault.TheVariants as fault
-use Rattle.sync_parse_exprs.specs.declared.naming.Named.{Named}
-use Rattle.sync_parse_exprs.specs.Lexemes.{Read, Reader, within, begins_with, goes_on, sign_at, name_at, name_said, number_at, number_said, strategy_at, strategy_said, row, behind_commas, series, listed, in_round, names_at}
+use Rattle.sync_parse_exprs.specs.declared.raw_names.RawName.{RawName}
+use Rattle.sync_parse_exprs.specs.Terminals.{Read, Reader, unless_deep, begins_with, goes_on, sign_at, name_at, name_said, number_at, number_said, strategy_at, strategy_said, row, behind_commas, series, listed, in_round, names_at}
 use Rattle.sync_parse_grammar.specs.Relations.{Spelled, The, AName, ANumber, AStrategy, Yields, Here, Then, ◌>>◌, Either, the_one, the_other, Many, nothing, more, Series, Listed, InRound, Names}
 use Rattle.sync_parse_grammar.proofs.Clears.{code, front, front_of, Set, any, only, both, others, In, only_in, same_in, Starts, Follows, starts_then, starts_the, starts_name, follows_starts, follows_then, follows_many, follows_yields}
 use Rattle.sync_parse_grammar.proofs.Counting.{one_shorter}
@@ -88,7 +88,7 @@ met_else r true e h = absurd cc
 met_else r false e h = h
 
 -- a lexeme that is wanted, and is not too deep
-pub met_within : {A : Type 0} {go : Read A} {x : A × List Terminal} (left line : ℕ) → (0 < left → Met go x) → Met (within left line go) x
+pub met_within : {A : Type 0} {go : Read A} {x : A × List Terminal} (left line : ℕ) → (0 < left → Met go x) → Met (unless_deep left line go) x
 met_within zero line h = record { is = tt }
 met_within {go = go} {x = x} (suc below) line h = go_case (suc below == 0) (eqb_no below) (h (omega arith))
   where
@@ -139,13 +139,13 @@ no_room f x s (w ∷ ws) rest line d = go (is_sign w s) (is_it w s (says w d.ter
     go true e = record { is = tt }
     go false e = absurd cc
 
-name_case : (left : ℕ) (ts : List Terminal) (x : Named) (rest : List Terminal) → AName ts rest x → Met (name_at left ts) (x, rest)
+name_case : (left : ℕ) (ts : List Terminal) (x : RawName) (rest : List Terminal) → AName ts rest x → Met (name_at left ts) (x, rest)
 unfolding name_at
 name_case left [] x rest d = let e : ◌≡◌ {A = List Terminal} [] (d.terminal ∷ rest) = d.stands in absurd cc
 name_case left (w ∷ ws) x rest d =
     let e : ◌≡◌ {A = List Terminal} (w ∷ ws) (d.terminal ∷ rest) = d.stands in
     let line = ap (λ (z : Terminal). z.line) (head_is w d.terminal ws rest e) in
-    let value : ◌≡◌ {A = Named} (record { name = d.number; line = w.line }) x = (λ i. record { name = d.number; line = line i }) ∙ sym d.name_is in
+    let value : ◌≡◌ {A = RawName} (record { name = d.number; line = w.line }) x = (λ i. record { name = d.number; line = line i }) ∙ sym d.name_is in
     let met : Met (name_said left w.line ws (what.Name d.number d.strategy)) (x, rest) = met_within left w.line (λ room. gives value (tail_is w d.terminal ws rest e)) in
     subst (λ z. Met (name_said left w.line ws z) (x, rest)) (sym (says w d.terminal ws rest (what.Name d.number d.strategy) e d.is)) met
 

@@ -6,9 +6,9 @@ use Rattle.sync_lex.specs.contracts.signs.Sign.{the_type}
 use Rattle.sync_lex.specs.declared.terminals.Terminal.{Terminal}
 use Rattle.sync_lex.specs.Signs.{is_same}
 use Rattle.sync_lex.specs.Terminals.{says_sign, is_sign}
-use Rattle.sync_parse_exprs.specs.declared.naming.Named.{Named}
-use Rattle.sync_parse_exprs.specs.declared.expressions.Expr.{Expr}
-use Rattle.sync_parse_exprs.specs.declared.expressions.ExprKind.{ExprKind}
+use Rattle.sync_parse_exprs.specs.declared.raw_names.RawName.{RawName}
+use Rattle.sync_parse_exprs.specs.declared.expressions.RawExpr.{RawExpr}
+use Rattle.sync_parse_exprs.specs.declared.expressions.RawExprKind.{RawExprKind}
 use Rattle.sync_parse_exprs.specs.declared.expressions.Operator.{Operator}
 use Rattle.sync_parse_exprs.specs.Expressions.{special_of, function_of}
 use Rattle.sync_parse.specs.declared.scripts.RawBlock.{RawBlock}
@@ -16,7 +16,7 @@ use Rattle.sync_parse.specs.declared.scripts.RawStepKind.{RawStepKind}
 use Rattle.sync_parse.specs.declared.trees.RawMachine.{RawMachine}
 use Rattle.sync_parse.specs.declared.trees.RawProof.{RawProof}
 use Rattle.sync_parse.specs.declared.trees.RawPlace.{RawPlace}
-use Rattle.sync_parse.specs.declared.trees.RawActKind.{RawActKind}
+use Rattle.sync_parse.specs.declared.trees.RawAct.{RawAct}
 use Rattle.sync_parse.specs.Scripts.{bounded_of}
 use Rattle.sync_parse_grammar.specs.Relations.{Spelled, The, AName, ANumber, AStrategy, OneOf, Yields, Here, Then, Either, the_one, the_other, Closed, Many, nothing, more, Series, Listed, InRound, Names}
 use Rattle.sync_parse_grammar.specs.Expressions.{Whole, NoNumber, Operand, Unary, Product, Chain, Chained, Joins, SumSign, Sum, RelationSign, Relation, And, Or, Implied, Nested, AnExpr, Args}
@@ -151,10 +151,10 @@ silent_names = silent_round silent_name
 
 -- ---- expressions
 
-silent_whole : {m : Spelled ExprKind} → Silent true m → Silent true (Whole m)
+silent_whole : {m : Spelled RawExprKind} → Silent true m → Silent true (Whole m)
 silent_whole s = silent_then silent_here λ start. silent_then s λ x. silent_yields
 
-silent_operand : {m : Spelled ExprKind} → Silent true m → Silent true (Operand m)
+silent_operand : {m : Spelled RawExprKind} → Silent true m → Silent true (Operand m)
 unfolding Operand NoNumber special_of function_of
 silent_operand s =
     silent_or (silent_then silent_number λ n. silent_yields)
@@ -171,47 +171,47 @@ silent_bang = silent_the refl
 silent_minus : Silent true (The sign.Minus)
 silent_minus = silent_the refl
 
-silent_unary_case : {m : Spelled ExprKind} → Silent true m → (ts rest : List Terminal) (x : ExprKind) → Unary m ts rest x → Over true ts rest
+silent_unary_case : {m : Spelled RawExprKind} → Silent true m → (ts rest : List Terminal) (x : RawExprKind) → Unary m ts rest x → Over true ts rest
 silent_unary_case s ts rest x (Unary.operand d) = (silent_operand s).at ts rest x d
 silent_unary_case s ts rest x (Unary.negated {us = us} {line = l} {x = y} p d) = over_both true true ts us rest (silent_bang.at ts us l p) (silent_unary_case s us rest y d)
 silent_unary_case s ts rest x (Unary.minus {us = us} {line = l} {x = y} p d) = over_both true true ts us rest (silent_minus.at ts us l p) (silent_unary_case s us rest y d)
 
-silent_unary : {m : Spelled ExprKind} → Silent true m → Silent true (Unary m)
+silent_unary : {m : Spelled RawExprKind} → Silent true m → Silent true (Unary m)
 silent_unary s = record { at = silent_unary_case s }
 
-silent_product : {m : Spelled ExprKind} → Silent true m → Silent true (Product m)
+silent_product : {m : Spelled RawExprKind} → Silent true m → Silent true (Product m)
 unfolding Product
 silent_product s = silent_or (silent_unary s) (silent_then silent_number λ n. silent_then (silent_the refl) λ l. silent_then (silent_whole (silent_unary s)) λ x. silent_yields)
 
-silent_chain_case : {Op : Spelled Operator} {m : Spelled ExprKind} {start : List Terminal} → Silent true Op → Silent true m → (held : ExprKind) (ts rest : List Terminal) (x : ExprKind) → Chain Op m start held ts rest x → Over false ts rest
+silent_chain_case : {Op : Spelled Operator} {m : Spelled RawExprKind} {start : List Terminal} → Silent true Op → Silent true m → (held : RawExprKind) (ts rest : List Terminal) (x : RawExprKind) → Chain Op m start held ts rest x → Over false ts rest
 silent_chain_case o s held ts rest x Chain.ends = over_none ts ts refl
 silent_chain_case o s held ts rest x (Chain.goes_on {us = us} {vs = vs} {o = p} y d e more_d) = over_weaker true ts rest (over_both true true ts us rest (o.at ts us p d) (over_both true false us vs rest ((silent_whole s).at us vs y e) (silent_chain_case o s _ vs rest x more_d)))
 
-silent_chained : {Op : Spelled Operator} {m : Spelled ExprKind} → Silent true Op → Silent true m → Silent true (Chained Op m)
+silent_chained : {Op : Spelled Operator} {m : Spelled RawExprKind} → Silent true Op → Silent true m → Silent true (Chained Op m)
 unfolding Chained
 silent_chained o s = silent_then silent_here λ start. silent_then s λ x. record { at = silent_chain_case o s x }
 
 silent_joins : (s : Sign) (o : Operator) → is_same s sign.By ≡ false → Silent true (Joins s o)
 silent_joins s o e = silent_then (silent_the e) λ l. silent_yields
 
-silent_sum : {m : Spelled ExprKind} → Silent true m → Silent true (Sum m)
+silent_sum : {m : Spelled RawExprKind} → Silent true m → Silent true (Sum m)
 unfolding Sum SumSign
 silent_sum s = silent_chained (silent_or (silent_joins _ _ refl) (silent_joins _ _ refl)) (silent_product s)
 
-silent_relation : {m : Spelled ExprKind} → Silent true m → Silent true (Relation m)
+silent_relation : {m : Spelled RawExprKind} → Silent true m → Silent true (Relation m)
 unfolding Relation RelationSign
 silent_relation s = silent_then silent_here λ start. silent_then (silent_sum s) λ x. silent_or silent_yields
     (silent_then (silent_or (silent_joins _ _ refl) (silent_or (silent_joins _ _ refl) (silent_or (silent_joins _ _ refl) (silent_joins _ _ refl))))
     λ o. silent_then (silent_whole (silent_sum s)) λ y. silent_yields)
 
-silent_or_level : {m : Spelled ExprKind} → Silent true m → Silent true (Or m)
+silent_or_level : {m : Spelled RawExprKind} → Silent true m → Silent true (Or m)
 unfolding Or And
 silent_or_level s = silent_chained (silent_joins _ _ refl) (silent_chained (silent_joins _ _ refl) (silent_relation s))
 
 silent_implies : Silent true (The sign.Implies)
 silent_implies = silent_the refl
 
-silent_implied_case : {m : Spelled ExprKind} → Silent true m → (ts rest : List Terminal) (x : ExprKind) → Implied m ts rest x → Over true ts rest
+silent_implied_case : {m : Spelled RawExprKind} → Silent true m → (ts rest : List Terminal) (x : RawExprKind) → Implied m ts rest x → Over true ts rest
 silent_implied_case s ts rest x (Implied.plain d) = (silent_or_level s).at ts rest x d
 silent_implied_case s ts rest x (Implied.implies {vs = vs} {y = y} z us l d p e) = over_both true true ts us rest ((silent_or_level s).at ts us z d) (over_both true true us vs rest (silent_implies.at us vs l p) (silent_implied_case s vs rest y e))
 
@@ -255,7 +255,7 @@ silent_as : Silent true As
 unfolding As
 silent_as = silent_then (silent_the refl) λ l. silent_name
 
-silent_lookup : (opening : Sign) (made : Expr → Expr → Named → RawStepKind) → is_same opening sign.By ≡ false → Silent true (Lookup opening made)
+silent_lookup : (opening : Sign) (made : RawExpr → RawExpr → RawName → RawStepKind) → is_same opening sign.By ≡ false → Silent true (Lookup opening made)
 unfolding Lookup
 silent_lookup opening made apart = silent_then (silent_the apart) λ s. silent_then silent_expr λ m. silent_then (silent_the refl) λ c. silent_then silent_expr λ k. silent_then silent_as λ a.
     silent_then (silent_the refl) λ e. silent_yields
@@ -302,15 +302,15 @@ silent_place = silent_or (silent_then (silent_the refl) λ o. silent_then silent
     (silent_then (silent_the refl) λ o. silent_then silent_expr λ k.
     silent_then (silent_or silent_yields (silent_then (silent_the refl) λ m. silent_then silent_pattern λ p. silent_yields)) λ x. silent_then (silent_the refl) λ e. silent_yields)
 
-silent_formula : (opening : Sign) (made : Expr → RawActKind) → is_same opening sign.By ≡ false → Silent true (FormulaAct opening made)
+silent_formula : (opening : Sign) (made : RawExpr → RawAct) → is_same opening sign.By ≡ false → Silent true (FormulaAct opening made)
 unfolding FormulaAct
 silent_formula opening made apart = silent_then (silent_the apart) λ w. silent_then (silent_closed silent_expr) λ e. silent_yields
 
-silent_value : (opening : Sign) (made : Named → Expr → RawActKind) → is_same opening sign.By ≡ false → Silent true (ValueAct opening made)
+silent_value : (opening : Sign) (made : RawName → RawExpr → RawAct) → is_same opening sign.By ≡ false → Silent true (ValueAct opening made)
 unfolding ValueAct
 silent_value opening made apart = silent_then (silent_the apart) λ w. silent_then silent_name λ n. silent_then (silent_the refl) λ q. silent_then (silent_closed silent_expr) λ e. silent_yields
 
-silent_place_act : (opening symbol : Sign) (made : Named → RawPlace → RawActKind) → is_same opening sign.By ≡ false → is_same symbol sign.By ≡ false → Silent true (PlaceAct opening symbol made)
+silent_place_act : (opening symbol : Sign) (made : RawName → RawPlace → RawAct) → is_same opening sign.By ≡ false → is_same symbol sign.By ≡ false → Silent true (PlaceAct opening symbol made)
 unfolding PlaceAct FieldPlace
 silent_place_act opening symbol made apart none = silent_then (silent_then (silent_the apart) λ w. silent_then silent_name λ n. silent_then (silent_the none) λ q.
     silent_then (silent_closed silent_place) λ p. silent_yields) λ x. silent_yields

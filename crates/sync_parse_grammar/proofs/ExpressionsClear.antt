@@ -6,9 +6,9 @@ use Rattle.sync_lex.specs.contracts.signs.Sign.{the_type}
 use Rattle.sync_lex.specs.declared.terminals.TerminalKind.TheVariants as what
 use Rattle.sync_lex.specs.declared.terminals.Terminal.{Terminal}
 use Rattle.sync_lex.specs.Signs.{is_same}
-use Rattle.sync_parse_exprs.specs.declared.expressions.Expr.{Expr}
-use Rattle.sync_parse_exprs.specs.declared.expressions.ExprKind.{ExprKind}
-use Rattle.sync_parse_exprs.specs.declared.expressions.ExprKind.TheVariants as kind
+use Rattle.sync_parse_exprs.specs.declared.expressions.RawExpr.{RawExpr}
+use Rattle.sync_parse_exprs.specs.declared.expressions.RawExprKind.{RawExprKind}
+use Rattle.sync_parse_exprs.specs.declared.expressions.RawExprKind.TheVariants as kind
 use Rattle.sync_parse_exprs.specs.declared.expressions.Special.{Special}
 use Rattle.sync_parse_exprs.specs.declared.expressions.Special.TheVariants as special
 use Rattle.sync_parse_exprs.specs.declared.expressions.Function.{Function}
@@ -65,10 +65,10 @@ operators = both (only (code sign.Implies)) or_signs
 
 -- ---- whole expressions
 
-pub clear_whole : {q : Set} {m n : Spelled ExprKind} → Clear q m n → Clear q (Whole m) (Whole n)
+pub clear_whole : {q : Set} {m n : Spelled RawExprKind} → Clear q m n → Clear q (Whole m) (Whole n)
 clear_whole {q = q} c = clear_next clear_here λ start. clear_then q c (λ x. clear_yields) (λ x. follows_yields same_in) (λ x. follows_yields same_in)
 
-pub starts_whole : {p : Set} {m : Spelled ExprKind} → Starts m p → Starts (Whole m) p
+pub starts_whole : {p : Set} {m : Spelled RawExprKind} → Starts m p → Starts (Whole m) p
 starts_whole s = starts_here λ start. starts_then s
 
 -- ---- operands
@@ -107,12 +107,12 @@ pub starts_table : {A : Type 0} {table : Sign → Option A} {p : Set} → ((s : 
 starts_table {p = p} f = record { at = λ ts rest x d. ap p (same_front ts d.terminal rest (what.Sign d.sign) d.stands d.is) ∙ f d.sign x.0 d.found }
 
 -- what stands in brackets in two derivations
-pub record Inner (m n : Spelled ExprKind) : Type 0 where
+pub record Inner (m n : Spelled RawExprKind) : Type 0 where
   pub clear : Clear (others operators) m n
   pub left : Starts m begins
   pub right : Starts n begins
 
-pub call_fork : {q : Set} {m n : Spelled ExprKind} → Inner m n → Fork q functions
+pub call_fork : {q : Set} {m n : Spelled RawExprKind} → Inner m n → Fork q functions
     (OneOf function_of >>= λ f. InRound (Whole m) >>= λ args. Yields (kind.Call f.0 f.1 args))
     (OneOf function_of >>= λ f. InRound (Whole n) >>= λ args. Yields (kind.Call f.0 f.1 args))
 call_fork i = record {
@@ -121,7 +121,7 @@ call_fork i = record {
   right = starts_then (starts_table function_in);
 }
 
-bracket_fork : {q : Set} {m n : Spelled ExprKind} → Inner m n → Fork q (only (code sign.OpenRound))
+bracket_fork : {q : Set} {m n : Spelled RawExprKind} → Inner m n → Fork q (only (code sign.OpenRound))
     (The sign.OpenRound >>= λ o. Whole m >>= λ x. The sign.CloseRound >>= λ e. Yields (kind.Bracketed x))
     (The sign.OpenRound >>= λ o. Whole n >>= λ x. The sign.CloseRound >>= λ e. Yields (kind.Bracketed x))
 bracket_fork i = record {
@@ -138,7 +138,7 @@ others_begin = both (only 1) (both (only (code sign.Dollar)) (both (only (code s
 pub special_fork : {q : Set} → Fork q specials (OneOf special_of >>= λ x. Yields (kind.Special x.0 x.1)) (OneOf special_of >>= λ x. Yields (kind.Special x.0 x.1))
 special_fork = lone (clear_next clear_one_of λ x. clear_yields) (starts_then (starts_table special_in))
 
-other_fork : {q : Set} {m n : Spelled ExprKind} → Inner m n → Fork q others_begin (NoNumber m) (NoNumber n)
+other_fork : {q : Set} {m n : Spelled RawExprKind} → Inner m n → Fork q others_begin (NoNumber m) (NoNumber n)
 unfolding NoNumber
 other_fork i =
     fork_or (lone (clear_next clear_name λ x. clear_yields) (starts_then starts_name))
@@ -147,7 +147,7 @@ other_fork i =
     (fork_or special_fork
     (fork_or (call_fork i) (bracket_fork i) (among_in function_codes refl)) (among_in special_codes refl)) (only_in _ refl)) (only_in _ refl)) (only_in _ refl)
 
-operand_fork : {q : Set} {m n : Spelled ExprKind} → Inner m n → Fork q (both (only 2) others_begin) (Operand m) (Operand n)
+operand_fork : {q : Set} {m n : Spelled RawExprKind} → Inner m n → Fork q (both (only 2) others_begin) (Operand m) (Operand n)
 unfolding Operand
 operand_fork i = fork_or (lone (clear_next clear_number λ n. clear_yields) (starts_then starts_number)) (other_fork i) (only_in _ refl)
 
@@ -156,10 +156,10 @@ begin_in : {q : Set} → q 2 ≡ true → q 1 ≡ true → q (code sign.Dollar) 
     → In (both (only 2) others_begin) q
 begin_in a b c d e f g = both_in (only_in _ a) (both_in (only_in _ b) (both_in (only_in _ c) (both_in (only_in _ d) (both_in e (both_in f (only_in _ g))))))
 
-pub starts_operand : {m n : Spelled ExprKind} → Inner m n → Starts (Operand m) (among operands)
+pub starts_operand : {m n : Spelled RawExprKind} → Inner m n → Starts (Operand m) (among operands)
 starts_operand i = starts_weaker (operand_fork {q = any} i).left (begin_in refl refl refl refl (among_in special_codes refl) (among_in function_codes refl) refl)
 
-starts_operand' : {m n : Spelled ExprKind} → Inner m n → Starts (Operand n) (among operands)
+starts_operand' : {m n : Spelled RawExprKind} → Inner m n → Starts (Operand n) (among operands)
 starts_operand' i = starts_weaker (operand_fork {q = any} i).right (begin_in refl refl refl refl (among_in special_codes refl) (among_in function_codes refl) refl)
 
 -- ---- prefix signs
@@ -175,18 +175,18 @@ starts_bang = starts_the
 pub starts_minus : Starts (The sign.Minus) (only (code sign.Minus))
 starts_minus = starts_the
 
-starts_unary_case : {m n : Spelled ExprKind} → Inner m n → (ts rest : List Terminal) (x : ExprKind) → Unary m ts rest x → begins (front ts) ≡ true
+starts_unary_case : {m n : Spelled RawExprKind} → Inner m n → (ts rest : List Terminal) (x : RawExprKind) → Unary m ts rest x → begins (front ts) ≡ true
 starts_unary_case i ts rest x (Unary.operand d) = (among_in {q = begins} operands refl).at (front ts) ((starts_operand i).at ts rest x d)
 starts_unary_case i ts rest x (Unary.negated {us = us} {line = line} p d) = (only_in {q = begins} _ refl).at (front ts) (starts_bang.at ts us line p)
 starts_unary_case i ts rest x (Unary.minus {us = us} {line = line} p d) = (only_in {q = begins} _ refl).at (front ts) (starts_minus.at ts us line p)
 
-pub starts_unary : {m n : Spelled ExprKind} → Inner m n → Starts (Unary m) begins
+pub starts_unary : {m n : Spelled RawExprKind} → Inner m n → Starts (Unary m) begins
 starts_unary i = record { at = starts_unary_case i }
 
-same_made : (make : Expr → ExprKind) (x y : ExprKind) (us vs : List Terminal) → x ≡ y → us ≡ vs → make (placed_at x us) ≡ make (placed_at y vs)
+same_made : (make : RawExpr → RawExprKind) (x y : RawExprKind) (us vs : List Terminal) → x ≡ y → us ≡ vs → make (placed_at x us) ≡ make (placed_at y vs)
 same_made make x y us vs p q = λ i. make (placed_at (p i) (q i))
 
-unary_case : {m n : Spelled ExprKind} → Inner m n → (ts us rest vs : List Terminal) (x y : ExprKind) → Unary m ts rest x → Unary n us vs y → ts ≡ us → (rest ≡ vs) × (x ≡ y)
+unary_case : {m n : Spelled RawExprKind} → Inner m n → (ts us rest vs : List Terminal) (x y : RawExprKind) → Unary m ts rest x → Unary n us vs y → ts ≡ us → (rest ≡ vs) × (x ≡ y)
 unary_case i ts us rest vs x y (Unary.operand d) (Unary.operand e) same = (operand_fork {q = any} i).clear.at ts us rest vs x y d e same refl refl
 unary_case i ts us rest vs x y (Unary.operand d) (Unary.negated {us = u} {line = l} p e) same = clash (starts_operand i) starts_bang (among_in operands refl) ts us rest u x l d p same
 unary_case i ts us rest vs x y (Unary.operand d) (Unary.minus {us = u} {line = l} p e) same = clash (starts_operand i) starts_minus (among_in operands refl) ts us rest u x l d p same
@@ -203,7 +203,7 @@ unary_case i ts us rest vs x y (Unary.minus {us = u} {line = l} {x = a} p d) (Un
     let next = unary_case i u v rest vs a b d e mid.0 in
     (next.0, same_made kind.Minus a b u v next.1 mid.0)
 
-pub clear_unary : {q : Set} {m n : Spelled ExprKind} → Inner m n → Clear q (Unary m) (Unary n)
+pub clear_unary : {q : Set} {m n : Spelled RawExprKind} → Inner m n → Clear q (Unary m) (Unary n)
 clear_unary i = record { at = λ ts us rest vs x y d e same a b. unary_case i ts us rest vs x y d e same }
 
 -- ---- products
@@ -211,7 +211,7 @@ clear_unary i = record { at = λ ts us rest vs x y d e same a b. unary_case i ts
 star_next : Starts (The sign.Star) times_sign
 star_next = starts_the
 
-pub turned : {m n : Spelled ExprKind} → Inner m n → Inner n m
+pub turned : {m n : Spelled RawExprKind} → Inner m n → Inner n m
 turned i = record {
   clear = record { at = λ ts us rest vs x y d e same a b. let h = i.clear.at us ts vs rest y x e d (sym same) b a in (sym h.0, sym h.1) };
   left = i.right;
@@ -228,14 +228,14 @@ no_number : In others_begin (others (only 2))
 no_number = both_in (only_in _ refl) (both_in (only_in _ refl) (both_in (only_in _ refl) (both_in (among_in special_codes refl) (both_in (among_in function_codes refl) (only_in _ refl)))))
 
 -- an operand that begins with a number is that number
-pub number_alone : {m n : Spelled ExprKind} → Inner m n → (ts us rest vs : List Terminal) (x : ExprKind) (k : ℕ) → Unary m ts rest x → ANumber us vs k → ts ≡ us → rest ≡ vs
+pub number_alone : {m n : Spelled RawExprKind} → Inner m n → (ts us rest vs : List Terminal) (x : RawExprKind) (k : ℕ) → Unary m ts rest x → ANumber us vs k → ts ≡ us → rest ≡ vs
 unfolding Operand
 number_alone i ts us rest vs x k (Unary.operand (the_one d)) e same = sym d.next.none ∙ (plain_number.at ts us d.middle vs d.value k d.one e same refl refl).0
 number_alone i ts us rest vs x k (Unary.operand (the_other d)) e same = clash (other_fork {q = any} i).left starts_number no_number ts us rest vs x k d e same
 number_alone i ts us rest vs x k (Unary.negated {us = u} {line = l} p d) e same = clash starts_bang starts_number (only_in _ refl) ts us u vs l k p e same
 number_alone i ts us rest vs x k (Unary.minus {us = u} {line = l} p d) e same = clash starts_minus starts_number (only_in _ refl) ts us u vs l k p e same
 
-product_case : {m n : Spelled ExprKind} → Inner m n → (ts us rest vs : List Terminal) (x y : ExprKind) → Product m ts rest x → Product n us vs y → ts ≡ us
+product_case : {m n : Spelled RawExprKind} → Inner m n → (ts us rest vs : List Terminal) (x y : RawExprKind) → Product m ts rest x → Product n us vs y → ts ≡ us
     → others times_sign (front rest) ≡ true → others times_sign (front vs) ≡ true → (rest ≡ vs) × (x ≡ y)
 unfolding Product
 product_case i ts us rest vs x y (the_one d) (the_one e) same a b = unary_case i ts us rest vs x y d e same
@@ -248,23 +248,23 @@ product_case i ts us rest vs x y (the_other d) (the_one e) same a b =
     let end = number_alone (turned i) us ts vs d.middle y d.value e d.one (sym same) in
     not_both (times_sign (front vs)) (ap (λ ws. times_sign (front ws)) end ∙ star_next.at d.middle d.next.middle d.next.value d.next.one) b
 
-pub clear_product : {m n : Spelled ExprKind} → Inner m n → Clear (others times_sign) (Product m) (Product n)
+pub clear_product : {m n : Spelled RawExprKind} → Inner m n → Clear (others times_sign) (Product m) (Product n)
 clear_product i = record { at = product_case i }
 
-pub starts_product : {m n : Spelled ExprKind} → Inner m n → Starts (Product m) begins
+pub starts_product : {m n : Spelled RawExprKind} → Inner m n → Starts (Product m) begins
 unfolding Product
 starts_product i = starts_weaker (starts_or (starts_unary i) (starts_then starts_number)) (both_in same_in (only_in _ refl))
 
 -- ---- chains
 
-pub follows_chain_case : {q p r : Set} {Op : Spelled Operator} {m : Spelled ExprKind} {start : List Terminal} → Starts Op r → In r p → In q p
-    → (held : ExprKind) (ts rest : List Terminal) (z : ExprKind) → Chain Op m start held ts rest z → q (front rest) ≡ true → p (front ts) ≡ true
+pub follows_chain_case : {q p r : Set} {Op : Spelled Operator} {m : Spelled RawExprKind} {start : List Terminal} → Starts Op r → In r p → In q p
+    → (held : RawExprKind) (ts rest : List Terminal) (z : RawExprKind) → Chain Op m start held ts rest z → q (front rest) ≡ true → p (front ts) ≡ true
 follows_chain_case s i j held ts rest z Chain.ends a = j.at (front ts) a
 follows_chain_case s i j held ts rest z (Chain.goes_on {us = us} {o = o} y d e more) a = i.at (front ts) (s.at ts us o d)
 
 -- a chain of operators of r, whose items may have p behind, is clear where nothing of r follows
-chain_case : {q p r : Set} {Op : Spelled Operator} {m n : Spelled ExprKind} → Clear any Op Op → Starts Op r → Clear p m n → In r p → In q p → In q (others r)
-    → (start : List Terminal) (held other : ExprKind) (ts us rest vs : List Terminal) (x y : ExprKind) → Chain Op m start held ts rest x → Chain Op n start other us vs y
+chain_case : {q p r : Set} {Op : Spelled Operator} {m n : Spelled RawExprKind} → Clear any Op Op → Starts Op r → Clear p m n → In r p → In q p → In q (others r)
+    → (start : List Terminal) (held other : RawExprKind) (ts us rest vs : List Terminal) (x y : RawExprKind) → Chain Op m start held ts rest x → Chain Op n start other us vs y
     → held ≡ other → ts ≡ us → q (front rest) ≡ true → q (front vs) ≡ true → (rest ≡ vs) × (x ≡ y)
 chain_case op s item i j k start held other ts us rest vs x y Chain.ends Chain.ends h same a b = (same, h)
 chain_case {r = r} op s item i j k start held other ts us rest vs x y Chain.ends (Chain.goes_on {us = u} {o = o} z d e more) h same a b =
@@ -276,7 +276,7 @@ chain_case op s item i j k start held other ts us rest vs x y (Chain.goes_on {us
     let one = (clear_whole item).at u u' v v' f g e e' sign.0 (follows_chain_case s i j _ v rest x more_d a) (follows_chain_case s i j _ v' vs y more_e b) in
     chain_case op s item i j k start _ _ v v' rest vs x y more_d more_e (λ z. kind.Two (sign.1 z) (placed_at (h z) start) (one.1 z)) one.0 a b
 
-pub clear_chained : {q : Set} {Op : Spelled Operator} {m n : Spelled ExprKind} (p r : Set) → Clear any Op Op → Starts Op r → Clear p m n → In r p → In q p → In q (others r)
+pub clear_chained : {q : Set} {Op : Spelled Operator} {m n : Spelled RawExprKind} (p r : Set) → Clear any Op Op → Starts Op r → Clear p m n → In r p → In q p → In q (others r)
     → Clear q (Chained Op m) (Chained Op n)
 unfolding Chained
 clear_chained p r op s item i j k =
@@ -285,7 +285,7 @@ clear_chained p r op s item i j k =
     (λ held. record { at = λ ts rest x d a. follows_chain_case s i j held ts rest x d a })
     (λ held. record { at = λ ts rest x d a. follows_chain_case s i j held ts rest x d a })
 
-pub starts_chained : {p : Set} (Op : Spelled Operator) (m : Spelled ExprKind) → Starts m p → Starts (Chained Op m) p
+pub starts_chained : {p : Set} (Op : Spelled Operator) (m : Spelled RawExprKind) → Starts m p → Starts (Chained Op m) p
 unfolding Chained
 starts_chained Op m s = starts_here λ start. starts_then s
 
@@ -304,12 +304,12 @@ unfolding RelationSign
 relation_fork = fork_or (joins_fork sign.Equal operator.Equal) (fork_or (joins_fork sign.NotEqual operator.NotEqual)
     (fork_or (joins_fork sign.AtMost operator.AtMost) (joins_fork sign.Below operator.Below) (only_in _ refl)) (only_in _ refl)) (only_in _ refl)
 
-pub clear_sum : {m n : Spelled ExprKind} → Inner m n → Clear (others sum_signs) (Sum m) (Sum n)
+pub clear_sum : {m n : Spelled RawExprKind} → Inner m n → Clear (others sum_signs) (Sum m) (Sum n)
 unfolding Sum
 clear_sum i = clear_chained (others times_sign) (both (only (code sign.Plus)) (only (code sign.Minus))) sum_fork.clear (sum_fork {q = any}).left (clear_product i)
     (both_in (only_in _ refl) (only_in _ refl)) (others_in _ _) (others_first _ _)
 
-pub starts_sum : {m n : Spelled ExprKind} → Inner m n → Starts (Sum m) begins
+pub starts_sum : {m n : Spelled RawExprKind} → Inner m n → Starts (Sum m) begins
 unfolding Sum
 starts_sum {m = m} i = starts_chained SumSign (Product m) (starts_product i)
 
@@ -319,7 +319,7 @@ relations = both (only (code sign.Equal)) (both (only (code sign.NotEqual)) (bot
 pub relations_in : {q : Set} → q (code sign.Equal) ≡ true → q (code sign.NotEqual) ≡ true → q (code sign.AtMost) ≡ true → q (code sign.Below) ≡ true → In relations q
 relations_in a b c d = both_in (only_in _ a) (both_in (only_in _ b) (both_in (only_in _ c) (only_in _ d)))
 
-pub clear_relation : {m n : Spelled ExprKind} → Inner m n → Clear (others relation_signs) (Relation m) (Relation n)
+pub clear_relation : {m n : Spelled RawExprKind} → Inner m n → Clear (others relation_signs) (Relation m) (Relation n)
 unfolding Relation
 clear_relation i =
     clear_next clear_here λ start.
@@ -331,25 +331,25 @@ clear_relation i =
     (λ x. follows_or (follows_yields (others_in _ _)) (follows_starts (starts_then (relation_fork {q = any}).left) (relations_in refl refl refl refl)))
     (λ x. follows_or (follows_yields (others_in _ _)) (follows_starts (starts_then (relation_fork {q = any}).left) (relations_in refl refl refl refl)))
 
-pub starts_relation : {m n : Spelled ExprKind} → Inner m n → Starts (Relation m) begins
+pub starts_relation : {m n : Spelled RawExprKind} → Inner m n → Starts (Relation m) begins
 unfolding Relation
 starts_relation i = starts_here λ start. starts_then (starts_sum i)
 
-pub clear_and : {m n : Spelled ExprKind} → Inner m n → Clear (others and_signs) (And m) (And n)
+pub clear_and : {m n : Spelled RawExprKind} → Inner m n → Clear (others and_signs) (And m) (And n)
 unfolding And
 clear_and i = clear_chained (others relation_signs) (only (code sign.And)) (joins_fork sign.And operator.And).clear (joins_fork {q = any} sign.And operator.And).left (clear_relation i)
     (only_in _ refl) (others_in _ _) (others_first _ _)
 
-pub starts_and : {m n : Spelled ExprKind} → Inner m n → Starts (And m) begins
+pub starts_and : {m n : Spelled RawExprKind} → Inner m n → Starts (And m) begins
 unfolding And
 starts_and {m = m} i = starts_chained (Joins sign.And operator.And) (Relation m) (starts_relation i)
 
-pub clear_or_level : {m n : Spelled ExprKind} → Inner m n → Clear (others or_signs) (Or m) (Or n)
+pub clear_or_level : {m n : Spelled RawExprKind} → Inner m n → Clear (others or_signs) (Or m) (Or n)
 unfolding Or
 clear_or_level i = clear_chained (others and_signs) (only (code sign.Or)) (joins_fork sign.Or operator.Or).clear (joins_fork {q = any} sign.Or operator.Or).left (clear_and i)
     (only_in _ refl) (others_in _ _) (others_first _ _)
 
-pub starts_or_level : {m n : Spelled ExprKind} → Inner m n → Starts (Or m) begins
+pub starts_or_level : {m n : Spelled RawExprKind} → Inner m n → Starts (Or m) begins
 unfolding Or
 starts_or_level {m = m} i = starts_chained (Joins sign.Or operator.Or) (And m) (starts_and i)
 
@@ -357,7 +357,7 @@ pub starts_implies : Starts (The sign.Implies) (only (code sign.Implies))
 starts_implies = starts_the
 
 -- where a first side ends
-first_side : {m n : Spelled ExprKind} → Inner m n → (ts us rest vs : List Terminal) (x y : ExprKind) → Or m ts rest x → Or n us vs y → ts ≡ us
+first_side : {m n : Spelled RawExprKind} → Inner m n → (ts us rest vs : List Terminal) (x y : RawExprKind) → Or m ts rest x → Or n us vs y → ts ≡ us
     → others or_signs (front rest) ≡ true → others or_signs (front vs) ≡ true → (rest ≡ vs) × (x ≡ y)
 first_side i = (clear_or_level i).at
 
@@ -368,7 +368,7 @@ implies_follows us vs line p = (only_in {q = others or_signs} _ refl).at (front 
 pub no_operator : (ts : List Terminal) → others operators (front ts) ≡ true → others or_signs (front ts) ≡ true
 no_operator ts a = (others_in (only (code sign.Implies)) or_signs).at (front ts) a
 
-implied_case : {m n : Spelled ExprKind} → Inner m n → (ts us rest vs : List Terminal) (x y : ExprKind) → Implied m ts rest x → Implied n us vs y → ts ≡ us
+implied_case : {m n : Spelled RawExprKind} → Inner m n → (ts us rest vs : List Terminal) (x y : RawExprKind) → Implied m ts rest x → Implied n us vs y → ts ≡ us
     → others operators (front rest) ≡ true → others operators (front vs) ≡ true → (rest ≡ vs) × (x ≡ y)
 implied_case i ts us rest vs x y (Implied.plain d) (Implied.plain e) same a b = first_side i ts us rest vs x y d e same (no_operator rest a) (no_operator vs b)
 implied_case i ts us rest vs x y (Implied.plain d) (Implied.implies {vs = v} z u line e p f) same a b =
@@ -383,16 +383,16 @@ implied_case i ts us rest vs x y (Implied.implies {vs = v} {y = g} z u line d p 
     let next = implied_case i v v' rest vs g g' f f' sign.0 a b in
     (next.0, λ t. kind.Two operator.Implies (placed_at (one.1 t) (same t)) (placed_at (next.1 t) (sign.0 t)))
 
-pub clear_implied : {m n : Spelled ExprKind} → Inner m n → Clear (others operators) (Implied m) (Implied n)
+pub clear_implied : {m n : Spelled RawExprKind} → Inner m n → Clear (others operators) (Implied m) (Implied n)
 clear_implied i = record { at = implied_case i }
 
-starts_implied_case : {m n : Spelled ExprKind} → Inner m n → (ts rest : List Terminal) (x : ExprKind) → Implied m ts rest x → begins (front ts) ≡ true
+starts_implied_case : {m n : Spelled RawExprKind} → Inner m n → (ts rest : List Terminal) (x : RawExprKind) → Implied m ts rest x → begins (front ts) ≡ true
 starts_implied_case i ts rest x (Implied.plain d) = (starts_or_level i).at ts rest x d
 starts_implied_case i ts rest x (Implied.implies z u line d p f) = (starts_or_level i).at ts u z d
 
 -- ---- expressions
 
-nothing_inner : {m : Spelled ExprKind} → Starts m begins → Inner (Nested zero) m
+nothing_inner : {m : Spelled RawExprKind} → Starts m begins → Inner (Nested zero) m
 unfolding Nested
 nothing_inner s = record { clear = record { at = λ ts us rest vs x y d e same a b. absurd d }; left = record { at = λ ts rest x d. absurd d }; right = s }
 

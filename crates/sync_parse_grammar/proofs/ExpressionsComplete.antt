@@ -11,17 +11,17 @@ use Rattle.sync_lex.specs.declared.terminals.Terminal.{Terminal}
 use Rattle.sync_lex.specs.Signs.{is_same}
 use Rattle.sync_lex.specs.Terminals.{says_sign, is_sign}
 use Rattle.sync_parse_exprs.specs.declared.faults.Fault.TheVariants as fault
-use Rattle.sync_parse_exprs.specs.declared.expressions.Expr.{Expr}
-use Rattle.sync_parse_exprs.specs.declared.expressions.ExprKind.{ExprKind}
-use Rattle.sync_parse_exprs.specs.declared.expressions.ExprKind.TheVariants as kind
+use Rattle.sync_parse_exprs.specs.declared.expressions.RawExpr.{RawExpr}
+use Rattle.sync_parse_exprs.specs.declared.expressions.RawExprKind.{RawExprKind}
+use Rattle.sync_parse_exprs.specs.declared.expressions.RawExprKind.TheVariants as kind
 use Rattle.sync_parse_exprs.specs.declared.expressions.Special.{Special}
 use Rattle.sync_parse_exprs.specs.declared.expressions.Special.TheVariants as special
 use Rattle.sync_parse_exprs.specs.declared.expressions.Function.{Function}
 use Rattle.sync_parse_exprs.specs.declared.expressions.Function.TheVariants as function
 use Rattle.sync_parse_exprs.specs.declared.expressions.Operator.{Operator}
 use Rattle.sync_parse_exprs.specs.declared.expressions.Operator.TheVariants as operator
-use Rattle.sync_parse_exprs.specs.Lexemes.{Read, Reader, first_line, listed, in_round}
-use Rattle.sync_parse_exprs.specs.Expressions.{placed, whole, special_of, function_of, relation_of, sum_of, and_of, or_of, factor_of, number_in, begins_operand, sign_operand, operand_said, operand, prefixed, unary_with, unary, times, product, chain, chained, sums, related, relation, ands, ors, implied, implies, inside, expr_at, exprs_at}
+use Rattle.sync_parse_exprs.specs.Terminals.{Read, Reader, first_line, listed, in_round}
+use Rattle.sync_parse_exprs.specs.Expressions.{placed, whole, special_of, function_of, relation_of, sum_of, and_of, or_of, factor_of, factor_said, begins_operand, sign_operand, operand_said, operand, prefixed, unary_with, unary, times, product, chain, chained, sums, related, relation, ands, ors, implied, implies, inside, expr_at, exprs_at}
 use Rattle.sync_parse_grammar.specs.Relations.{Spelled, The, AName, ANumber, Yields, ◌>>=◌, Either, the_one, the_other, InRound}
 use Rattle.sync_parse_grammar.specs.Expressions.{placed_at, Whole, NoNumber, Operand, Unary, Product, Chain, Chained, Joins, SumSign, Sum, RelationSign, Relation, And, Or, Implied, Nested, AnExpr, Args}
 use Rattle.sync_parse_grammar.proofs.Clears.{code, front, front_of, Set, any, only, both, others, In, only_in, among_in, both_in, others_in, others_first, not_both, Starts, starts_then, starts_the, follows_starts, follows_yields, follows_or}
@@ -35,30 +35,30 @@ some_is e = cc
 
 -- ---- whole expressions
 
-whole_case : {m : Spelled ExprKind} {ts rest : List Terminal} {e : Expr} (r : Read ExprKind) → Whole m ts rest e → ((x : ExprKind) → m ts rest x → Met r (x, rest))
-    → Met {A = Expr × List Terminal} (outcome.◌>>=◌ r (λ x. Ok (placed x.0 (first_line ts), x.1))) (e, rest)
+whole_case : {m : Spelled RawExprKind} {ts rest : List Terminal} {e : RawExpr} (r : Read RawExprKind) → Whole m ts rest e → ((x : RawExprKind) → m ts rest x → Met r (x, rest))
+    → Met {A = RawExpr × List Terminal} (outcome.◌>>=◌ r (λ x. Ok (placed x.0 (first_line ts), x.1))) (e, rest)
 whole_case {ts = ts} (Ok v) d met =
     let x = whole_is d in
     let h = (met x.0 x.1).is in
     gives (ap (λ z. placed z.0 (first_line ts)) h ∙ sym x.2) (ap (λ z. z.1) h)
 whole_case (Err f) d met = let x = whole_is d in record { is = (met x.0 x.1).is }
 
-pub complete_whole : {q : Set} {m : Spelled ExprKind} {read : Reader ExprKind} → ((ts : List Terminal) → Complete q m ts (read ts)) → (ts : List Terminal) → Complete q (Whole m) ts (whole read ts)
+pub complete_whole : {q : Set} {m : Spelled RawExprKind} {read : Reader RawExprKind} → ((ts : List Terminal) → Complete q m ts (read ts)) → (ts : List Terminal) → Complete q (Whole m) ts (whole read ts)
 complete_whole {read = read} c ts = record { at = λ e rest d after. whole_case (read ts) d (λ x k. (c ts).at x rest k after) }
 
 -- ---- operands
 
 -- what is known of what stands in brackets, read one level deeper, where there is a level left
-pub record Inside (m : Spelled ExprKind) (left : ℕ) (inner : Reader ExprKind) : Type 0 where
+pub record Inside (m : Spelled RawExprKind) (left : ℕ) (inner : Reader RawExprKind) : Type 0 where
   pub known : Inner m m
   pub shrinks : Shrinks m
   pub complete : 0 < left → (ts : List Terminal) → Complete (others operators) m ts (inner ts)
 
-shrinks_whole : {m : Spelled ExprKind} → Shrinks m → Shrinks (Whole m)
+shrinks_whole : {m : Spelled RawExprKind} → Shrinks m → Shrinks (Whole m)
 shrinks_whole s = record { at = λ ts rest e d. let x = whole_is d in s.at ts rest x.0 x.1 }
 
-call_read : {m : Spelled ExprKind} {left : ℕ} {inner : Reader ExprKind} → Inside m left inner → (f : Function) (line : ℕ) (ws : List Terminal) (args : List Expr) (rest : List Terminal) → InRound (Whole m) ws rest args
-    → Met {A = ExprKind × List Terminal} (outcome.◌>>=◌ (in_round left (listed (whole inner) sign.CloseRound) ws) (λ x. Ok (kind.Call f line x.0, x.1))) (kind.Call f line args, rest)
+call_read : {m : Spelled RawExprKind} {left : ℕ} {inner : Reader RawExprKind} → Inside m left inner → (f : Function) (line : ℕ) (ws : List Terminal) (args : List RawExpr) (rest : List Terminal) → InRound (Whole m) ws rest args
+    → Met {A = RawExprKind × List Terminal} (outcome.◌>>=◌ (in_round left (listed (whole inner) sign.CloseRound) ws) (λ x. Ok (kind.Call f line x.0, x.1))) (kind.Call f line args, rest)
 call_read {left = left} {inner = inner} i f line ws args rest d =
     go (in_round left (listed (whole inner) sign.CloseRound) ws)
     ((complete_round {q = any} left (whole inner) (λ room. record {
@@ -70,7 +70,7 @@ call_read {left = left} {inner = inner} i f line ws args rest d =
     })
     (starts_whole i.known.left) (among_in {q = others (only (code sign.CloseRound))} (code sign.Bang ∷ code sign.Minus ∷ operands) refl) ws).at args rest d refl)
   where
-    go : (r : Read (List Expr)) → Met r (args, rest) → Met {A = ExprKind × List Terminal} (outcome.◌>>=◌ r (λ x. Ok (kind.Call f line x.0, x.1))) (kind.Call f line args, rest)
+    go : (r : Read (List RawExpr)) → Met r (args, rest) → Met {A = RawExprKind × List Terminal} (outcome.◌>>=◌ r (λ x. Ok (kind.Call f line x.0, x.1))) (kind.Call f line args, rest)
     go (Ok v) met = gives (ap (λ z. kind.Call f line z.0) met.is) (ap (λ z. z.1) met.is)
     go (Err g) met = record { is = met.is }
 
@@ -110,7 +110,7 @@ function_cases P a b c d e f g h s x found =
     pick : (t : Sign) (y : Function) (other : Option Function) → (if is_same s t then Some y else other) ≡ Some x → P t → (other ≡ Some x → P s) → P s
     pick t y other = pick_case t y other (is_same s t) refl
 
-special_read : (inner : Reader ExprKind) (left line : ℕ) (ws : List Terminal) (s : Sign) (x : Special) → special_of s ≡ Some x → Met (sign_operand inner left s line ws) (kind.Special x line, ws)
+special_read : (inner : Reader RawExprKind) (left line : ℕ) (ws : List Terminal) (s : Sign) (x : Special) → special_of s ≡ Some x → Met (sign_operand inner left s line ws) (kind.Special x line, ws)
 unfolding sign_operand begins_operand special_of function_of
 special_read inner left line ws s x found =
     special_cases (λ t. (y : Special) → special_of t ≡ Some y → Met (sign_operand inner left t line ws) (kind.Special y line, ws))
@@ -121,33 +121,33 @@ special_read inner left line ws s x found =
     (λ y e. met_within left line λ room. gives (ap (λ z. kind.Special z line) (some_is e)) refl)
     s x found x found
 
-function_read : {m : Spelled ExprKind} {left : ℕ} (inner : Reader ExprKind) → Inside m left inner → (line : ℕ) (ws : List Terminal) (args : List Expr) (rest : List Terminal) → InRound (Whole m) ws rest args
+function_read : {m : Spelled RawExprKind} {left : ℕ} (inner : Reader RawExprKind) → Inside m left inner → (line : ℕ) (ws : List Terminal) (args : List RawExpr) (rest : List Terminal) → InRound (Whole m) ws rest args
     → (s : Sign) (x : Function) → function_of s ≡ Some x → Met (sign_operand inner left s line ws) (kind.Call x line args, rest)
 unfolding sign_operand begins_operand special_of function_of
 function_read {left = left} inner i line ws args rest d s x found =
     function_cases (λ t. (y : Function) → function_of t ≡ Some y → Met (sign_operand inner left t line ws) (kind.Call y line args, rest))
-    (λ y e. met_within left line λ room. subst (λ z. Met {A = ExprKind × List Terminal} (outcome.◌>>=◌ (in_round left (listed (whole inner) sign.CloseRound) ws) (λ x. Ok (kind.Call function.Get line x.0, x.1))) (kind.Call z line args, rest)) (some_is e) (call_read i function.Get line ws args rest d))
-    (λ y e. met_within left line λ room. subst (λ z. Met {A = ExprKind × List Terminal} (outcome.◌>>=◌ (in_round left (listed (whole inner) sign.CloseRound) ws) (λ x. Ok (kind.Call function.Has line x.0, x.1))) (kind.Call z line args, rest)) (some_is e) (call_read i function.Has line ws args rest d))
-    (λ y e. met_within left line λ room. subst (λ z. Met {A = ExprKind × List Terminal} (outcome.◌>>=◌ (in_round left (listed (whole inner) sign.CloseRound) ws) (λ x. Ok (kind.Call function.Size line x.0, x.1))) (kind.Call z line args, rest)) (some_is e) (call_read i function.Size line ws args rest d))
-    (λ y e. met_within left line λ room. subst (λ z. Met {A = ExprKind × List Terminal} (outcome.◌>>=◌ (in_round left (listed (whole inner) sign.CloseRound) ws) (λ x. Ok (kind.Call function.Sum line x.0, x.1))) (kind.Call z line args, rest)) (some_is e) (call_read i function.Sum line ws args rest d))
-    (λ y e. met_within left line λ room. subst (λ z. Met {A = ExprKind × List Terminal} (outcome.◌>>=◌ (in_round left (listed (whole inner) sign.CloseRound) ws) (λ x. Ok (kind.Call function.Put line x.0, x.1))) (kind.Call z line args, rest)) (some_is e) (call_read i function.Put line ws args rest d))
-    (λ y e. met_within left line λ room. subst (λ z. Met {A = ExprKind × List Terminal} (outcome.◌>>=◌ (in_round left (listed (whole inner) sign.CloseRound) ws) (λ x. Ok (kind.Call function.Del line x.0, x.1))) (kind.Call z line args, rest)) (some_is e) (call_read i function.Del line ws args rest d))
-    (λ y e. met_within left line λ room. subst (λ z. Met {A = ExprKind × List Terminal} (outcome.◌>>=◌ (in_round left (listed (whole inner) sign.CloseRound) ws) (λ x. Ok (kind.Call function.Bump line x.0, x.1))) (kind.Call z line args, rest)) (some_is e) (call_read i function.Bump line ws args rest d))
-    (λ y e. met_within left line λ room. subst (λ z. Met {A = ExprKind × List Terminal} (outcome.◌>>=◌ (in_round left (listed (whole inner) sign.CloseRound) ws) (λ x. Ok (kind.Call function.Held line x.0, x.1))) (kind.Call z line args, rest)) (some_is e) (call_read i function.Held line ws args rest d))
+    (λ y e. met_within left line λ room. subst (λ z. Met {A = RawExprKind × List Terminal} (outcome.◌>>=◌ (in_round left (listed (whole inner) sign.CloseRound) ws) (λ x. Ok (kind.Call function.Get line x.0, x.1))) (kind.Call z line args, rest)) (some_is e) (call_read i function.Get line ws args rest d))
+    (λ y e. met_within left line λ room. subst (λ z. Met {A = RawExprKind × List Terminal} (outcome.◌>>=◌ (in_round left (listed (whole inner) sign.CloseRound) ws) (λ x. Ok (kind.Call function.Has line x.0, x.1))) (kind.Call z line args, rest)) (some_is e) (call_read i function.Has line ws args rest d))
+    (λ y e. met_within left line λ room. subst (λ z. Met {A = RawExprKind × List Terminal} (outcome.◌>>=◌ (in_round left (listed (whole inner) sign.CloseRound) ws) (λ x. Ok (kind.Call function.Size line x.0, x.1))) (kind.Call z line args, rest)) (some_is e) (call_read i function.Size line ws args rest d))
+    (λ y e. met_within left line λ room. subst (λ z. Met {A = RawExprKind × List Terminal} (outcome.◌>>=◌ (in_round left (listed (whole inner) sign.CloseRound) ws) (λ x. Ok (kind.Call function.Sum line x.0, x.1))) (kind.Call z line args, rest)) (some_is e) (call_read i function.Sum line ws args rest d))
+    (λ y e. met_within left line λ room. subst (λ z. Met {A = RawExprKind × List Terminal} (outcome.◌>>=◌ (in_round left (listed (whole inner) sign.CloseRound) ws) (λ x. Ok (kind.Call function.Put line x.0, x.1))) (kind.Call z line args, rest)) (some_is e) (call_read i function.Put line ws args rest d))
+    (λ y e. met_within left line λ room. subst (λ z. Met {A = RawExprKind × List Terminal} (outcome.◌>>=◌ (in_round left (listed (whole inner) sign.CloseRound) ws) (λ x. Ok (kind.Call function.Del line x.0, x.1))) (kind.Call z line args, rest)) (some_is e) (call_read i function.Del line ws args rest d))
+    (λ y e. met_within left line λ room. subst (λ z. Met {A = RawExprKind × List Terminal} (outcome.◌>>=◌ (in_round left (listed (whole inner) sign.CloseRound) ws) (λ x. Ok (kind.Call function.Bump line x.0, x.1))) (kind.Call z line args, rest)) (some_is e) (call_read i function.Bump line ws args rest d))
+    (λ y e. met_within left line λ room. subst (λ z. Met {A = RawExprKind × List Terminal} (outcome.◌>>=◌ (in_round left (listed (whole inner) sign.CloseRound) ws) (λ x. Ok (kind.Call function.Held line x.0, x.1))) (kind.Call z line args, rest)) (some_is e) (call_read i function.Held line ws args rest d))
     s x found x found
 
-param_read : (inner : Reader ExprKind) (left line : ℕ) (ws : List Terminal) (x : ExprKind) (rest : List Terminal) → (AName >>= λ y. Yields (kind.Param line y)) ws rest x → Met (sign_operand inner left sign.Dollar line ws) (x, rest)
+param_read : (inner : Reader RawExprKind) (left line : ℕ) (ws : List Terminal) (x : RawExprKind) (rest : List Terminal) → (AName >>= λ y. Yields (kind.Param line y)) ws rest x → Met (sign_operand inner left sign.Dollar line ws) (x, rest)
 unfolding sign_operand begins_operand special_of function_of
 param_read inner left line ws x rest d = met_within left line λ room. (complete_next {q = any} (complete_name left ws) λ v. complete_yields).at x rest d refl
 
-nil_read : (inner : Reader ExprKind) (left line : ℕ) (ws : List Terminal) → Met (sign_operand inner left sign.Nil line ws) (kind.Nil, ws)
+nil_read : (inner : Reader RawExprKind) (left line : ℕ) (ws : List Terminal) → Met (sign_operand inner left sign.Nil line ws) (kind.Nil, ws)
 unfolding sign_operand begins_operand special_of function_of
 nil_read inner left line ws = met_within left line λ room. gives refl refl
 
 starts_close : Starts (The sign.CloseRound) (only (code sign.CloseRound))
 starts_close = starts_the
 
-bracket_read : {m : Spelled ExprKind} {left : ℕ} (inner : Reader ExprKind) → Inside m left inner → (line : ℕ) (ws : List Terminal) (x : ExprKind) (rest : List Terminal) → (Whole m >>= λ y. The sign.CloseRound >>= λ e. Yields (kind.Bracketed y)) ws rest x
+bracket_read : {m : Spelled RawExprKind} {left : ℕ} (inner : Reader RawExprKind) → Inside m left inner → (line : ℕ) (ws : List Terminal) (x : RawExprKind) (rest : List Terminal) → (Whole m >>= λ y. The sign.CloseRound >>= λ e. Yields (kind.Bracketed y)) ws rest x
     → Met (sign_operand inner left sign.OpenRound line ws) (x, rest)
 unfolding sign_operand begins_operand special_of function_of
 bracket_read {left = left} inner i line ws x rest d = met_within left line λ room.
@@ -155,11 +155,11 @@ bracket_read {left = left} inner i line ws x rest d = met_within left line λ ro
     (λ y. follows_starts (starts_then starts_close) (only_in _ refl))).at x rest d refl
 
 -- the derivation's first terminal is the terminal that is read
-moved : (inner : Reader ExprKind) (left : ℕ) (w v : Terminal) (ws vs : List Terminal) (s : Sign) (x : ExprKind) (rest : List Terminal) → ◌≡◌ {A = List Terminal} (w ∷ ws) (v ∷ vs) → v.what ≡ what.Sign s
+moved : (inner : Reader RawExprKind) (left : ℕ) (w v : Terminal) (ws vs : List Terminal) (s : Sign) (x : RawExprKind) (rest : List Terminal) → ◌≡◌ {A = List Terminal} (w ∷ ws) (v ∷ vs) → v.what ≡ what.Sign s
     → Met (sign_operand inner left s w.line ws) (x, rest) → Met (operand_said inner left w.line ws w.what) (x, rest)
 moved inner left w v ws vs s x rest e is met = subst (λ z. Met (operand_said inner left w.line ws z) (x, rest)) (sym (says w v ws vs (what.Sign s) e is)) met
 
-operand_case : {m : Spelled ExprKind} (left : ℕ) (inner : Reader ExprKind) → Inside m left inner → (w : Terminal) (ws : List Terminal) (x : ExprKind) (rest : List Terminal) → NoNumber m (w ∷ ws) rest x
+operand_case : {m : Spelled RawExprKind} (left : ℕ) (inner : Reader RawExprKind) → Inside m left inner → (w : Terminal) (ws : List Terminal) (x : RawExprKind) (rest : List Terminal) → NoNumber m (w ∷ ws) rest x
     → Met (operand_said inner left w.line ws w.what) (x, rest)
 unfolding NoNumber
 operand_case left inner i w ws x rest (the_one d) =
@@ -198,7 +198,7 @@ operand_case {m = m} left inner i w ws x rest (the_other (the_other (the_other (
     let next = subst (λ us. (Whole m >>= λ y. The sign.CloseRound >>= λ e. Yields (kind.Bracketed y)) us rest x) (sym (tail_is w d.one.terminal ws d.middle e)) d.next in
     moved inner left w d.one.terminal ws d.middle sign.OpenRound x rest e d.one.is (bracket_read inner i w.line ws x rest next)
 
-complete_operand_case : {m : Spelled ExprKind} (left : ℕ) (inner : Reader ExprKind) → Inside m left inner → (ts : List Terminal) (x : ExprKind) (rest : List Terminal) → Operand m ts rest x → Met (operand inner left ts) (x, rest)
+complete_operand_case : {m : Spelled RawExprKind} (left : ℕ) (inner : Reader RawExprKind) → Inside m left inner → (ts : List Terminal) (x : RawExprKind) (rest : List Terminal) → Operand m ts rest x → Met (operand inner left ts) (x, rest)
 unfolding operand Operand
 complete_operand_case left inner i [] x rest d = let h = (among_in {q = others (only 0)} operands refl).at 0 ((starts_operand i.known).at [] rest x d) in absurd cc
 complete_operand_case left inner i (w ∷ ws) x rest (the_one d) =
@@ -207,7 +207,7 @@ complete_operand_case left inner i (w ∷ ws) x rest (the_one d) =
     (met_within left w.line λ room. gives (sym d.next.is) (tail_is w d.one.terminal ws d.middle e ∙ d.next.none))
 complete_operand_case left inner i (w ∷ ws) x rest (the_other d) = operand_case left inner i w ws x rest d
 
-pub complete_operand : {m : Spelled ExprKind} (left : ℕ) (inner : Reader ExprKind) → Inside m left inner → (ts : List Terminal) → Complete any (Operand m) ts (operand inner left ts)
+pub complete_operand : {m : Spelled RawExprKind} (left : ℕ) (inner : Reader RawExprKind) → Inside m left inner → (ts : List Terminal) → Complete any (Operand m) ts (operand inner left ts)
 complete_operand left inner i ts = record { at = λ x rest d e. complete_operand_case left inner i ts x rest d }
 
 -- ---- prefix signs
@@ -215,23 +215,23 @@ complete_operand left inner i ts = record { at = λ x rest d e. complete_operand
 sign_no : (w : Terminal) (s : Sign) → others (only (code s)) (front_of w.what) ≡ true → is_sign w s ≡ false
 sign_no w s e = front_case s w.what ∙ is_not (only (code s) (front_of w.what)) e
 
-prefix_read : (left : ℕ) (many : Bool) (again : Reader ExprKind) (make : Expr → ExprKind) (line : ℕ) (us : List Terminal) (x : ExprKind) (rest : List Terminal) → (many ≡ false → Met (again us) (x, rest))
+prefix_read : (left : ℕ) (many : Bool) (again : Reader RawExprKind) (make : RawExpr → RawExprKind) (line : ℕ) (us : List Terminal) (x : RawExprKind) (rest : List Terminal) → (many ≡ false → Met (again us) (x, rest))
     → Met (prefixed left many again make line us) (make (placed_at x us), rest)
 prefix_read left many again make line us x rest met = go (left == 0) many met
   where
-    read : (r : Read ExprKind) → Met r (x, rest) → Met {A = ExprKind × List Terminal} (outcome.◌>>=◌ {A = Expr × List Terminal} (outcome.◌>>=◌ r (λ y. Ok (placed y.0 (first_line us), y.1))) (λ y. Ok (make y.0, y.1))) (make (placed_at x us), rest)
+    read : (r : Read RawExprKind) → Met r (x, rest) → Met {A = RawExprKind × List Terminal} (outcome.◌>>=◌ {A = RawExpr × List Terminal} (outcome.◌>>=◌ r (λ y. Ok (placed y.0 (first_line us), y.1))) (λ y. Ok (make y.0, y.1))) (make (placed_at x us), rest)
     read (Ok v) h = gives (ap (λ z. make (placed z.0 (first_line us))) h.is) (ap (λ z. z.1) h.is)
     read (Err f) h = record { is = h.is }
 
-    go : (c many : Bool) → (many ≡ false → Met (again us) (x, rest)) → Met {A = ExprKind × List Terminal} (if c || many then Err (fault.Deep line) else outcome.◌>>=◌ (whole again us) (λ y. Ok (make y.0, y.1))) (make (placed_at x us), rest)
+    go : (c many : Bool) → (many ≡ false → Met (again us) (x, rest)) → Met {A = RawExprKind × List Terminal} (if c || many then Err (fault.Deep line) else outcome.◌>>=◌ (whole again us) (λ y. Ok (make y.0, y.1))) (make (placed_at x us), rest)
     go true many met = record { is = tt }
     go false true met = record { is = tt }
     go false false met = read (again us) (met refl)
 
 -- a run's first sign, or its operand
-unary_read : {m : Spelled ExprKind} (left : ℕ) (inner : Reader ExprKind) → Inside m left inner → (many : Bool) (again : Reader ExprKind)
-    → ((ts : List Terminal) (x : ExprKind) (rest : List Terminal) → many ≡ false → Unary m ts rest x → Met (again ts) (x, rest))
-    → (ts : List Terminal) (x : ExprKind) (rest : List Terminal) → Unary m ts rest x → Met (unary_with inner left many again ts) (x, rest)
+unary_read : {m : Spelled RawExprKind} (left : ℕ) (inner : Reader RawExprKind) → Inside m left inner → (many : Bool) (again : Reader RawExprKind)
+    → ((ts : List Terminal) (x : RawExprKind) (rest : List Terminal) → many ≡ false → Unary m ts rest x → Met (again ts) (x, rest))
+    → (ts : List Terminal) (x : RawExprKind) (rest : List Terminal) → Unary m ts rest x → Met (unary_with inner left many again ts) (x, rest)
 unary_read left inner i many again more [] x rest (Unary.operand d) = let h = (among_in {q = others (only 0)} operands refl).at 0 ((starts_operand i.known).at [] rest x d) in absurd cc
 unary_read left inner i many again more [] x rest (Unary.negated p d) = let h : ◌≡◌ {A = List Terminal} [] _ = p.stands in absurd cc
 unary_read left inner i many again more [] x rest (Unary.minus p d) = let h : ◌≡◌ {A = List Terminal} [] _ = p.stands in absurd cc
@@ -253,23 +253,23 @@ unary_read left inner i many again more (w ∷ ws) x rest (Unary.minus {us = us}
     (met_if _ (is_sign w sign.Minus) (is_it w sign.Minus is)
     (subst (λ vs. Met (prefixed left many again kind.Minus w.line vs) (kind.Minus (placed_at y us), rest)) (sym tail) (prefix_read left many again kind.Minus w.line us y rest (λ few. more us y rest few d))))
 
-unary_run : {m : Spelled ExprKind} (left : ℕ) (inner : Reader ExprKind) → Inside m left inner → (run : ℕ) (ts : List Terminal) (x : ExprKind) (rest : List Terminal) → Unary m ts rest x → Met (unary inner left run ts) (x, rest)
+unary_run : {m : Spelled RawExprKind} (left : ℕ) (inner : Reader RawExprKind) → Inside m left inner → (run : ℕ) (ts : List Terminal) (x : RawExprKind) (rest : List Terminal) → Unary m ts rest x → Met (unary inner left run ts) (x, rest)
 unfolding unary
 unary_run left inner i zero ts x rest d = unary_read left inner i true (λ ws. Err fault.Ended) (λ ts x rest few d. absurd cc) ts x rest d
 unary_run left inner i (suc run) ts x rest d = unary_read left inner i false (unary inner left run) (λ ts x rest few d. unary_run left inner i run ts x rest d) ts x rest d
 
-pub complete_unary : {m : Spelled ExprKind} (left : ℕ) (inner : Reader ExprKind) → Inside m left inner → (run : ℕ) (ts : List Terminal) → Complete any (Unary m) ts (unary inner left run ts)
+pub complete_unary : {m : Spelled RawExprKind} (left : ℕ) (inner : Reader RawExprKind) → Inside m left inner → (run : ℕ) (ts : List Terminal) → Complete any (Unary m) ts (unary inner left run ts)
 complete_unary left inner i run ts = record { at = λ x rest d e. unary_run left inner i run ts x rest d }
 
 -- ---- products
 
-factor_case : {m : Spelled ExprKind} → Inner m m → (ts : List Terminal) (x : ExprKind) (rest : List Terminal) → Unary m ts rest x → others times_sign (front rest) ≡ true → factor_of ts ≡ None
+factor_case : {m : Spelled RawExprKind} → Inner m m → (ts : List Terminal) (x : RawExprKind) (rest : List Terminal) → Unary m ts rest x → others times_sign (front rest) ≡ true → factor_of ts ≡ None
 unfolding factor_of
 factor_case i [] x rest d e = refl
 factor_case i (w ∷ []) x rest d e = refl
 factor_case {m = m} i (w ∷ star ∷ ws) x rest d e = go (is_sign star sign.Star) refl
   where
-    said : (z : TerminalKind) → w.what ≡ z → is_sign star sign.Star ≡ true → number_in z ≡ None
+    said : (z : TerminalKind) → w.what ≡ z → is_sign star sign.Star ≡ true → factor_said z ≡ None
     said (what.Name n strategy) is h = refl
     said (what.Sign s) is h = refl
     said (what.Number n) is h =
@@ -277,7 +277,7 @@ factor_case {m = m} i (w ∷ star ∷ ws) x rest d e = go (is_sign star sign.Sta
         let on : times_sign (front rest) ≡ true = ap (λ us. times_sign (front us)) end ∙ sym (front_case sign.Star star.what) ∙ h in
         not_both (times_sign (front rest)) on e
 
-    go : (c : Bool) → is_sign star sign.Star ≡ c → (if c then number_in w.what else None) ≡ None
+    go : (c : Bool) → is_sign star sign.Star ≡ c → (if c then factor_said w.what else None) ≡ None
     go true h = said w.what refl h
     go false h = refl
 
@@ -290,13 +290,13 @@ factor_there (w ∷ []) us vs n line d p =
     let k : ◌≡◌ {A = List Terminal} [] (p.terminal ∷ vs) = h ∙ p.stands in absurd cc
 factor_there (w ∷ star ∷ ws) us vs n line d p =
     let h : ◌≡◌ {A = List Terminal} (star ∷ ws) (p.terminal ∷ vs) = tail_is w d.terminal (star ∷ ws) us d.stands ∙ p.stands in
-    go (is_sign star sign.Star) (is_it star sign.Star (says star p.terminal ws vs (what.Sign sign.Star) h p.is)) (ap number_in (says w d.terminal (star ∷ ws) us (what.Number n) d.stands d.is))
+    go (is_sign star sign.Star) (is_it star sign.Star (says star p.terminal ws vs (what.Sign sign.Star) h p.is)) (ap factor_said (says w d.terminal (star ∷ ws) us (what.Number n) d.stands d.is))
   where
-    go : (c : Bool) → c ≡ true → number_in w.what ≡ Some n → (if c then number_in w.what else None) ≡ Some n
+    go : (c : Bool) → c ≡ true → factor_said w.what ≡ Some n → (if c then factor_said w.what else None) ≡ Some n
     go true e f = f
     go false e f = absurd cc
 
-product_case : {m : Spelled ExprKind} (left : ℕ) (inner : Reader ExprKind) → Inside m left inner → (ts : List Terminal) (x : ExprKind) (rest : List Terminal) → Product m ts rest x → others times_sign (front rest) ≡ true
+product_case : {m : Spelled RawExprKind} (left : ℕ) (inner : Reader RawExprKind) → Inside m left inner → (ts : List Terminal) (x : RawExprKind) (rest : List Terminal) → Product m ts rest x → others times_sign (front rest) ≡ true
     → Met (product inner left ts) (x, rest)
 unfolding product Product
 product_case left inner i ts x rest (the_one d) e = subst (λ f. Met (times inner left f ts) (x, rest)) (sym (factor_case i.known ts x rest d e)) (unary_run left inner i 64 ts x rest d)
@@ -305,7 +305,7 @@ product_case left inner i ts x rest (the_other d) e =
     ((complete_next {q = any} (complete_number left ts) λ n. complete_next (complete_the left sign.Star n.1) λ star.
     complete_next (complete_whole (complete_unary left inner i 64) star.1) λ x. complete_yields).at x rest d refl)
 
-pub complete_product : {m : Spelled ExprKind} (left : ℕ) (inner : Reader ExprKind) → Inside m left inner → (ts : List Terminal) → Complete (others times_sign) (Product m) ts (product inner left ts)
+pub complete_product : {m : Spelled RawExprKind} (left : ℕ) (inner : Reader RawExprKind) → Inside m left inner → (ts : List Terminal) → Complete (others times_sign) (Product m) ts (product inner left ts)
 complete_product left inner i ts = record { at = λ x rest d e. product_case left inner i ts x rest d e }
 
 -- ---- chains
@@ -321,20 +321,20 @@ none_here : {Op : Spelled Operator} {op : Terminal → Option Operator} {r : Set
 none_here k w ws e None is = is
 none_here {r = r} k w ws e (Some o) is = not_both (r (front (w ∷ ws))) (k.starts.at (w ∷ ws) ws o (k.table.has w ws o is)) e
 
-whole_bind : {B : Type 0} {x : B × List Terminal} (f : Expr × List Terminal → Read B) (r : Read Expr) (y : Expr) (vs : List Terminal) → Met r (y, vs) → Met (f (y, vs)) x → Met (outcome.◌>>=◌ r f) x
+whole_bind : {B : Type 0} {x : B × List Terminal} (f : RawExpr × List Terminal → Read B) (r : Read RawExpr) (y : RawExpr) (vs : List Terminal) → Met r (y, vs) → Met (f (y, vs)) x → Met (outcome.◌>>=◌ r f) x
 whole_bind {x = x} f (Ok v) y vs met next = subst (λ z. Met (f z) x) (sym met.is) next
 whole_bind f (Err g) y vs met next = record { is = met.is }
 
-chain_case : {q p r : Set} {Op : Spelled Operator} {m : Spelled ExprKind} (op : Terminal → Option Operator) (item : Reader ExprKind) → Operators Op op r → ((ts : List Terminal) → Complete p m ts (item ts))
+chain_case : {q p r : Set} {Op : Spelled Operator} {m : Spelled RawExprKind} (op : Terminal → Option Operator) (item : Reader RawExprKind) → Operators Op op r → ((ts : List Terminal) → Complete p m ts (item ts))
     → In r p → In q p → In q (others r)
-    → (start : List Terminal) (count : ℕ) (held : ExprKind) (ts : List Terminal) (x : ExprKind) (rest : List Terminal) → Chain Op m start held ts rest x → q (front rest) ≡ true
+    → (start : List Terminal) (count : ℕ) (held : RawExprKind) (ts : List Terminal) (x : RawExprKind) (rest : List Terminal) → Chain Op m start held ts rest x → q (front rest) ≡ true
     → Met (chain op item (first_line start) count held ts) (x, rest)
 unfolding chain
 chain_case op item k c i j l start count held [] x rest Chain.ends e = gives refl refl
 chain_case op item k c i j l start zero held (w ∷ ws) x rest Chain.ends e =
-    subst (λ z. Met {A = ExprKind × List Terminal} (if is_some z then Err (fault.Deep w.line) else Ok (held, w ∷ ws)) (held, w ∷ ws)) (sym (none_here k w ws (l.at (front (w ∷ ws)) e) (op w) refl)) (gives refl refl)
+    subst (λ z. Met {A = RawExprKind × List Terminal} (if is_some z then Err (fault.Deep w.line) else Ok (held, w ∷ ws)) (held, w ∷ ws)) (sym (none_here k w ws (l.at (front (w ∷ ws)) e) (op w) refl)) (gives refl refl)
 chain_case op item k c i j l start (suc count) held (w ∷ ws) x rest Chain.ends e =
-    subst (λ z. Met {A = ExprKind × List Terminal} (elim z [
+    subst (λ z. Met {A = RawExprKind × List Terminal} (elim z [
       | None ↦ Ok (held, w ∷ ws)
       | Some o ↦ outcome.◌>>=◌ (whole item ws) (λ x. chain op item (first_line start) count (kind.Two o (placed held (first_line start)) x.0) x.1)
     ]) (held, w ∷ ws))
@@ -343,20 +343,20 @@ chain_case op item k c i j l start count held [] x rest (Chain.goes_on {us = us}
 chain_case op item k c i j l start zero held (w ∷ ws) x rest (Chain.goes_on {us = us} {o = o} y d f more_d) e =
     let h = k.finds (w ∷ ws) us o d in
     let found : op w ≡ Some o = ap op (head_is w h.0 ws us h.1) ∙ h.2 in
-    subst (λ z. Met {A = ExprKind × List Terminal} (if is_some z then Err (fault.Deep w.line) else Ok (held, w ∷ ws)) (x, rest)) (sym found) (record { is = tt })
+    subst (λ z. Met {A = RawExprKind × List Terminal} (if is_some z then Err (fault.Deep w.line) else Ok (held, w ∷ ws)) (x, rest)) (sym found) (record { is = tt })
 chain_case op item k c i j l start (suc count) held (w ∷ ws) x rest (Chain.goes_on {us = us} {vs = vs} {o = o} y d f more_d) e =
     let h = k.finds (w ∷ ws) us o d in
     let found : op w ≡ Some o = ap op (head_is w h.0 ws us h.1) ∙ h.2 in
     let tail = tail_is w h.0 ws us h.1 in
     let one = (complete_whole c us).at y vs f (follows_chain_case k.starts i j (kind.Two o (placed_at held start) y) vs rest x more_d e) in
     let read = subst (λ zs. Met (whole item zs) (y, vs)) (sym tail) one in
-    subst (λ z. Met {A = ExprKind × List Terminal} (elim z [
+    subst (λ z. Met {A = RawExprKind × List Terminal} (elim z [
       | None ↦ Ok (held, w ∷ ws)
       | Some o ↦ outcome.◌>>=◌ (whole item ws) (λ x. chain op item (first_line start) count (kind.Two o (placed held (first_line start)) x.0) x.1)
     ]) (x, rest))
     (sym found) (whole_bind _ (whole item ws) y vs read (chain_case op item k c i j l start count (kind.Two o (placed_at held start) y) vs x rest more_d e))
 
-complete_chained : {q p r : Set} {Op : Spelled Operator} {m : Spelled ExprKind} (op : Terminal → Option Operator) (item : Reader ExprKind) → Operators Op op r → ((ts : List Terminal) → Complete p m ts (item ts))
+complete_chained : {q p r : Set} {Op : Spelled Operator} {m : Spelled RawExprKind} (op : Terminal → Option Operator) (item : Reader RawExprKind) → Operators Op op r → ((ts : List Terminal) → Complete p m ts (item ts))
     → In r p → In q p → In q (others r) → (ts : List Terminal) → Complete q (Chained Op m) ts (chained op item ts)
 unfolding Chained
 complete_chained {p = p} op item k c i j l ts = complete_here (complete_then p (c ts)
@@ -430,19 +430,19 @@ relation_operators = record { table = relation_table; starts = (relation_fork {q
 
 -- ---- the levels
 
-complete_sum : {m : Spelled ExprKind} (left : ℕ) (inner : Reader ExprKind) → Inside m left inner → (ts : List Terminal) → Complete (others sum_signs) (Sum m) ts (sums inner left ts)
+complete_sum : {m : Spelled RawExprKind} (left : ℕ) (inner : Reader RawExprKind) → Inside m left inner → (ts : List Terminal) → Complete (others sum_signs) (Sum m) ts (sums inner left ts)
 unfolding sums Sum
 complete_sum left inner i ts = complete_chained sum_of (product inner left) sum_operators (complete_product left inner i) (both_in (only_in _ refl) (only_in _ refl)) (others_in _ _) (others_first _ _) ts
 
-abbrev Related : Spelled ExprKind → ExprKind → List Terminal → Spelled ExprKind
+abbrev Related : Spelled RawExprKind → RawExprKind → List Terminal → Spelled RawExprKind
 Related m held start = Either (Yields held) (RelationSign >>= λ o. Whole (Sum m) >>= λ y. Yields (kind.Two o (placed_at held start) y))
 
-related_case : {m : Spelled ExprKind} (left : ℕ) (inner : Reader ExprKind) → Inside m left inner → (start : List Terminal) (held : ExprKind) (us : List Terminal) (x : ExprKind) (rest : List Terminal)
+related_case : {m : Spelled RawExprKind} (left : ℕ) (inner : Reader RawExprKind) → Inside m left inner → (start : List Terminal) (held : RawExprKind) (us : List Terminal) (x : RawExprKind) (rest : List Terminal)
     → Related m held start us rest x → others relation_signs (front rest) ≡ true → Met (related (sums inner left) (first_line start) held us) (x, rest)
 related_case left inner i start held [] x rest (the_one d) e = gives (sym d.is) d.none
 related_case left inner i start held (w ∷ ws) x rest (the_one d) e =
     let free = subst (λ zs. others relation_signs (front zs) ≡ true) (sym d.none) e in
-    subst (λ z. Met {A = ExprKind × List Terminal} (elim z [ None ↦ Ok (held, w ∷ ws) | Some o ↦ outcome.◌>>=◌ (whole (sums inner left) ws) (λ x. Ok (kind.Two o (placed held (first_line start)) x.0, x.1)) ]) (x, rest))
+    subst (λ z. Met {A = RawExprKind × List Terminal} (elim z [ None ↦ Ok (held, w ∷ ws) | Some o ↦ outcome.◌>>=◌ (whole (sums inner left) ws) (λ x. Ok (kind.Two o (placed held (first_line start)) x.0, x.1)) ]) (x, rest))
     (sym (none_here relation_operators w ws ((others_first relations sum_signs).at (front (w ∷ ws)) free) (relation_of w) refl)) (gives (sym d.is) d.none)
 related_case left inner i start held [] x rest (the_other d) e =
     let h = relation_operators.finds [] d.middle d.value d.one in let k : ◌≡◌ {A = List Terminal} [] (h.0 ∷ d.middle) = h.1 in absurd cc
@@ -453,61 +453,61 @@ related_case left inner i start held (w ∷ ws) x rest (the_other d) e =
     let end = subst (λ zs. others relation_signs (front zs) ≡ true) (sym d.next.next.none) e in
     let one = (complete_whole (complete_sum left inner i) d.middle).at d.next.value d.next.middle d.next.one ((others_in relations sum_signs).at (front d.next.middle) end) in
     let read = subst (λ zs. Met (whole (sums inner left) zs) (d.next.value, d.next.middle)) (sym tail) one in
-    subst (λ z. Met {A = ExprKind × List Terminal} (elim z [ None ↦ Ok (held, w ∷ ws) | Some o ↦ outcome.◌>>=◌ (whole (sums inner left) ws) (λ x. Ok (kind.Two o (placed held (first_line start)) x.0, x.1)) ]) (x, rest))
+    subst (λ z. Met {A = RawExprKind × List Terminal} (elim z [ None ↦ Ok (held, w ∷ ws) | Some o ↦ outcome.◌>>=◌ (whole (sums inner left) ws) (λ x. Ok (kind.Two o (placed held (first_line start)) x.0, x.1)) ]) (x, rest))
     (sym found) (whole_bind _ (whole (sums inner left) ws) d.next.value d.next.middle read (gives (sym d.next.next.is) d.next.next.none))
 
-complete_relation : {m : Spelled ExprKind} (left : ℕ) (inner : Reader ExprKind) → Inside m left inner → (ts : List Terminal) → Complete (others relation_signs) (Relation m) ts (relation inner left ts)
+complete_relation : {m : Spelled RawExprKind} (left : ℕ) (inner : Reader RawExprKind) → Inside m left inner → (ts : List Terminal) → Complete (others relation_signs) (Relation m) ts (relation inner left ts)
 unfolding relation Relation
 complete_relation left inner i ts = complete_here (complete_then (others sum_signs) (complete_sum left inner i ts)
     (λ v. record { at = λ x rest d e. related_case left inner i ts v.0 v.1 x rest d e })
     (λ x. follows_or (follows_yields (others_in _ _)) (follows_starts (starts_then relation_operators.starts) (relations_in refl refl refl refl))))
 
-complete_and : {m : Spelled ExprKind} (left : ℕ) (inner : Reader ExprKind) → Inside m left inner → (ts : List Terminal) → Complete (others and_signs) (And m) ts (ands inner left ts)
+complete_and : {m : Spelled RawExprKind} (left : ℕ) (inner : Reader RawExprKind) → Inside m left inner → (ts : List Terminal) → Complete (others and_signs) (And m) ts (ands inner left ts)
 unfolding ands And
 complete_and left inner i ts = complete_chained and_of (relation inner left) and_operators (complete_relation left inner i) (only_in _ refl) (others_in _ _) (others_first _ _) ts
 
-complete_or : {m : Spelled ExprKind} (left : ℕ) (inner : Reader ExprKind) → Inside m left inner → (ts : List Terminal) → Complete (others or_signs) (Or m) ts (ors inner left ts)
+complete_or : {m : Spelled RawExprKind} (left : ℕ) (inner : Reader RawExprKind) → Inside m left inner → (ts : List Terminal) → Complete (others or_signs) (Or m) ts (ors inner left ts)
 unfolding ors Or
 complete_or left inner i ts = complete_chained or_of (ands inner left) or_operators (complete_and left inner i) (only_in _ refl) (others_in _ _) (others_first _ _) ts
 
 -- where the first side was read
-side_read : {x : ExprKind × List Terminal} (f : ExprKind × List Terminal → Read ExprKind) (r : Read ExprKind) (y : ExprKind) (us : List Terminal) → Met r (y, us) → Met (f (y, us)) x → Met (outcome.◌>>=◌ r f) x
+side_read : {x : RawExprKind × List Terminal} (f : RawExprKind × List Terminal → Read RawExprKind) (r : Read RawExprKind) (y : RawExprKind) (us : List Terminal) → Met r (y, us) → Met (f (y, us)) x → Met (outcome.◌>>=◌ r f) x
 side_read {x = x} f (Ok v) y us met next = subst (λ z. Met (f z) x) (sym met.is) next
 side_read f (Err g) y us met next = record { is = met.is }
 
-implied_ends : (many : Bool) (right : Reader ExprKind) (line : ℕ) (held : ExprKind) (rest : List Terminal) → others operators (front rest) ≡ true → Met (implied many right line held rest) (held, rest)
+implied_ends : (many : Bool) (right : Reader RawExprKind) (line : ℕ) (held : RawExprKind) (rest : List Terminal) → others operators (front rest) ≡ true → Met (implied many right line held rest) (held, rest)
 implied_ends many right line held [] e = gives refl refl
 implied_ends many right line held (w ∷ ws) e = met_else _ (is_sign w sign.Implies) (sign_no w sign.Implies ((others_first (only (code sign.Implies)) or_signs).at (front (w ∷ ws)) e)) (gives refl refl)
 
-implied_goes : (many : Bool) (right : Reader ExprKind) (start : List Terminal) (held : ExprKind) (us vs : List Terminal) (line : ℕ) (y : ExprKind) (rest : List Terminal) → The sign.Implies us vs line → (many ≡ false → Met (right vs) (y, rest))
+implied_goes : (many : Bool) (right : Reader RawExprKind) (start : List Terminal) (held : RawExprKind) (us vs : List Terminal) (line : ℕ) (y : RawExprKind) (rest : List Terminal) → The sign.Implies us vs line → (many ≡ false → Met (right vs) (y, rest))
     → Met (implied many right (first_line start) held us) (kind.Two operator.Implies (placed_at held start) (placed_at y vs), rest)
 implied_goes many right start held [] vs line y rest p met = let k : ◌≡◌ {A = List Terminal} [] (p.terminal ∷ vs) = p.stands in absurd cc
 implied_goes many right start held (w ∷ ws) vs line y rest p met =
     let e : ◌≡◌ {A = List Terminal} (w ∷ ws) (p.terminal ∷ vs) = p.stands in
     met_if _ (is_sign w sign.Implies) (is_it w sign.Implies (says w p.terminal ws vs (what.Sign sign.Implies) e p.is)) (go many met (tail_is w p.terminal ws vs e))
   where
-    read : (zs : List Terminal) → zs ≡ vs → (r : Read ExprKind) → Met r (y, rest)
-        → Met {A = ExprKind × List Terminal} (outcome.◌>>=◌ {A = Expr × List Terminal} (outcome.◌>>=◌ r (λ x. Ok (placed x.0 (first_line zs), x.1))) (λ x. Ok (kind.Two operator.Implies (placed held (first_line start)) x.0, x.1)))
+    read : (zs : List Terminal) → zs ≡ vs → (r : Read RawExprKind) → Met r (y, rest)
+        → Met {A = RawExprKind × List Terminal} (outcome.◌>>=◌ {A = RawExpr × List Terminal} (outcome.◌>>=◌ r (λ x. Ok (placed x.0 (first_line zs), x.1))) (λ x. Ok (kind.Two operator.Implies (placed held (first_line start)) x.0, x.1)))
         (kind.Two operator.Implies (placed_at held start) (placed_at y vs), rest)
     read zs same (Ok v) h = gives (λ k. kind.Two operator.Implies (placed held (first_line start)) (placed (h.is k).0 (first_line (same k)))) (ap (λ z. z.1) h.is)
     read zs same (Err f) h = record { is = h.is }
 
     go : (many : Bool) → (many ≡ false → Met (right vs) (y, rest)) → ws ≡ vs
-        → Met {A = ExprKind × List Terminal} (if many then Err (fault.Deep w.line) else outcome.◌>>=◌ (whole right ws) (λ x. Ok (kind.Two operator.Implies (placed held (first_line start)) x.0, x.1)))
+        → Met {A = RawExprKind × List Terminal} (if many then Err (fault.Deep w.line) else outcome.◌>>=◌ (whole right ws) (λ x. Ok (kind.Two operator.Implies (placed held (first_line start)) x.0, x.1)))
         (kind.Two operator.Implies (placed_at held start) (placed_at y vs), rest)
     go true met same = record { is = tt }
     go false met same = read ws same (right ws) (subst (λ zs. Met (right zs) (y, rest)) (sym same) (met refl))
 
-implies_read : {m : Spelled ExprKind} (left : ℕ) (inner : Reader ExprKind) → Inside m left inner → (many : Bool) (right : Reader ExprKind)
-    → ((ts : List Terminal) (x : ExprKind) (rest : List Terminal) → many ≡ false → Implied m ts rest x → others operators (front rest) ≡ true → Met (right ts) (x, rest))
-    → (ts : List Terminal) (x : ExprKind) (rest : List Terminal) → Implied m ts rest x → others operators (front rest) ≡ true
+implies_read : {m : Spelled RawExprKind} (left : ℕ) (inner : Reader RawExprKind) → Inside m left inner → (many : Bool) (right : Reader RawExprKind)
+    → ((ts : List Terminal) (x : RawExprKind) (rest : List Terminal) → many ≡ false → Implied m ts rest x → others operators (front rest) ≡ true → Met (right ts) (x, rest))
+    → (ts : List Terminal) (x : RawExprKind) (rest : List Terminal) → Implied m ts rest x → others operators (front rest) ≡ true
     → Met (outcome.◌>>=◌ (ors inner left ts) (λ x. implied many right (first_line ts) x.0 x.1)) (x, rest)
 implies_read left inner i many right again ts x rest (Implied.plain d) e =
     side_read _ (ors inner left ts) x rest ((complete_or left inner i ts).at x rest d (no_operator rest e)) (implied_ends many right (first_line ts) x rest e)
 implies_read left inner i many right again ts x rest (Implied.implies {vs = vs} {y = y} z us line d p f) e =
     side_read _ (ors inner left ts) z us ((complete_or left inner i ts).at z us d (implies_follows us vs line p)) (implied_goes many right ts z us vs line y rest p (λ few. again vs y rest few f e))
 
-implies_run : {m : Spelled ExprKind} (left : ℕ) (inner : Reader ExprKind) → Inside m left inner → (run : ℕ) (ts : List Terminal) (x : ExprKind) (rest : List Terminal) → Implied m ts rest x → others operators (front rest) ≡ true
+implies_run : {m : Spelled RawExprKind} (left : ℕ) (inner : Reader RawExprKind) → Inside m left inner → (run : ℕ) (ts : List Terminal) (x : RawExprKind) (rest : List Terminal) → Implied m ts rest x → others operators (front rest) ≡ true
     → Met (implies inner left run ts) (x, rest)
 unfolding implies
 implies_run left inner i zero ts x rest d e = implies_read left inner i true (λ ws. Err fault.Ended) (λ ts x rest few d e. absurd cc) ts x rest d e
@@ -529,7 +529,7 @@ nested_inside (suc below) (suc depth) = record {
   complete = λ room ts. record { at = λ x rest d e. implies_run below (inside below) (nested_inside below depth) 64 ts x rest d e };
 }
 
-outer_read : (left : ℕ) (ts : List Terminal) (x : ExprKind) (rest : List Terminal) (depth : ℕ) → Nested depth ts rest x → others operators (front rest) ≡ true → Met (implies (inside left) left 64 ts) (x, rest)
+outer_read : (left : ℕ) (ts : List Terminal) (x : RawExprKind) (rest : List Terminal) (depth : ℕ) → Nested depth ts rest x → others operators (front rest) ≡ true → Met (implies (inside left) left 64 ts) (x, rest)
 unfolding Nested
 outer_read left ts x rest zero d e = absurd d
 outer_read left ts x rest (suc depth) d e = implies_run left (inside left) (nested_inside left depth) 64 ts x rest d e

@@ -4,14 +4,14 @@ use Rattle.sync_base.specs.declared.stops.Refusal.{Refusal}
 use Rattle.sync_lex.specs.declared.signs.Sign.{Sign}
 use Rattle.sync_lex.specs.declared.signs.Sign.TheVariants as sign
 use Rattle.sync_lex.specs.declared.terminals.Terminals.{Terminals}
-use Rattle.sync_parse_exprs.specs.declared.naming.Named.{Named}
-use Rattle.sync_parse_exprs.specs.declared.expressions.Expr.{Expr}
+use Rattle.sync_parse_exprs.specs.declared.raw_names.RawName.{RawName}
+use Rattle.sync_parse_exprs.specs.declared.expressions.RawExpr.{RawExpr}
 use Rattle.sync_parse.specs.declared.trees.RawText.{RawText}
 use Rattle.sync_parse.specs.declared.trees.RawMachine.{RawMachine}
 use Rattle.sync_parse.specs.declared.trees.RawInvariant.{RawInvariant}
 use Rattle.sync_parse.specs.declared.trees.RawOperation.{RawOperation}
-use Rattle.sync_parse.specs.declared.trees.RawActKind.{RawActKind}
-use Rattle.sync_parse.specs.declared.trees.RawActKind.TheVariants as act
+use Rattle.sync_parse.specs.declared.trees.RawAct.{RawAct}
+use Rattle.sync_parse.specs.declared.trees.RawAct.TheVariants as act
 use Rattle.sync_parse.specs.declared.trees.RawPlace.{RawPlace}
 use Rattle.sync_parse_grammar.specs.Relations.{Spelled, Then, Closed, Many}
 use Rattle.sync_parse_grammar.specs.Expressions.{AnExpr}
@@ -55,11 +55,11 @@ closed_expr = clear_closed (others operators) clear_expr refl
 closed_place : {q : Set} → Clear q (Closed Place) (Closed Place)
 closed_place = clear_closed any clear_place refl
 
-pub formula_fork : {q : Set} (opening : Sign) (made : Expr → RawActKind) → Fork q (only (code opening)) (FormulaAct opening made) (FormulaAct opening made)
+pub formula_fork : {q : Set} (opening : Sign) (made : RawExpr → RawAct) → Fork q (only (code opening)) (FormulaAct opening made) (FormulaAct opening made)
 unfolding FormulaAct
 formula_fork opening made = lone (clear_next clear_the λ w. clear_next closed_expr λ e. clear_yields) (starts_then starts_the)
 
-pub value_fork : {q : Set} (opening : Sign) (made : Named → Expr → RawActKind) → Fork q (only (code opening)) (ValueAct opening made) (ValueAct opening made)
+pub value_fork : {q : Set} (opening : Sign) (made : RawName → RawExpr → RawAct) → Fork q (only (code opening)) (ValueAct opening made) (ValueAct opening made)
 unfolding ValueAct
 value_fork opening made = lone (clear_next clear_the λ w. clear_next clear_name λ n. clear_next clear_the λ q. clear_next closed_expr λ e. clear_yields) (starts_then starts_the)
 
@@ -67,7 +67,7 @@ pub field_place_fork : {q : Set} (opening symbol : Sign) → Fork q (only (code 
 unfolding FieldPlace
 field_place_fork opening symbol = lone (clear_next clear_the λ w. clear_next clear_name λ n. clear_next clear_the λ q. clear_next closed_place λ p. clear_yields) (starts_then starts_the)
 
-pub place_fork : {q : Set} (opening symbol : Sign) (made : Named → RawPlace → RawActKind) → Fork q (only (code opening)) (PlaceAct opening symbol made) (PlaceAct opening symbol made)
+pub place_fork : {q : Set} (opening symbol : Sign) (made : RawName → RawPlace → RawAct) → Fork q (only (code opening)) (PlaceAct opening symbol made) (PlaceAct opening symbol made)
 unfolding PlaceAct
 place_fork opening symbol made = lone (clear_next (field_place_fork opening symbol).clear λ x. clear_yields) (starts_then (field_place_fork {q = any} opening symbol).left)
 

@@ -17,16 +17,16 @@ use Rattle.sync_lex.specs.declared.terminals.Terminals.{Terminals}
 use Rattle.sync_lex.specs.Terminals.{is_sign, terminals_in}
 use Rattle.sync_parse_exprs.specs.declared.faults.Fault.{Fault}
 use Rattle.sync_parse_exprs.specs.declared.faults.Fault.TheVariants as fault
-use Rattle.sync_parse_exprs.specs.declared.naming.Named.{Named}
-use Rattle.sync_parse_exprs.specs.declared.expressions.Expr.{Expr}
+use Rattle.sync_parse_exprs.specs.declared.raw_names.RawName.{RawName}
+use Rattle.sync_parse_exprs.specs.declared.expressions.RawExpr.{RawExpr}
 use Rattle.sync_parse.specs.declared.trees.RawText.{RawText}
 use Rattle.sync_parse.specs.declared.trees.RawMachine.{RawMachine}
 use Rattle.sync_parse.specs.declared.trees.RawProof.{RawProof}
-use Rattle.sync_parse.specs.declared.trees.RawActKind.{RawActKind}
-use Rattle.sync_parse.specs.declared.trees.RawActKind.TheVariants as act
+use Rattle.sync_parse.specs.declared.trees.RawAct.{RawAct}
+use Rattle.sync_parse.specs.declared.trees.RawAct.TheVariants as act
 use Rattle.sync_parse.specs.declared.trees.RawPlace.{RawPlace}
 use Rattle.sync_parse.specs.declared.trees.RawPlace.TheVariants as place
-use Rattle.sync_parse_exprs.specs.Lexemes.{Read, Reader, begins_with, sign_at, number_at}
+use Rattle.sync_parse_exprs.specs.Terminals.{Read, Reader, begins_with, sign_at, number_at}
 use Rattle.sync_parse.specs.Faults.{refusal_of, refused}
 use Rattle.sync_parse.specs.Machines.{pattern_at, keyed, place_at, closed_expr, closed_place, formula_act, value_act, field_place, place_act, have_act, act_kind, act_at, acts, field_at, fields, mode_of, mode_said, mode_at, operation_at, begins_operation, operations, invariant_at, invariants, machine_at, claim_at, proof_at, proof_row, proofs_at, version_at, at_end, text_of, parsed}
 use Rattle.sync_parse_grammar.specs.Relations.{Spelled, The, ANumber, Yields, Then, ◌>>=◌, ◌>>◌, Either, the_one, the_other, Closed}
@@ -50,7 +50,7 @@ complete_pattern left ts = complete_if sign.Question (starts_then starts_the) (s
     (complete_next (complete_the left sign.Question ts) λ q. complete_next (complete_name left q.1) λ n. complete_yields)
     (complete_then (others operators) (complete_expr left ts) (λ e. complete_yields) (λ e. follows_yields same_in))
 
-keyed_complete : (left : ℕ) (key : Expr) (ts : List Terminal) → Complete (only (code sign.CloseSquare)) (Either (Yields (place.Key key)) (The sign.MapsTo >>= λ m. Pattern >>= λ p. Yields (place.Entry key p))) ts (keyed left key ts)
+keyed_complete : (left : ℕ) (key : RawExpr) (ts : List Terminal) → Complete (only (code sign.CloseSquare)) (Either (Yields (place.Key key)) (The sign.MapsTo >>= λ m. Pattern >>= λ p. Yields (place.Entry key p))) ts (keyed left key ts)
 unfolding keyed
 keyed_complete left key ts = complete_optional sign.MapsTo (starts_then starts_the) (only_in _ refl)
     (complete_next (complete_the left sign.MapsTo ts) λ m. complete_then (others operators) (complete_pattern left m.1) (λ p. complete_yields) (λ p. follows_yields (only_in _ refl)))
@@ -74,11 +74,11 @@ complete_closed_place : (left : ℕ) (ts : List Terminal) → Complete any (Clos
 unfolding closed_place Closed
 complete_closed_place left ts = complete_next (complete_place left ts) λ p. complete_next (complete_the left sign.Semicolon p.1) λ s. complete_yields
 
-complete_formula : {q : Set} (opening : Sign) (made : Expr → RawActKind) (left : ℕ) (ts : List Terminal) → Complete q (FormulaAct opening made) ts (formula_act opening made left ts)
+complete_formula : {q : Set} (opening : Sign) (made : RawExpr → RawAct) (left : ℕ) (ts : List Terminal) → Complete q (FormulaAct opening made) ts (formula_act opening made left ts)
 unfolding formula_act FormulaAct
 complete_formula opening made left ts = complete_next (complete_the left opening ts) λ w. complete_next (complete_closed_expr left w.1) λ e. complete_yields
 
-complete_value : {q : Set} (opening : Sign) (made : Named → Expr → RawActKind) (left : ℕ) (ts : List Terminal) → Complete q (ValueAct opening made) ts (value_act opening made left ts)
+complete_value : {q : Set} (opening : Sign) (made : RawName → RawExpr → RawAct) (left : ℕ) (ts : List Terminal) → Complete q (ValueAct opening made) ts (value_act opening made left ts)
 unfolding value_act ValueAct
 complete_value opening made left ts = complete_next (complete_the left opening ts) λ w. complete_next (complete_name left w.1) λ n. complete_next (complete_the left sign.Equal n.1) λ q.
     complete_next (complete_closed_expr left q.1) λ e. complete_yields
@@ -88,7 +88,7 @@ unfolding field_place FieldPlace
 complete_field_place opening symbol left ts = complete_next (complete_the left opening ts) λ w. complete_next (complete_name left w.1) λ n. complete_next (complete_the left symbol n.1) λ q.
     complete_next (complete_closed_place left q.1) λ p. complete_yields
 
-complete_place_act : {q : Set} (opening symbol : Sign) (made : Named → RawPlace → RawActKind) (left : ℕ) (ts : List Terminal) → Complete q (PlaceAct opening symbol made) ts (place_act opening symbol made left ts)
+complete_place_act : {q : Set} (opening symbol : Sign) (made : RawName → RawPlace → RawAct) (left : ℕ) (ts : List Terminal) → Complete q (PlaceAct opening symbol made) ts (place_act opening symbol made left ts)
 unfolding place_act PlaceAct
 complete_place_act opening symbol made left ts = complete_next (complete_field_place opening symbol left ts) λ x. complete_yields
 

@@ -10,16 +10,16 @@ use Rattle.sync_lex.specs.declared.terminals.Terminals.{Terminals}
 use Rattle.sync_lex.specs.Terminals.{is_sign, terminals_in}
 use Rattle.sync_parse_exprs.specs.declared.faults.Fault.{Fault}
 use Rattle.sync_parse_exprs.specs.declared.faults.Fault.TheVariants as fault
-use Rattle.sync_parse_exprs.specs.declared.naming.Named.{Named}
-use Rattle.sync_parse_exprs.specs.declared.expressions.Expr.{Expr}
+use Rattle.sync_parse_exprs.specs.declared.raw_names.RawName.{RawName}
+use Rattle.sync_parse_exprs.specs.declared.expressions.RawExpr.{RawExpr}
 use Rattle.sync_parse.specs.declared.trees.RawText.{RawText}
 use Rattle.sync_parse.specs.declared.trees.RawMachine.{RawMachine}
 use Rattle.sync_parse.specs.declared.trees.RawProof.{RawProof}
-use Rattle.sync_parse.specs.declared.trees.RawActKind.{RawActKind}
-use Rattle.sync_parse.specs.declared.trees.RawActKind.TheVariants as act
+use Rattle.sync_parse.specs.declared.trees.RawAct.{RawAct}
+use Rattle.sync_parse.specs.declared.trees.RawAct.TheVariants as act
 use Rattle.sync_parse.specs.declared.trees.RawPlace.{RawPlace}
 use Rattle.sync_parse.specs.declared.trees.RawPlace.TheVariants as place
-use Rattle.sync_parse_exprs.specs.Lexemes.{Read, begins_with, goes_on}
+use Rattle.sync_parse_exprs.specs.Terminals.{Read, begins_with, goes_on}
 use Rattle.sync_parse.specs.Faults.{refused}
 use Rattle.sync_parse.specs.Machines.{pattern_at, keyed, place_at, closed_expr, closed_place, formula_act, value_act, field_place, place_act, have_act, act_kind, act_at, acts, field_at, fields, mode_of, mode_said, mode_at, operation_at, begins_operation, operations, invariant_at, invariants, machine_at, claim_at, proof_at, proof_row, proofs_at, version_at, at_end, text_of, parsed}
 use Rattle.sync_parse_grammar.specs.Relations.{Spelled, The, Yields, Then, ◌>>=◌, ◌>>◌, Either, Closed}
@@ -38,7 +38,7 @@ pattern_sound left ts =
     either (begins_with sign.Question ts) (first (then_sound (sign_sound left sign.Question ts) λ q. then_sound (name_sound left q.1) λ n. yields))
     (second (then_sound (expr_sound left ts) λ e. yields))
 
-keyed_sound : (left : ℕ) (key : Expr) (ts : List Terminal) → Sound (Either (Yields (place.Key key)) (do
+keyed_sound : (left : ℕ) (key : RawExpr) (ts : List Terminal) → Sound (Either (Yields (place.Key key)) (do
   The sign.MapsTo
   p ← Pattern
   Yields (place.Entry key p))) ts (keyed left key ts)
@@ -63,11 +63,11 @@ pub closed_place_sound : (left : ℕ) (ts : List Terminal) → Sound (Closed Pla
 unfolding closed_place Closed
 closed_place_sound left ts = then_sound (place_sound left ts) λ p. then_sound (sign_sound left sign.Semicolon p.1) λ s. yields
 
-pub formula_act_sound : (opening : Sign) (made : Expr → RawActKind) (left : ℕ) (ts : List Terminal) → Sound (FormulaAct opening made) ts (formula_act opening made left ts)
+pub formula_act_sound : (opening : Sign) (made : RawExpr → RawAct) (left : ℕ) (ts : List Terminal) → Sound (FormulaAct opening made) ts (formula_act opening made left ts)
 unfolding formula_act FormulaAct
 formula_act_sound opening made left ts = then_sound (sign_sound left opening ts) λ w. then_sound (closed_expr_sound left w.1) λ e. yields
 
-pub value_act_sound : (opening : Sign) (made : Named → Expr → RawActKind) (left : ℕ) (ts : List Terminal) → Sound (ValueAct opening made) ts (value_act opening made left ts)
+pub value_act_sound : (opening : Sign) (made : RawName → RawExpr → RawAct) (left : ℕ) (ts : List Terminal) → Sound (ValueAct opening made) ts (value_act opening made left ts)
 unfolding value_act ValueAct
 value_act_sound opening made left ts =
     then_sound (sign_sound left opening ts) λ w.
@@ -83,7 +83,7 @@ field_place_sound opening symbol left ts =
     then_sound (sign_sound left symbol n.1) λ q.
     then_sound (closed_place_sound left q.1) λ p. yields
 
-pub place_act_sound : (opening symbol : Sign) (made : Named → RawPlace → RawActKind) (left : ℕ) (ts : List Terminal) → Sound (PlaceAct opening symbol made) ts (place_act opening symbol made left ts)
+pub place_act_sound : (opening symbol : Sign) (made : RawName → RawPlace → RawAct) (left : ℕ) (ts : List Terminal) → Sound (PlaceAct opening symbol made) ts (place_act opening symbol made left ts)
 unfolding place_act PlaceAct
 place_act_sound opening symbol made left ts = then_sound (field_place_sound opening symbol left ts) λ x. yields
 

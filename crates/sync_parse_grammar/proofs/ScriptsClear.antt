@@ -3,8 +3,8 @@ use Rattle.std.proofs.Common.{◌≡◌, ℕ, zero, suc, Bool, true, false, List
 use Rattle.sync_lex.specs.declared.signs.Sign.{Sign}
 use Rattle.sync_lex.specs.declared.signs.Sign.TheVariants as sign
 use Rattle.sync_lex.specs.Signs.{is_same}
-use Rattle.sync_parse_exprs.specs.declared.naming.Named.{Named}
-use Rattle.sync_parse_exprs.specs.declared.expressions.Expr.{Expr}
+use Rattle.sync_parse_exprs.specs.declared.raw_names.RawName.{RawName}
+use Rattle.sync_parse_exprs.specs.declared.expressions.RawExpr.{RawExpr}
 use Rattle.sync_parse_exprs.specs.declared.expressions.Special.{Special}
 use Rattle.sync_parse_exprs.specs.declared.expressions.Special.TheVariants as special
 use Rattle.sync_parse.specs.declared.scripts.RawBlock.{RawBlock}
@@ -18,7 +18,7 @@ use Rattle.sync_parse_grammar.proofs.Clears.{code, Set, any, only, among, both, 
 use Rattle.sync_parse_grammar.proofs.ExpressionsClear.{operators, row, starts_table, clear_expr, clear_args}
 
 -- an expression, where what comes next begins with no operator
-pub expr_then : {A : Type 0} {q p : Set} {g : Expr → Spelled A} → ((x : Expr) → Clear q (g x) (g x)) → ((x : Expr) → Starts (g x) p) → In p (others operators) → Clear q (Then AnExpr g) (Then AnExpr g)
+pub expr_then : {A : Type 0} {q p : Set} {g : RawExpr → Spelled A} → ((x : RawExpr) → Clear q (g x) (g x)) → ((x : RawExpr) → Starts (g x) p) → In p (others operators) → Clear q (Then AnExpr g) (Then AnExpr g)
 expr_then next s i = clear_then (others operators) clear_expr next (λ x. follows_starts (s x) i) (λ x. follows_starts (s x) i)
 
 -- ---- hypotheses
@@ -99,7 +99,7 @@ unfolding Parts
 parts_fork = lone (clear_next clear_the λ s. clear_next clear_hyp λ h. clear_next clear_as λ a. clear_next clear_the λ c. clear_next clear_name λ b. clear_next clear_the λ e. clear_yields)
     (starts_then starts_the)
 
-pub lookup_fork : {q : Set} (opening : Sign) (made : Expr → Expr → Named → RawStepKind) → Fork q (only (code opening)) (Lookup opening made) (Lookup opening made)
+pub lookup_fork : {q : Set} (opening : Sign) (made : RawExpr → RawExpr → RawName → RawStepKind) → Fork q (only (code opening)) (Lookup opening made) (Lookup opening made)
 unfolding Lookup
 lookup_fork opening made = lone (clear_next clear_the λ s.
     expr_then (λ m. clear_next clear_the λ c. expr_then (λ k. clear_next clear_as λ a. clear_next clear_the λ e. clear_yields) (λ k. starts_then starts_as) (only_in _ refl))

@@ -5,16 +5,16 @@ use Rattle.sync_lex.specs.declared.signs.Sign.{Sign}
 use Rattle.sync_lex.specs.declared.signs.Sign.TheVariants as sign
 use Rattle.sync_lex.specs.declared.terminals.TerminalKind.TheVariants as what
 use Rattle.sync_lex.specs.declared.terminals.Terminal.{Terminal}
-use Rattle.sync_parse_exprs.specs.declared.naming.Named.{Named}
-use Rattle.sync_parse_exprs.specs.declared.expressions.Expr.{Expr}
-use Rattle.sync_parse.specs.declared.scripts.Subject.{Subject}
-use Rattle.sync_parse.specs.declared.scripts.Subject.TheVariants as subject
+use Rattle.sync_parse_exprs.specs.declared.raw_names.RawName.{RawName}
+use Rattle.sync_parse_exprs.specs.declared.expressions.RawExpr.{RawExpr}
+use Rattle.sync_parse.specs.declared.scripts.RawSubject.{RawSubject}
+use Rattle.sync_parse.specs.declared.scripts.RawSubject.TheVariants as subject
 use Rattle.sync_parse.specs.declared.scripts.RawBlock.{RawBlock}
 use Rattle.sync_parse.specs.declared.scripts.RawStepKind.{RawStepKind}
 use Rattle.sync_parse.specs.declared.scripts.RawStepKind.TheVariants as step
-use Rattle.sync_parse_exprs.specs.Lexemes.{Read, Reader}
+use Rattle.sync_parse_exprs.specs.Terminals.{Read, Reader}
 use Rattle.sync_parse_exprs.specs.Expressions.{expr_at}
-use Rattle.sync_parse.specs.Scripts.{subject_terminal, subject_said, subject_at, hyp_at, as_name, scaled, part_at, same_step, sum_step, inst_step, parts_step, lookup_step, cong_step, plain_step, split_step, cut_step, step_kind, step_at, steps, block_with, nested, block_at, script_at}
+use Rattle.sync_parse.specs.Scripts.{subject_terminal, subject_said, subject_at, hyp_at, as_name, scaled, part_at, same_step, sum_step, inst_step, parts_step, lookup_step, cong_step, blockless_step, split_step, cut_step, step_kind, step_at, steps, block_with, nested, block_at, script_at}
 use Rattle.sync_parse_grammar.specs.Relations.{Spelled, Then, the_one, the_other}
 use Rattle.sync_parse_grammar.specs.Expressions.{AnExpr}
 use Rattle.sync_parse_grammar.specs.Scripts.{ASubject, Hyp, Scaled, Part, As, Same, Sum, Inst, Parts, Lookup, Cong, Split, Cut, StepKind, Step, BlockOf, Nested, Block, Script}
@@ -54,7 +54,7 @@ union_in {q = q} (k ∷ j ∷ ks) e = both_in (only_in k (and_left (q k) (all_of
 
 -- ---- hypotheses
 
-subject_case : (left : ℕ) (ts : List Terminal) (x : Subject) (rest : List Terminal) → ASubject ts rest x → Met (subject_at left ts) (x, rest)
+subject_case : (left : ℕ) (ts : List Terminal) (x : RawSubject) (rest : List Terminal) → ASubject ts rest x → Met (subject_at left ts) (x, rest)
 unfolding subject_at ASubject
 subject_case left [] x rest (the_one d) = let e : ◌≡◌ {A = List Terminal} [] (d.one.terminal ∷ d.middle) = d.one.stands in absurd cc
 subject_case left [] x rest (the_other d) = let e : ◌≡◌ {A = List Terminal} [] (d.one.terminal ∷ d.middle) = d.one.stands in absurd cc
@@ -104,7 +104,7 @@ unfolding as_name As
 complete_as left ts = complete_next (complete_the left sign.As ts) λ a. complete_name left a.1
 
 -- an expression, where what comes next begins with no operator
-pub expr_next : {A : Type 0} {q p : Set} {ts : List Terminal} {g : Expr → Spelled A} {f : Expr × List Terminal → Read A} (left : ℕ) → ((v : Expr × List Terminal) → Complete q (g v.0) v.1 (f v)) → ((x : Expr) → Starts (g x) p) → In p (others operators)
+pub expr_next : {A : Type 0} {q p : Set} {ts : List Terminal} {g : RawExpr → Spelled A} {f : RawExpr × List Terminal → Read A} (left : ℕ) → ((v : RawExpr × List Terminal) → Complete q (g v.0) v.1 (f v)) → ((x : RawExpr) → Starts (g x) p) → In p (others operators)
     → Complete q (Then AnExpr g) ts (outcome.◌>>=◌ (expr_at left ts) f)
 expr_next {ts = ts} left next s i = complete_then (others operators) (complete_expr left ts) next (λ x. follows_starts (s x) i)
 
@@ -136,7 +136,7 @@ unfolding parts_step Parts
 complete_parts left ts = complete_next (complete_the left sign.Parts ts) λ s. complete_next (complete_hyp left s.1) λ h. complete_next (complete_as left h.1) λ a.
     complete_next (complete_the left sign.Comma a.1) λ c. complete_next (complete_name left c.1) λ b. complete_next (complete_the left sign.Semicolon b.1) λ e. complete_yields
 
-complete_lookup : {q : Set} (opening : Sign) (made : Expr → Expr → Named → RawStepKind) (left : ℕ) (ts : List Terminal) → Complete q (Lookup opening made) ts (lookup_step opening made left ts)
+complete_lookup : {q : Set} (opening : Sign) (made : RawExpr → RawExpr → RawName → RawStepKind) (left : ℕ) (ts : List Terminal) → Complete q (Lookup opening made) ts (lookup_step opening made left ts)
 unfolding lookup_step Lookup
 complete_lookup opening made left ts = complete_next (complete_the left opening ts) λ s.
     expr_next left (λ m. complete_next (complete_the left sign.Comma m.1) λ c.
@@ -178,7 +178,7 @@ abbrev same_codes : List ℕ
 same_codes = code sign.Sum ∷ sum_codes
 
 complete_step_kind : {q : Set} {m : Spelled RawBlock} (block : Reader RawBlock) → ((ts : List Terminal) → Complete any m ts (block ts)) → Clear any m m → (left : ℕ) (ts : List Terminal) → Complete q (StepKind m) ts (step_kind block left ts)
-unfolding plain_step StepKind
+unfolding blockless_step StepKind
 complete_step_kind block c k left ts =
     let s10 = (cong_fork {q = any}).left in
     let s9 = starts_or (lookup_fork {q = any} sign.Total step.Total).left s10 in

@@ -5,20 +5,20 @@ use Rattle.sync_lex.specs.declared.signs.Sign.TheVariants as sign
 use Rattle.sync_lex.specs.declared.terminals.TerminalKind.{TerminalKind}
 use Rattle.sync_lex.specs.declared.terminals.TerminalKind.TheVariants as what
 use Rattle.sync_lex.specs.declared.terminals.Terminal.{Terminal}
-use Rattle.sync_parse_exprs.specs.declared.naming.Named.{Named}
-use Rattle.sync_parse_exprs.specs.declared.expressions.Expr.{Expr}
+use Rattle.sync_parse_exprs.specs.declared.raw_names.RawName.{RawName}
+use Rattle.sync_parse_exprs.specs.declared.expressions.RawExpr.{RawExpr}
 use Rattle.sync_parse_exprs.specs.declared.expressions.Special.{Special}
 use Rattle.sync_parse.specs.declared.scripts.RawBlock.{RawBlock}
 use Rattle.sync_parse.specs.declared.scripts.RawStepKind.{RawStepKind}
 use Rattle.sync_parse.specs.declared.scripts.RawStepKind.TheVariants as step
-use Rattle.sync_parse_exprs.specs.Lexemes.{Reader, begins_with, goes_on}
-use Rattle.sync_parse.specs.Scripts.{bounded_of, subject_terminal, subject_said, subject_at, hyp_at, as_name, scaled, part_at, refuse, same_step, sum_step, inst_step, parts_step, lookup_step, cong_step, plain_step, split_step, cut_step, step_kind, step_at, steps, block_with, nested, block_at, script_at}
+use Rattle.sync_parse_exprs.specs.Terminals.{Reader, begins_with, goes_on}
+use Rattle.sync_parse.specs.Scripts.{bounded_of, subject_terminal, subject_said, subject_at, hyp_at, as_name, scaled, part_at, wanted_other, same_step, sum_step, inst_step, parts_step, lookup_step, cong_step, blockless_step, split_step, cut_step, step_kind, step_at, steps, block_with, nested, block_at, script_at}
 use Rattle.sync_parse_grammar.specs.Relations.{Spelled}
 use Rattle.sync_parse_grammar.specs.Scripts.{ASubject, Hyp, Scaled, Part, As, Same, Sum, Inst, Parts, Lookup, Cong, Split, Cut, StepKind, Step, BlockOf, Nested, Block, Script}
 use Rattle.sync_parse_grammar.proofs.Sounds.{Sound, stops, yields, then_sound, began, here, first, second, either, sign_sound, name_sound, number_sound, one_of, row_sound, series_sound}
 use Rattle.sync_parse_grammar.proofs.ExpressionsSound.{expr_sound, exprs_sound}
 
-pub refuse_sound : {A : Type 0} {m : Spelled A} (ts : List Terminal) → Sound m ts (refuse ts)
+pub refuse_sound : {A : Type 0} {m : Spelled A} (ts : List Terminal) → Sound m ts (wanted_other ts)
 refuse_sound [] = stops
 refuse_sound (w ∷ ws) = stops
 
@@ -92,7 +92,7 @@ parts_sound left ts =
     then_sound (name_sound left c.1) λ b.
     then_sound (sign_sound left sign.Semicolon b.1) λ e. yields
 
-lookup_sound : (opening : Sign) (made : Expr → Expr → Named → RawStepKind) (left : ℕ) (ts : List Terminal) → Sound (Lookup opening made) ts (lookup_step opening made left ts)
+lookup_sound : (opening : Sign) (made : RawExpr → RawExpr → RawName → RawStepKind) (left : ℕ) (ts : List Terminal) → Sound (Lookup opening made) ts (lookup_step opening made left ts)
 unfolding lookup_step Lookup
 lookup_sound opening made left ts =
     then_sound (sign_sound left opening ts) λ s.
@@ -132,7 +132,7 @@ cut_sound block sound left ts =
     then_sound (sound a.1) λ b. yields
 
 step_kind_sound : {m : Spelled RawBlock} (block : Reader RawBlock) → ((ts : List Terminal) → Sound m ts (block ts)) → (left : ℕ) (ts : List Terminal) → Sound (StepKind m) ts (step_kind block left ts)
-unfolding plain_step StepKind
+unfolding blockless_step StepKind
 step_kind_sound block sound left ts =
     either (begins_with sign.Split ts) (first (split_sound block sound left ts))
     (either (begins_with sign.Cut ts) (second (first (cut_sound block sound left ts)))

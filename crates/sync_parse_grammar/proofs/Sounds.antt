@@ -9,7 +9,7 @@ use Rattle.sync_lex.specs.declared.terminals.TerminalKind.TheVariants as what
 use Rattle.sync_lex.specs.declared.terminals.Terminal.{Terminal}
 use Rattle.sync_lex.specs.Terminals.{says_sign, is_sign}
 use Rattle.sync_parse_exprs.specs.declared.faults.Fault.{Fault}
-use Rattle.sync_parse_exprs.specs.Lexemes.{Read, Reader, begins_with, sign_at, name_at, name_said, number_at, number_said, strategy_at, strategy_said, row, behind_commas, series, listed, in_round, names_at}
+use Rattle.sync_parse_exprs.specs.Terminals.{Read, Reader, begins_with, sign_at, name_at, name_said, number_at, number_said, strategy_at, strategy_said, row, behind_commas, series, listed, in_round, names_at}
 use Rattle.sync_parse_grammar.specs.Relations.{Spelled, The, AName, ANumber, AStrategy, OneOf, Yields, Here, Then, ◌>>◌, Either, the_one, the_other, Many, nothing, more, Series, Listed, InRound, Names}
 use denote.Enum.Bare.{same_true}
 

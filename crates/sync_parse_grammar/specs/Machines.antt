@@ -4,14 +4,14 @@ use Rattle.sync_base.specs.declared.strategies.OpMode.{OpMode}
 use Rattle.sync_base.specs.declared.strategies.OpMode.TheVariants as mode
 use Rattle.sync_lex.specs.declared.signs.Sign.{Sign}
 use Rattle.sync_lex.specs.declared.signs.Sign.TheVariants as sign
-use Rattle.sync_parse_exprs.specs.declared.expressions.Expr.{Expr}
-use Rattle.sync_parse_exprs.specs.declared.naming.Named.{Named}
+use Rattle.sync_parse_exprs.specs.declared.expressions.RawExpr.{RawExpr}
+use Rattle.sync_parse_exprs.specs.declared.raw_names.RawName.{RawName}
 use Rattle.sync_parse.specs.declared.trees.RawMachine.{RawMachine}
 use Rattle.sync_parse.specs.declared.trees.RawField.{RawField}
 use Rattle.sync_parse.specs.declared.trees.RawOperation.{RawOperation}
+use Rattle.sync_parse.specs.declared.trees.RawStep.{RawStep}
 use Rattle.sync_parse.specs.declared.trees.RawAct.{RawAct}
-use Rattle.sync_parse.specs.declared.trees.RawActKind.{RawActKind}
-use Rattle.sync_parse.specs.declared.trees.RawActKind.TheVariants as act
+use Rattle.sync_parse.specs.declared.trees.RawAct.TheVariants as act
 use Rattle.sync_parse.specs.declared.trees.RawPlace.{RawPlace}
 use Rattle.sync_parse.specs.declared.trees.RawPlace.TheVariants as place
 use Rattle.sync_parse.specs.declared.trees.RawPattern.{RawPattern}
@@ -20,8 +20,8 @@ use Rattle.sync_parse.specs.declared.trees.RawInvariant.{RawInvariant}
 use Rattle.sync_parse.specs.declared.trees.RawProof.{RawProof}
 use Rattle.sync_parse.specs.declared.trees.RawClaim.{RawClaim}
 use Rattle.sync_parse.specs.declared.trees.RawClaim.TheVariants as claim
-use Rattle.sync_parse_exprs.specs.Lexemes.{first_line}
-use Rattle.sync_parse.specs.Scripts.{place_of}
+use Rattle.sync_parse_exprs.specs.Terminals.{first_line}
+use Rattle.sync_parse.specs.Scripts.{statement_number}
 use Rattle.sync_parse_grammar.specs.Relations.{Spelled, The, AName, ANumber, AStrategy, Yields, Here, ◌>>=◌, ◌>>◌, ◌or◌, Closed, Many, Names}
 use Rattle.sync_parse_grammar.specs.Expressions.{AnExpr}
 use Rattle.sync_parse_grammar.specs.Scripts.{Script}
@@ -56,14 +56,14 @@ Place =
       Yields x)
 
 -- ("require"|"assert") expr ";"
-unfoldable pub FormulaAct : Sign → (Expr → RawActKind) → Spelled RawActKind
+unfoldable pub FormulaAct : Sign → (RawExpr → RawAct) → Spelled RawAct
 FormulaAct opening made = do
   The opening
   e ← Closed AnExpr
   Yields (made e)
 
 -- ("init"|"update") NAME "=" expr ";"
-unfoldable pub ValueAct : Sign → (Named → Expr → RawActKind) → Spelled RawActKind
+unfoldable pub ValueAct : Sign → (RawName → RawExpr → RawAct) → Spelled RawAct
 ValueAct opening made = do
   The opening
   x ← AName
@@ -72,7 +72,7 @@ ValueAct opening made = do
   Yields (made x e)
 
 -- a terminal, NAME, a sign, place ";"
-unfoldable pub FieldPlace : Sign → Sign → Spelled (Named × RawPlace)
+unfoldable pub FieldPlace : Sign → Sign → Spelled (RawName × RawPlace)
 FieldPlace opening symbol = do
   The opening
   x ← AName
@@ -80,11 +80,11 @@ FieldPlace opening symbol = do
   p ← Closed Place
   Yields (x, p)
 
-unfoldable pub PlaceAct : Sign → Sign → (Named → RawPlace → RawActKind) → Spelled RawActKind
+unfoldable pub PlaceAct : Sign → Sign → (RawName → RawPlace → RawAct) → Spelled RawAct
 PlaceAct opening symbol made = FieldPlace opening symbol >>= λ x. Yields (made x.0 x.1)
 
 -- "have" NAME (";" | ">=" place ";")
-unfoldable pub HaveAct : Spelled RawActKind
+unfoldable pub HaveAct : Spelled RawAct
 HaveAct = do
   The sign.Have
   x ← AName
@@ -94,7 +94,7 @@ HaveAct = do
         p ← Closed Place
         Yields (act.Have x p))
 
-unfoldable pub ActKind : Spelled RawActKind
+unfoldable pub ActKind : Spelled RawAct
 ActKind =
     ValueAct sign.Init act.Init
     or FormulaAct sign.Require act.Require
@@ -108,7 +108,7 @@ ActKind =
     or PlaceAct sign.Withdraw sign.MinusEqual act.Withdraw
 
 -- act = ..
-unfoldable pub Act : Spelled RawAct
+unfoldable pub Act : Spelled RawStep
 Act = do
   start ← Here
   what ← ActKind
@@ -138,9 +138,9 @@ Operation = do
   name ← AName
   params ← Names
   The sign.OpenBrace
-  acts ← Many Act
+  steps ← Many Act
   The sign.CloseBrace
-  Yields (record { mode = m; name = name; params = params; acts = acts; line = first_line start })
+  Yields (record { mode = m; name = name; params = params; steps = steps; line = first_line start })
 
 -- inv = "invariant" NAME names ":" expr ";"
 unfoldable pub Invariant : Spelled RawInvariant
@@ -172,7 +172,7 @@ Claim =
     (do
       The sign.At
       n ← ANumber
-      Yields (claim.At (place_of n)))
+      Yields (claim.At (statement_number n)))
     or (do
       The sign.Keeps
       x ← AName

@@ -6,7 +6,7 @@ use Rattle.sync_lex.specs.declared.signs.Sign.{Sign}
 use Rattle.sync_lex.specs.declared.signs.Sign.TheVariants as sign
 use Rattle.sync_lex.specs.declared.terminals.TerminalKind.TheVariants as what
 use Rattle.sync_lex.specs.declared.terminals.Terminal.{Terminal}
-use Rattle.sync_parse_exprs.specs.declared.naming.Named.{Named}
+use Rattle.sync_parse_exprs.specs.declared.raw_names.RawName.{RawName}
 
 abbrev pub Spelled : Type 0 → Type 1
 Spelled A = List Terminal → List Terminal → A → Type 0
@@ -21,7 +21,7 @@ pub record The (s : Sign) (ts rest : List Terminal) (line : ℕ) : Type 0 where
   pub line_is : line ≡ terminal.line
 
 -- a name that is no reserved word
-pub record AName (ts rest : List Terminal) (x : Named) : Type 0 where
+pub record AName (ts rest : List Terminal) (x : RawName) : Type 0 where
   pub terminal : Terminal
   pub number : ℕ
   pub strategy : Option Strategy
@@ -117,5 +117,5 @@ InRound item = do
   The sign.CloseRound
   Yields xs
 
-unfoldable pub Names : Spelled (List Named)
+unfoldable pub Names : Spelled (List RawName)
 Names = InRound AName

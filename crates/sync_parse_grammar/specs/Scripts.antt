@@ -3,35 +3,35 @@
 use Rattle.std.specs.Prelude.{ℕ, zero, suc, Bool, true, false}
 use Rattle.sync_lex.specs.declared.signs.Sign.{Sign}
 use Rattle.sync_lex.specs.declared.signs.Sign.TheVariants as sign
-use Rattle.sync_parse_exprs.specs.declared.naming.Named.{Named}
-use Rattle.sync_parse_exprs.specs.declared.expressions.Expr.{Expr}
-use Rattle.sync_parse.specs.declared.scripts.Subject.{Subject}
-use Rattle.sync_parse.specs.declared.scripts.Subject.TheVariants as subject
-use Rattle.sync_parse.specs.declared.scripts.RawHyp.{RawHyp}
-use Rattle.sync_parse.specs.declared.scripts.RawHyp.TheVariants as hyp
+use Rattle.sync_parse_exprs.specs.declared.raw_names.RawName.{RawName}
+use Rattle.sync_parse_exprs.specs.declared.expressions.RawExpr.{RawExpr}
+use Rattle.sync_parse.specs.declared.scripts.RawSubject.{RawSubject}
+use Rattle.sync_parse.specs.declared.scripts.RawSubject.TheVariants as subject
+use Rattle.sync_parse.specs.declared.scripts.RawHypName.{RawHypName}
+use Rattle.sync_parse.specs.declared.scripts.RawHypName.TheVariants as hyp
 use Rattle.sync_parse.specs.declared.scripts.RawPart.{RawPart}
 use Rattle.sync_parse.specs.declared.scripts.RawScript.{RawScript}
 use Rattle.sync_parse.specs.declared.scripts.RawBlock.{RawBlock, roll-RawBlock}
-use Rattle.sync_parse.specs.declared.scripts.RawStep.{RawStep, roll-RawStep}
+use Rattle.sync_parse.specs.declared.scripts.RawScriptStep.{RawScriptStep, roll-RawScriptStep}
 use Rattle.sync_parse.specs.declared.scripts.RawStepKind.{RawStepKind}
 use Rattle.sync_parse.specs.declared.scripts.RawStepKind.TheVariants as step
-use Rattle.sync_parse_exprs.specs.Lexemes.{first_line}
-use Rattle.sync_parse.specs.Scripts.{place_of, bounded_of, times_of}
+use Rattle.sync_parse_exprs.specs.Terminals.{first_line}
+use Rattle.sync_parse.specs.Scripts.{statement_number, bounded_of, times_of}
 use Rattle.sync_parse_grammar.specs.Relations.{Spelled, The, AName, ANumber, OneOf, Yields, Here, ◌>>=◌, ◌>>◌, ◌or◌, Many, Series}
 use Rattle.sync_parse_grammar.specs.Expressions.{AnExpr, Args}
 
 -- NAME | "old" | "new" | "wrap"
-unfoldable pub ASubject : Spelled Subject
+unfoldable pub ASubject : Spelled RawSubject
 ASubject = (AName >>= λ x. Yields (subject.Name x)) or (OneOf bounded_of >>= λ x. Yields (subject.Special x.0 x.1))
 
 -- hyp = "denied" | NAME | "at" NUMBER | ("low"|"high") (NAME|"old"|"new"|"wrap")
-unfoldable pub Hyp : Spelled RawHyp
+unfoldable pub Hyp : Spelled RawHypName
 Hyp =
     (The sign.Denied >> Yields hyp.Denied)
     or (do
       The sign.At
       n ← ANumber
-      Yields (hyp.At (place_of n)))
+      Yields (hyp.At (statement_number n)))
     or (do
       The sign.Low
       s ← ASubject
@@ -53,7 +53,7 @@ unfoldable pub Part : Spelled RawPart
 Part = (The sign.Minus >> Scaled true) or Scaled false
 
 -- "as" NAME
-unfoldable pub As : Spelled Named
+unfoldable pub As : Spelled RawName
 As = The sign.As >> AName
 
 -- ---- step = ..
@@ -95,7 +95,7 @@ Parts = do
   Yields (step.Parts h a b)
 
 -- ("read"|"size"|"total") expr "," expr "as" NAME ";"
-unfoldable pub Lookup : Sign → (Expr → Expr → Named → RawStepKind) → Spelled RawStepKind
+unfoldable pub Lookup : Sign → (RawExpr → RawExpr → RawName → RawStepKind) → Spelled RawStepKind
 Lookup opening made = do
   The opening
   m ← AnExpr
@@ -142,11 +142,11 @@ StepKind block =
     Split block or Cut block or Same or Sum or Inst or Parts
     or Lookup sign.Read step.Read or Lookup sign.Size step.Size or Lookup sign.Total step.Total or Cong
 
-unfoldable pub Step : Spelled RawBlock → Spelled RawStep
+unfoldable pub Step : Spelled RawBlock → Spelled RawScriptStep
 Step block = do
   start ← Here
   what ← StepKind block
-  Yields (roll-RawStep (record { what = what; line = first_line start }))
+  Yields (roll-RawScriptStep (record { what = what; line = first_line start }))
 
 -- ---- blocks and scripts
 

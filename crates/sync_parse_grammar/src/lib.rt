@@ -11,9 +11,6 @@ use std::alloc::Global;
 use sync_base::Stop;
 use sync_parse::{RawText, parse};
 
-#[cfg(test)]
-mod tests;
-
 /// The raw tree that a text spells by the productions of the grammar, of which it spells no other.
 ///
 /// Refuses as `parse` does. A text that is spelled by some tree is refused only for its depth or its version.

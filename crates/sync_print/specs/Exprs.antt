@@ -1,8 +1,8 @@
 -- Plain expressions: what an expression says, apart from how it is written. They have no lines and no brackets; `t != u`
 -- is `!(t = u)`, `-t` is `0 - t`, and a number is its value.
 use Rattle.std.specs.Prelude.{ℕ, List, [], ◌∷◌, unsigned_abs}
-use Rattle.sync_parse_exprs.specs.declared.expressions.Expr.{Expr, fold-Expr}
-use Rattle.sync_parse_exprs.specs.declared.expressions.ExprKind.TheOpen.{ExprKind-F, Expr-F}
+use Rattle.sync_parse_exprs.specs.declared.expressions.RawExpr.{RawExpr, fold-RawExpr}
+use Rattle.sync_parse_exprs.specs.declared.expressions.RawExprKind.TheOpen.{RawExprKind-F, RawExpr-F}
 use Rattle.sync_parse_exprs.specs.declared.expressions.Function.{Function}
 use Rattle.sync_parse_exprs.specs.declared.expressions.Special.{Special}
 use Rattle.sync_parse_exprs.specs.declared.expressions.Operator.{Operator}
@@ -51,22 +51,22 @@ joined operator.Below a b = two below a b
 joined operator.Plus a b = two plus a b
 joined operator.Minus a b = two minus a b
 
-abbrev pub plain_kind : ExprKind-F Plain Plain → Plain
-plain_kind (ExprKind-F.Number n) = number (unsigned_abs n)
-plain_kind (ExprKind-F.Name named) = name named.name
-plain_kind (ExprKind-F.Param line named) = param named.name
-plain_kind ExprKind-F.Nil = nil
-plain_kind (ExprKind-F.Bracketed e) = e
-plain_kind (ExprKind-F.Special terminal line) = special terminal
-plain_kind (ExprKind-F.Call f line args) = call f (plains_of args)
-plain_kind (ExprKind-F.Not e) = negation e
-plain_kind (ExprKind-F.Minus e) = two minus (number 0) e
-plain_kind (ExprKind-F.Times n e) = times (unsigned_abs n) e
-plain_kind (ExprKind-F.Two op a b) = joined op a b
+abbrev pub plain_kind : RawExprKind-F Plain Plain → Plain
+plain_kind (RawExprKind-F.Number n) = number (unsigned_abs n)
+plain_kind (RawExprKind-F.Name named) = name named.name
+plain_kind (RawExprKind-F.Param line named) = param named.name
+plain_kind RawExprKind-F.Nil = nil
+plain_kind (RawExprKind-F.Bracketed e) = e
+plain_kind (RawExprKind-F.Special terminal line) = special terminal
+plain_kind (RawExprKind-F.Call f line args) = call f (plains_of args)
+plain_kind (RawExprKind-F.Not e) = negation e
+plain_kind (RawExprKind-F.Minus e) = two minus (number 0) e
+plain_kind (RawExprKind-F.Times n e) = times (unsigned_abs n) e
+plain_kind (RawExprKind-F.Two op a b) = joined op a b
 
-abbrev pub plain_at : Expr-F Plain Plain → Plain
+abbrev pub plain_at : RawExpr-F Plain Plain → Plain
 plain_at e = e.what
 
 -- what an expression says
-abbrev pub plain : Expr → Plain
-plain = fold-Expr Plain Plain plain_kind plain_at
+abbrev pub plain : RawExpr → Plain
+plain = fold-RawExpr Plain Plain plain_kind plain_at

@@ -60,11 +60,11 @@ listed = with_commas false
 abbrev pub spelling : NameList → ℕ → List ℕ
 spelling names number = option_map_or (λ (n : Name). n.bytes) (slice_get names.list number) []
 
-abbrev pub spelled : NameList → Lexeme → List ℕ
-spelled names (a_sign s) = signs.spelling_of s
-spelled names (a_number n) = decimal n
-spelled names (a_name x) = spelling names x
-spelled names (a_strategy s) = strategies.spelling_of s
+abbrev pub lexeme_bytes : NameList → Lexeme → List ℕ
+lexeme_bytes names (a_sign s) = signs.spelling_of s
+lexeme_bytes names (a_number n) = decimal n
+lexeme_bytes names (a_name x) = spelling names x
+lexeme_bytes names (a_strategy s) = strategies.spelling_of s
 
 -- a line feed behind `;`, `{` and `}`, a space behind each other sign
 abbrev pub behind_sign : Sign → ℕ
@@ -81,7 +81,7 @@ separator (a_name x) = 32
 separator (a_strategy s) = 32
 
 abbrev pub written : NameList → Lexeme → List ℕ
-written names x = spelled names x ++ separator x ∷ []
+written names x = lexeme_bytes names x ++ separator x ∷ []
 
 -- the bytes of these lexemes
 unfoldable pub printed : NameList → List Lexeme → List ℕ

@@ -1,17 +1,17 @@
 -- Plain scripts: what a proof script says, without lines.
 use Rattle.std.specs.Prelude.{ℕ, ℤ, List, [], ◌∷◌, map}
-use Rattle.sync_parse_exprs.specs.declared.naming.Named.{Named}
-use Rattle.sync_parse_exprs.specs.declared.expressions.Expr.{Expr}
+use Rattle.sync_parse_exprs.specs.declared.raw_names.RawName.{RawName}
+use Rattle.sync_parse_exprs.specs.declared.expressions.RawExpr.{RawExpr}
 use Rattle.sync_parse_exprs.specs.declared.expressions.Special.{Special}
-use Rattle.sync_parse.specs.declared.scripts.Subject.{Subject}
-use Rattle.sync_parse.specs.declared.scripts.Subject.TheVariants as raw_subject
-use Rattle.sync_parse.specs.declared.scripts.RawHyp.{RawHyp}
-use Rattle.sync_parse.specs.declared.scripts.RawHyp.TheVariants as raw
+use Rattle.sync_parse.specs.declared.scripts.RawSubject.{RawSubject}
+use Rattle.sync_parse.specs.declared.scripts.RawSubject.TheVariants as raw_subject
+use Rattle.sync_parse.specs.declared.scripts.RawHypName.{RawHypName}
+use Rattle.sync_parse.specs.declared.scripts.RawHypName.TheVariants as raw
 use Rattle.sync_parse.specs.declared.scripts.RawPart.{RawPart}
 use Rattle.sync_parse.specs.declared.scripts.RawScript.{RawScript}
 use Rattle.sync_parse.specs.declared.scripts.RawBlock.{RawBlock, fold-RawBlock}
-use Rattle.sync_parse.specs.declared.scripts.RawStep.{RawStep, fold-RawStep}
-use Rattle.sync_parse.specs.declared.scripts.RawStepKind.TheOpen.{RawStepKind-F, RawBlock-F, RawStep-F}
+use Rattle.sync_parse.specs.declared.scripts.RawScriptStep.{RawScriptStep, fold-RawScriptStep}
+use Rattle.sync_parse.specs.declared.scripts.RawStepKind.TheOpen.{RawStepKind-F, RawBlock-F, RawScriptStep-F}
 use Rattle.sync_print.specs.Exprs.{Plain, plain}
 
 pub data PlainSubject : Type 0 where
@@ -52,11 +52,11 @@ abbrev pub block_of : List PlainStep → PlainBlock
 block_of [] = done
 block_of (s ∷ ss) = first s (block_of ss)
 
-abbrev pub plain_subject : Subject → PlainSubject
+abbrev pub plain_subject : RawSubject → PlainSubject
 plain_subject (raw_subject.Name x) = name x.name
 plain_subject (raw_subject.Special terminal line) = special terminal
 
-abbrev pub plain_hyp : RawHyp → PlainHyp
+abbrev pub plain_hyp : RawHypName → PlainHyp
 plain_hyp raw.Denied = denied
 plain_hyp (raw.Label x) = label x.name
 plain_hyp (raw.At n) = at n
@@ -81,11 +81,11 @@ plain_step_kind (RawStepKind-F.Cong m j k x) = cong (plain m) (plain j) (plain k
 abbrev pub plain_in_block : RawBlock-F PlainStep PlainBlock PlainStep → PlainBlock
 plain_in_block b = block_of b.steps
 
-abbrev pub plain_at : RawStep-F PlainStep PlainBlock PlainStep → PlainStep
+abbrev pub plain_at : RawScriptStep-F PlainStep PlainBlock PlainStep → PlainStep
 plain_at s = s.what
 
 abbrev pub plain_block : RawBlock → PlainBlock
 plain_block = fold-RawBlock PlainStep PlainBlock PlainStep plain_step_kind plain_in_block plain_at
 
-abbrev pub plain_step : RawStep → PlainStep
-plain_step = fold-RawStep PlainStep PlainBlock PlainStep plain_step_kind plain_in_block plain_at
+abbrev pub plain_step : RawScriptStep → PlainStep
+plain_step = fold-RawScriptStep PlainStep PlainBlock PlainStep plain_step_kind plain_in_block plain_at

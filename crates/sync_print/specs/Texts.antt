@@ -2,14 +2,14 @@
 use Rattle.std.specs.Prelude.{ℕ, List, map}
 use Rattle.sync_base.specs.declared.strategies.Strategy.{Strategy}
 use Rattle.sync_base.specs.declared.strategies.OpMode.{OpMode}
-use Rattle.sync_parse_exprs.specs.declared.naming.Named.{Named}
+use Rattle.sync_parse_exprs.specs.declared.raw_names.RawName.{RawName}
 use Rattle.sync_parse.specs.declared.trees.RawText.{RawText}
 use Rattle.sync_parse.specs.declared.trees.RawMachine.{RawMachine}
 use Rattle.sync_parse.specs.declared.trees.RawField.{RawField}
 use Rattle.sync_parse.specs.declared.trees.RawOperation.{RawOperation}
+use Rattle.sync_parse.specs.declared.trees.RawStep.{RawStep}
 use Rattle.sync_parse.specs.declared.trees.RawAct.{RawAct}
-use Rattle.sync_parse.specs.declared.trees.RawActKind.{RawActKind}
-use Rattle.sync_parse.specs.declared.trees.RawActKind.TheVariants as raw
+use Rattle.sync_parse.specs.declared.trees.RawAct.TheVariants as raw
 use Rattle.sync_parse.specs.declared.trees.RawPlace.{RawPlace}
 use Rattle.sync_parse.specs.declared.trees.RawPlace.TheVariants as raw_place
 use Rattle.sync_parse.specs.declared.trees.RawPattern.{RawPattern}
@@ -77,8 +77,8 @@ pub record PlainText : Type 0 where
   pub machine : PlainMachine
   pub proofs : List PlainProof
 
-abbrev pub name_of : Named → ℕ
-name_of x = x.name
+abbrev pub name_number : RawName → ℕ
+name_number x = x.name
 
 abbrev pub plain_pattern : RawPattern → PlainPattern
 plain_pattern (raw_pattern.Bind x) = bind x.name
@@ -89,7 +89,7 @@ plain_place (raw_place.Value p) = value (plain_pattern p)
 plain_place (raw_place.Key e) = key (plain e)
 plain_place (raw_place.Entry e p) = entry (plain e) (plain_pattern p)
 
-abbrev pub plain_act_kind : RawActKind → PlainAct
+abbrev pub plain_act_kind : RawAct → PlainAct
 plain_act_kind (raw.Init x e) = init x.name (plain e)
 plain_act_kind (raw.Require e) = require (plain e)
 plain_act_kind (raw.Assert e) = assert (plain e)
@@ -102,17 +102,17 @@ plain_act_kind (raw.Deposit x p) = deposit x.name (plain_place p)
 plain_act_kind (raw.Remove x p) = remove x.name (plain_place p)
 plain_act_kind (raw.Withdraw x p) = withdraw x.name (plain_place p)
 
-abbrev pub plain_act : RawAct → PlainAct
+abbrev pub plain_act : RawStep → PlainAct
 plain_act a = plain_act_kind a.what
 
 abbrev pub plain_field : RawField → PlainField
 plain_field f = record { name = f.name.name; strategy = f.strategy }
 
 abbrev pub plain_operation : RawOperation → PlainOperation
-plain_operation o = record { mode = o.mode; name = o.name.name; params = map name_of o.params; acts = map plain_act o.acts }
+plain_operation o = record { mode = o.mode; name = o.name.name; params = map name_number o.params; acts = map plain_act o.steps }
 
 abbrev pub plain_invariant : RawInvariant → PlainInvariant
-plain_invariant i = record { name = i.name.name; params = map name_of i.params; form = plain i.form }
+plain_invariant i = record { name = i.name.name; params = map name_number i.params; form = plain i.form }
 
 abbrev pub plain_machine : RawMachine → PlainMachine
 plain_machine m = record { name = m.name.name; fields = map plain_field m.fields; operations = map plain_operation m.operations; invariants = map plain_invariant m.invariants }

@@ -8,8 +8,8 @@ ghost use Rattle.sync_print.specs.ShowExprs.{before, behind, shown, show_expr, f
 use crate::lexemes::{name, needed, number, sign};
 use std::alloc::{AllocError, Global};
 use sync_base::NameList;
-use sync_parse_exprs::{Expr, ExprKind, Function, Operator, Special};
 use sync_lex::Sign;
+use sync_parse_exprs::{Function, Operator, RawExpr, RawExprKind, Special};
 
 pub(crate) fn special_sign(special: Special) -> Sign
     ensures { result ≡ special_sign special }
@@ -85,30 +85,30 @@ pub(crate) fn expr(
     names: &NameList,
     out: &mut Vec<u8>,
     wanted: u32,
-    e: &Expr,
+    e: &RawExpr,
 ) -> Result<(), AllocError>
     ensures { OnOk result (out.new.items ≡ out.old.items ++ printed names.now ((shown (plain e.now)).at wanted)) }
 {
     match &e.what {
-        ExprKind::Number(n) => number(alloc, names, out, magnitude(*n)),
-        ExprKind::Name(named) => name(names, out, named.name),
-        ExprKind::Param(_, named) => {
+        RawExprKind::Number(n) => number(alloc, names, out, magnitude(*n)),
+        RawExprKind::Name(named) => name(names, out, named.name),
+        RawExprKind::Param(_, named) => {
             sign(names, out, Sign::Dollar)?;
             name(names, out, named.name)?;
             Ok(())
         }
-        ExprKind::Nil => sign(names, out, Sign::Nil),
-        ExprKind::Bracketed(a) => expr(alloc, names, out, wanted, a.get()),
-        ExprKind::Special(special, _) => sign(names, out, special_sign(*special)),
-        ExprKind::Call(function, _, args) => {
+        RawExprKind::Nil => sign(names, out, Sign::Nil),
+        RawExprKind::Bracketed(a) => expr(alloc, names, out, wanted, a.get()),
+        RawExprKind::Special(special, _) => sign(names, out, special_sign(*special)),
+        RawExprKind::Call(function, _, args) => {
             sign(names, out, function_sign(*function))?;
             sign(names, out, Sign::OpenRound)?;
             exprs(alloc, names, out, args.as_slice())?;
             sign(names, out, Sign::CloseRound)?;
             Ok(())
         }
-        ExprKind::Not(a) => negated(alloc, names, out, wanted, a.get()),
-        ExprKind::Minus(a) => {
+        RawExprKind::Not(a) => negated(alloc, names, out, wanted, a.get()),
+        RawExprKind::Minus(a) => {
             let low = 4 < wanted;
             needed(names, out, low, Sign::OpenRound)?;
             number(alloc, names, out, 0)?;
@@ -117,7 +117,7 @@ pub(crate) fn expr(
             needed(names, out, low, Sign::CloseRound)?;
             Ok(())
         }
-        ExprKind::Times(n, a) => {
+        RawExprKind::Times(n, a) => {
             let low = 5 < wanted;
             needed(names, out, low, Sign::OpenRound)?;
             number(alloc, names, out, magnitude(*n))?;
@@ -126,7 +126,7 @@ pub(crate) fn expr(
             needed(names, out, low, Sign::CloseRound)?;
             Ok(())
         }
-        ExprKind::Two(operator, a, b) => {
+        RawExprKind::Two(operator, a, b) => {
             let shape = shape_of(*operator);
             let low = shape.own < wanted;
             needed(names, out, low, Sign::OpenRound)?;
@@ -147,13 +147,13 @@ fn negated(
     names: &NameList,
     out: &mut Vec<u8>,
     wanted: u32,
-    e: &Expr,
+    e: &RawExpr,
 ) -> Result<(), AllocError>
     ensures { OnOk result (out.new.items ≡ out.old.items ++ printed names.now ((shown (plain e.now)).negated wanted)) }
 {
     match &e.what {
-        ExprKind::Bracketed(a) => negated(alloc, names, out, wanted, a.get()),
-        ExprKind::Two(operator, a, b) => match operator {
+        RawExprKind::Bracketed(a) => negated(alloc, names, out, wanted, a.get()),
+        RawExprKind::Two(operator, a, b) => match operator {
             Operator::Equal => {
                 let low = 3 < wanted;
                 needed(names, out, low, Sign::OpenRound)?;
@@ -165,22 +165,22 @@ fn negated(
             }
             _ => banged(alloc, names, out, e),
         },
-        ExprKind::Number(_) => banged(alloc, names, out, e),
-        ExprKind::Name(_) => banged(alloc, names, out, e),
-        ExprKind::Param(_, _) => banged(alloc, names, out, e),
-        ExprKind::Nil => banged(alloc, names, out, e),
-        ExprKind::Special(_, _) => banged(alloc, names, out, e),
-        ExprKind::Call(_, _, _) => banged(alloc, names, out, e),
-        ExprKind::Not(_) => banged(alloc, names, out, e),
-        ExprKind::Minus(_) => banged(alloc, names, out, e),
-        ExprKind::Times(_, _) => banged(alloc, names, out, e),
+        RawExprKind::Number(_) => banged(alloc, names, out, e),
+        RawExprKind::Name(_) => banged(alloc, names, out, e),
+        RawExprKind::Param(_, _) => banged(alloc, names, out, e),
+        RawExprKind::Nil => banged(alloc, names, out, e),
+        RawExprKind::Special(_, _) => banged(alloc, names, out, e),
+        RawExprKind::Call(_, _, _) => banged(alloc, names, out, e),
+        RawExprKind::Not(_) => banged(alloc, names, out, e),
+        RawExprKind::Minus(_) => banged(alloc, names, out, e),
+        RawExprKind::Times(_, _) => banged(alloc, names, out, e),
     }
 }
 
 /// An expression behind `!`.
 #[cycle(exprs)]
 #[tactic(auto, using(crate::proofs::Steps::joined, crate::proofs::Steps::nothing_more))]
-fn banged(alloc: Global, names: &NameList, out: &mut Vec<u8>, e: &Expr) -> Result<(), AllocError>
+fn banged(alloc: Global, names: &NameList, out: &mut Vec<u8>, e: &RawExpr) -> Result<(), AllocError>
     ensures { OnOk result (out.new.items ≡ out.old.items ++ printed names.now (one Sign.Bang ++ (shown (plain e.now)).at 6)) }
 {
     sign(names, out, Sign::Bang)?;
@@ -195,7 +195,7 @@ pub(crate) fn exprs(
     alloc: Global,
     names: &NameList,
     out: &mut Vec<u8>,
-    es: &[Expr],
+    es: &[RawExpr],
 ) -> Result<(), AllocError>
     ensures { OnOk result (out.new.items ≡ out.old.items ++ printed names.now (listed (map show_expr (map plain es.now)))) }
 {

@@ -2,7 +2,7 @@
 ghost use Rattle.std.specs.Prelude.{◌≡◌, ◌++◌, map, OnOk, IfOk};
 ghost use Rattle.std.specs.List.{flat_map};
 ghost use Rattle.sync_print.specs.Exprs.{plain};
-ghost use Rattle.sync_print.specs.Texts.{value, key, entry, have_variable, name_of, plain_pattern, plain_place, plain_act, plain_field, plain_operation, plain_invariant, plain_machine, plain_claim, plain_proof, plain_text};
+ghost use Rattle.sync_print.specs.Texts.{value, key, entry, have_variable, name_number, plain_pattern, plain_place, plain_act, plain_field, plain_operation, plain_invariant, plain_machine, plain_claim, plain_proof, plain_text};
 ghost use Rattle.sync_print.specs.Lexemes.{printed, one_name, listed};
 ghost use Rattle.sync_print.specs.ShowTexts.{show_pattern, show_place, show_formula_act, show_value_act, show_place_act, show_act, show_field, mode_sign, show_names, show_operation, show_invariant, show_machine, show_claim, show_proof, show_proofs, show_version, show};
 
@@ -12,12 +12,12 @@ use crate::scripts::block;
 use sqlite_items::Items;
 use std::alloc::{AllocError, Global};
 use sync_base::{NameList, OpMode};
-use sync_parse_exprs::{Expr, Named};
-use sync_parse::{
-    RawAct, RawActKind, RawClaim, RawField, RawInvariant, RawMachine, RawOperation, RawPattern,
-    RawPlace, RawProof, RawText,
-};
 use sync_lex::Sign;
+use sync_parse::{
+    RawAct, RawClaim, RawField, RawInvariant, RawMachine, RawOperation, RawPattern, RawPlace,
+    RawProof, RawStep, RawText,
+};
+use sync_parse_exprs::{RawExpr, RawName};
 
 // ---- statements
 
@@ -54,7 +54,12 @@ fn value_place(
 
 /// `[k]`.
 #[tactic(auto, using(crate::proofs::Steps::joined))]
-fn key_place(alloc: Global, names: &NameList, out: &mut Vec<u8>, e: &Expr) -> Result<(), AllocError>
+fn key_place(
+    alloc: Global,
+    names: &NameList,
+    out: &mut Vec<u8>,
+    e: &RawExpr,
+) -> Result<(), AllocError>
     ensures { OnOk result (out.new.items ≡ out.old.items ++ printed names.now (show_place (key (plain e.now)))) }
 {
     sign(names, out, Sign::OpenSquare)?;
@@ -69,7 +74,7 @@ fn entry_place(
     alloc: Global,
     names: &NameList,
     out: &mut Vec<u8>,
-    e: &Expr,
+    e: &RawExpr,
     p: &RawPattern,
 ) -> Result<(), AllocError>
     ensures { OnOk result (out.new.items ≡ out.old.items ++ printed names.now (show_place (entry (plain e.now) (plain_pattern p.now)))) }
@@ -105,7 +110,7 @@ fn formula_act(
     names: &NameList,
     out: &mut Vec<u8>,
     opening: Sign,
-    e: &Expr,
+    e: &RawExpr,
 ) -> Result<(), AllocError>
     ensures { OnOk result (out.new.items ≡ out.old.items ++ printed names.now (show_formula_act opening (plain e.now))) }
 {
@@ -122,8 +127,8 @@ fn value_act(
     names: &NameList,
     out: &mut Vec<u8>,
     opening: Sign,
-    field: Named,
-    e: &Expr,
+    field: RawName,
+    e: &RawExpr,
 ) -> Result<(), AllocError>
     ensures { OnOk result (out.new.items ≡ out.old.items ++ printed names.now (show_value_act opening field.name (plain e.now))) }
 {
@@ -142,7 +147,7 @@ fn place_act(
     names: &NameList,
     out: &mut Vec<u8>,
     opening: Sign,
-    field: Named,
+    field: RawName,
     symbol: Sign,
     p: &RawPlace,
 ) -> Result<(), AllocError>
@@ -169,25 +174,25 @@ fn have_act(names: &NameList, out: &mut Vec<u8>, x: u32) -> Result<(), AllocErro
 
 /// A statement.
 #[tactic(auto, using(crate::proofs::Steps::joined))]
-fn act(alloc: Global, names: &NameList, out: &mut Vec<u8>, act: &RawAct) -> Result<(), AllocError>
+fn act(alloc: Global, names: &NameList, out: &mut Vec<u8>, act: &RawStep) -> Result<(), AllocError>
     ensures { OnOk result (out.new.items ≡ out.old.items ++ printed names.now (show_act (plain_act act.now))) }
 {
     match &act.what {
-        RawActKind::Init(x, e) => value_act(alloc, names, out, Sign::Init, *x, e),
-        RawActKind::Require(e) => formula_act(alloc, names, out, Sign::Require, e),
-        RawActKind::Assert(e) => formula_act(alloc, names, out, Sign::Assert, e),
-        RawActKind::Update(x, e) => value_act(alloc, names, out, Sign::Update, *x, e),
-        RawActKind::HaveVariable(x) => have_act(names, out, x.name),
-        RawActKind::Have(x, p) => place_act(alloc, names, out, Sign::Have, *x, Sign::AtLeast, p),
-        RawActKind::Guard(x, p) => place_act(alloc, names, out, Sign::Guard, *x, Sign::AtLeast, p),
-        RawActKind::Add(x, p) => place_act(alloc, names, out, Sign::Add, *x, Sign::PlusEqual, p),
-        RawActKind::Deposit(x, p) => {
+        RawAct::Init(x, e) => value_act(alloc, names, out, Sign::Init, *x, e),
+        RawAct::Require(e) => formula_act(alloc, names, out, Sign::Require, e),
+        RawAct::Assert(e) => formula_act(alloc, names, out, Sign::Assert, e),
+        RawAct::Update(x, e) => value_act(alloc, names, out, Sign::Update, *x, e),
+        RawAct::HaveVariable(x) => have_act(names, out, x.name),
+        RawAct::Have(x, p) => place_act(alloc, names, out, Sign::Have, *x, Sign::AtLeast, p),
+        RawAct::Guard(x, p) => place_act(alloc, names, out, Sign::Guard, *x, Sign::AtLeast, p),
+        RawAct::Add(x, p) => place_act(alloc, names, out, Sign::Add, *x, Sign::PlusEqual, p),
+        RawAct::Deposit(x, p) => {
             place_act(alloc, names, out, Sign::Deposit, *x, Sign::PlusEqual, p)
         }
-        RawActKind::Remove(x, p) => {
+        RawAct::Remove(x, p) => {
             place_act(alloc, names, out, Sign::Remove, *x, Sign::MinusEqual, p)
         }
-        RawActKind::Withdraw(x, p) => {
+        RawAct::Withdraw(x, p) => {
             place_act(alloc, names, out, Sign::Withdraw, *x, Sign::MinusEqual, p)
         }
     }
@@ -199,7 +204,7 @@ fn acts(
     alloc: Global,
     names: &NameList,
     out: &mut Vec<u8>,
-    list: &[RawAct],
+    list: &[RawStep],
 ) -> Result<(), AllocError>
     ensures { OnOk result (out.new.items ≡ out.old.items ++ printed names.now (flat_map show_act (map plain_act list.now))) }
 {
@@ -245,8 +250,8 @@ fn mode_sign(mode: OpMode) -> Sign
 
 /// Names with commas between.
 #[tactic(auto, using(crate::proofs::Steps::joined))]
-fn name_series(names: &NameList, out: &mut Vec<u8>, list: &[Named]) -> Result<(), AllocError>
-    ensures { OnOk result (out.new.items ≡ out.old.items ++ printed names.now (listed (map one_name (map name_of list.now)))) }
+fn name_series(names: &NameList, out: &mut Vec<u8>, list: &[RawName]) -> Result<(), AllocError>
+    ensures { OnOk result (out.new.items ≡ out.old.items ++ printed names.now (listed (map one_name (map name_number list.now)))) }
 {
     let mut behind = false;
     for x in list {
@@ -259,8 +264,8 @@ fn name_series(names: &NameList, out: &mut Vec<u8>, list: &[Named]) -> Result<()
 
 /// Names in round brackets.
 #[tactic(auto, using(crate::proofs::Steps::joined))]
-fn params(names: &NameList, out: &mut Vec<u8>, list: &[Named]) -> Result<(), AllocError>
-    ensures { OnOk result (out.new.items ≡ out.old.items ++ printed names.now (show_names (map name_of list.now))) }
+fn params(names: &NameList, out: &mut Vec<u8>, list: &[RawName]) -> Result<(), AllocError>
+    ensures { OnOk result (out.new.items ≡ out.old.items ++ printed names.now (show_names (map name_number list.now))) }
 {
     sign(names, out, Sign::OpenRound)?;
     name_series(names, out, list)?;
@@ -281,7 +286,7 @@ fn operation(
     name(names, out, operation.name.name)?;
     params(names, out, operation.params.as_slice())?;
     sign(names, out, Sign::OpenBrace)?;
-    acts(alloc, names, out, operation.acts.as_slice())?;
+    acts(alloc, names, out, operation.steps.as_slice())?;
     sign(names, out, Sign::CloseBrace)?;
     Ok(())
 }

@@ -9,23 +9,28 @@ use crate::exprs::{expr, exprs, magnitude, special_sign};
 use crate::lexemes::{name, needed, number, sign, sign_and_name, sign_and_number};
 use std::alloc::{AllocError, Global};
 use sync_base::NameList;
-use sync_parse_exprs::Expr;
-use sync_parse::{RawBlock, RawHyp, RawPart, RawStep, RawStepKind, Subject};
 use sync_lex::Sign;
+use sync_parse::{RawBlock, RawHypName, RawPart, RawScriptStep, RawStepKind, RawSubject};
+use sync_parse_exprs::RawExpr;
 
 #[tactic(auto, using(crate::proofs::Steps::joined))]
-fn subject(names: &NameList, out: &mut Vec<u8>, subject: Subject) -> Result<(), AllocError>
+fn subject(names: &NameList, out: &mut Vec<u8>, subject: RawSubject) -> Result<(), AllocError>
     ensures { OnOk result (out.new.items ≡ out.old.items ++ printed names.now (show_subject (plain_subject subject))) }
 {
     match subject {
-        Subject::Name(named) => name(names, out, named.name),
-        Subject::Special(special, _) => sign(names, out, special_sign(special)),
+        RawSubject::Name(named) => name(names, out, named.name),
+        RawSubject::Special(special, _) => sign(names, out, special_sign(special)),
     }
 }
 
 /// `low` or `high`, and what it speaks of.
 #[tactic(auto, using(crate::proofs::Steps::joined))]
-fn bound(names: &NameList, out: &mut Vec<u8>, opening: Sign, x: Subject) -> Result<(), AllocError>
+fn bound(
+    names: &NameList,
+    out: &mut Vec<u8>,
+    opening: Sign,
+    x: RawSubject,
+) -> Result<(), AllocError>
     ensures { OnOk result (out.new.items ≡ out.old.items ++ printed names.now (one opening ++ show_subject (plain_subject x))) }
 {
     sign(names, out, opening)?;
@@ -35,15 +40,20 @@ fn bound(names: &NameList, out: &mut Vec<u8>, opening: Sign, x: Subject) -> Resu
 
 /// How a script names a hypothesis.
 #[tactic(auto, using(crate::proofs::Steps::joined))]
-fn hyp(alloc: Global, names: &NameList, out: &mut Vec<u8>, hyp: RawHyp) -> Result<(), AllocError>
+fn hyp(
+    alloc: Global,
+    names: &NameList,
+    out: &mut Vec<u8>,
+    hyp: RawHypName,
+) -> Result<(), AllocError>
     ensures { OnOk result (out.new.items ≡ out.old.items ++ printed names.now (show_hyp (plain_hyp hyp))) }
 {
     match hyp {
-        RawHyp::Denied => sign(names, out, Sign::Denied),
-        RawHyp::Label(named) => name(names, out, named.name),
-        RawHyp::At(place) => sign_and_number(alloc, names, out, Sign::At, place as u128),
-        RawHyp::Low(x) => bound(names, out, Sign::Low, x),
-        RawHyp::High(x) => bound(names, out, Sign::High, x),
+        RawHypName::Denied => sign(names, out, Sign::Denied),
+        RawHypName::Label(named) => name(names, out, named.name),
+        RawHypName::At(place) => sign_and_number(alloc, names, out, Sign::At, place as u128),
+        RawHypName::Low(x) => bound(names, out, Sign::Low, x),
+        RawHypName::High(x) => bound(names, out, Sign::High, x),
     }
 }
 
@@ -102,8 +112,8 @@ fn lookup(
     names: &NameList,
     out: &mut Vec<u8>,
     opening: Sign,
-    m: &Expr,
-    k: &Expr,
+    m: &RawExpr,
+    k: &RawExpr,
     given: u32,
 ) -> Result<(), AllocError>
     ensures { OnOk result (out.new.items ≡ out.old.items ++ printed names.now (show_lookup opening (plain m.now) (plain k.now) given)) }
@@ -149,8 +159,8 @@ fn inst_step(
     alloc: Global,
     names: &NameList,
     out: &mut Vec<u8>,
-    h: RawHyp,
-    es: &[Expr],
+    h: RawHypName,
+    es: &[RawExpr],
     given: u32,
 ) -> Result<(), AllocError>
     ensures { OnOk result (out.new.items ≡ out.old.items ++ printed names.now (show_step (inst (plain_hyp h) (map plain es.now) given))) }
@@ -171,7 +181,7 @@ fn parts_step(
     alloc: Global,
     names: &NameList,
     out: &mut Vec<u8>,
-    h: RawHyp,
+    h: RawHypName,
     first: u32,
     second: u32,
 ) -> Result<(), AllocError>
@@ -192,9 +202,9 @@ fn cong_step(
     alloc: Global,
     names: &NameList,
     out: &mut Vec<u8>,
-    m: &Expr,
-    j: &Expr,
-    k: &Expr,
+    m: &RawExpr,
+    j: &RawExpr,
+    k: &RawExpr,
     given: u32,
 ) -> Result<(), AllocError>
     ensures { OnOk result (out.new.items ≡ out.old.items ++ printed names.now (show_step (cong (plain m.now) (plain j.now) (plain k.now) given))) }
@@ -216,7 +226,7 @@ fn split_head(
     alloc: Global,
     names: &NameList,
     out: &mut Vec<u8>,
-    h: RawHyp,
+    h: RawHypName,
     given: u32,
 ) -> Result<(), AllocError>
     ensures { OnOk result (out.new.items ≡ out.old.items ++ printed names.now (one Sign.Split ++ show_hyp (plain_hyp h) ++ show_as given)) }
@@ -235,7 +245,7 @@ fn cut_step(
     names: &NameList,
     out: &mut Vec<u8>,
     inner: &RawBlock,
-    e: &Expr,
+    e: &RawExpr,
     given: u32,
 ) -> Result<(), AllocError>
     ensures { OnOk result (out.new.items ≡ out.old.items ++ printed names.now (show_step (cut (plain e.now) given (plain_block inner.now)))) }
@@ -249,7 +259,12 @@ fn cut_step(
 
 /// A step.
 #[cycle(blocks)]
-fn step(alloc: Global, names: &NameList, out: &mut Vec<u8>, raw: &RawStep) -> Result<(), AllocError>
+fn step(
+    alloc: Global,
+    names: &NameList,
+    out: &mut Vec<u8>,
+    raw: &RawScriptStep,
+) -> Result<(), AllocError>
     ensures { OnOk result (out.new.items ≡ out.old.items ++ printed names.now (show_step (plain_step raw.now))) }
 {
     match &raw.what {
@@ -296,7 +311,7 @@ fn steps(
     alloc: Global,
     names: &NameList,
     out: &mut Vec<u8>,
-    list: &[RawStep],
+    list: &[RawScriptStep],
 ) -> Result<(), AllocError>
     ensures { OnOk result (out.new.items ≡ out.old.items ++ printed names.now (show_steps (block_of (map plain_step list.now)))) }
 {

@@ -3,11 +3,11 @@ use Rattle.std.proofs.Common.{◌≡◌, ℕ, List, ◌++◌, refl, ap, ◌∙�
 use Rattle.sync_lex.specs.declared.signs.Sign.{Sign}
 use Rattle.sync_lex.specs.declared.signs.Sign.TheVariants as sign
 use Rattle.sync_lex.specs.declared.terminals.Terminal.{Terminal}
-use Rattle.sync_parse_exprs.specs.declared.naming.Named.{Named}
-use Rattle.sync_parse_exprs.specs.declared.expressions.Expr.{Expr}
-use Rattle.sync_parse_exprs.specs.Lexemes.{first_line}
-use Rattle.sync_parse.specs.declared.trees.RawActKind.{RawActKind}
-use Rattle.sync_parse.specs.declared.trees.RawActKind.TheVariants as raw
+use Rattle.sync_parse_exprs.specs.declared.raw_names.RawName.{RawName}
+use Rattle.sync_parse_exprs.specs.declared.expressions.RawExpr.{RawExpr}
+use Rattle.sync_parse_exprs.specs.Terminals.{first_line}
+use Rattle.sync_parse.specs.declared.trees.RawAct.{RawAct}
+use Rattle.sync_parse.specs.declared.trees.RawAct.TheVariants as raw
 use Rattle.sync_parse.specs.declared.trees.RawPlace.{RawPlace}
 use Rattle.sync_parse.specs.declared.trees.RawPlace.TheVariants as raw_place
 use Rattle.sync_parse.specs.declared.trees.RawPattern.TheVariants as raw_pattern
@@ -19,7 +19,7 @@ use Rattle.sync_print.specs.Lexemes.{one, one_name}
 use Rattle.sync_print.specs.ShowExprs.{show_expr}
 use Rattle.sync_print.specs.ShowTexts.{show_pattern, show_place, show_formula_act, show_value_act, show_place_act, show_act}
 use Rattle.sync_print_spelling.specs.Says.{Says}
-use Rattle.sync_print_spelling.specs.Limits.{Fits, PatternFits, PlaceFits, ActFits}
+use Rattle.sync_print_spelling.specs.Limits.{ExprFits, PatternFits, PlaceFits, ActFits}
 use Rattle.sync_print_spelling.specs.Laws.{Derives, ShownIsDerived}
 use Rattle.sync_print_spelling.proofs.Terminals.{split as parted, the_sign, the_name, here_is, yields, seq}
 use Rattle.sync_print_spelling.proofs.Expressions.{exprs}
@@ -36,7 +36,7 @@ pattern_spelled (bind x) fits ts rest h =
     let r = parted (one sign.Question) (one_name x) h in
     let s = the_sign r.1 in
     let n = the_name r.2 in
-    let named : Named = record { name = x; line = n.0 } in
+    let named : RawName = record { name = x; line = n.0 } in
     record { raw = raw_pattern.Bind named; spelled = the_one (seq s.0 r.0 s.1 (seq named rest n.1 (yields _))); is = refl }
 pattern_spelled (term e) fits ts rest h =
     let y = exprs.holds e fits ts rest h in
@@ -83,8 +83,8 @@ place_spelled (entry e p) fits ts rest h =
       is = ap (λ w. entry w (plain_pattern z.raw)) y.is ∙ ap (entry e) z.is;
     }
 
-formula_spelled : (opening : Sign) (made : Expr → RawActKind) (what : Plain → PlainAct) → ((e : Expr) → plain_act_kind (made e) ≡ what (plain e))
-    → (e : Plain) → Fits e → (ts rest : List Terminal) → Says (show_formula_act opening e) ts rest → Derives (FormulaAct opening made) plain_act_kind (what e) ts rest
+formula_spelled : (opening : Sign) (made : RawExpr → RawAct) (what : Plain → PlainAct) → ((e : RawExpr) → plain_act_kind (made e) ≡ what (plain e))
+    → (e : Plain) → ExprFits e → (ts rest : List Terminal) → Says (show_formula_act opening e) ts rest → Derives (FormulaAct opening made) plain_act_kind (what e) ts rest
 unfolding FormulaAct
 formula_spelled opening made what said e fits ts rest h =
     let n2 = parted (one opening ++ show_expr e) (one sign.Semicolon) h in
@@ -93,8 +93,8 @@ formula_spelled opening made what said e fits ts rest h =
     let y = closed (exprs.holds e fits n1.0 n2.0 n1.2) n2.2 in
     record { raw = made y.raw; spelled = seq s.0 n1.0 s.1 (seq y.raw rest y.spelled (yields _)); is = said y.raw ∙ ap what y.is }
 
-value_spelled : (opening : Sign) (made : Named → Expr → RawActKind) (what : ℕ → Plain → PlainAct) → ((x : Named) (e : Expr) → plain_act_kind (made x e) ≡ what x.name (plain e))
-    → (x : ℕ) (e : Plain) → Fits e → (ts rest : List Terminal) → Says (show_value_act opening x e) ts rest → Derives (ValueAct opening made) plain_act_kind (what x e) ts rest
+value_spelled : (opening : Sign) (made : RawName → RawExpr → RawAct) (what : ℕ → Plain → PlainAct) → ((x : RawName) (e : RawExpr) → plain_act_kind (made x e) ≡ what x.name (plain e))
+    → (x : ℕ) (e : Plain) → ExprFits e → (ts rest : List Terminal) → Says (show_value_act opening x e) ts rest → Derives (ValueAct opening made) plain_act_kind (what x e) ts rest
 unfolding ValueAct
 value_spelled opening made what said x e fits ts rest h =
     let n4 = parted (one opening ++ one_name x ++ one sign.Equal ++ show_expr e) (one sign.Semicolon) h in
@@ -105,15 +105,15 @@ value_spelled opening made what said x e fits ts rest h =
     let n = the_name n1.2 in
     let q = the_sign n2.2 in
     let y = closed (exprs.holds e fits n3.0 n4.0 n3.2) n4.2 in
-    let named : Named = record { name = x; line = n.0 } in
+    let named : RawName = record { name = x; line = n.0 } in
     record {
       raw = made named y.raw;
       spelled = seq s.0 n1.0 s.1 (seq named n2.0 n.1 (seq q.0 n3.0 q.1 (seq y.raw rest y.spelled (yields _))));
       is = said named y.raw ∙ ap (what x) y.is;
     }
 
-placed_spelled : (opening symbol : Sign) (made : Named → RawPlace → RawActKind) (what : ℕ → PlainPlace → PlainAct)
-    → ((x : Named) (p : RawPlace) → plain_act_kind (made x p) ≡ what x.name (plain_place p))
+placed_spelled : (opening symbol : Sign) (made : RawName → RawPlace → RawAct) (what : ℕ → PlainPlace → PlainAct)
+    → ((x : RawName) (p : RawPlace) → plain_act_kind (made x p) ≡ what x.name (plain_place p))
     → (x : ℕ) (p : PlainPlace) → PlaceFits p → (ts rest : List Terminal) → Says (show_place_act opening x symbol p) ts rest → Derives (PlaceAct opening symbol made) plain_act_kind (what x p) ts rest
 unfolding PlaceAct FieldPlace
 placed_spelled opening symbol made what said x p fits ts rest h =
@@ -125,7 +125,7 @@ placed_spelled opening symbol made what said x p fits ts rest h =
     let n = the_name n1.2 in
     let q = the_sign n2.2 in
     let y = closed (place_spelled p fits n3.0 n4.0 n3.2) n4.2 in
-    let named : Named = record { name = x; line = n.0 } in
+    let named : RawName = record { name = x; line = n.0 } in
     record {
       raw = made named y.raw;
       spelled = seq (named, y.raw) rest (seq s.0 n1.0 s.1 (seq named n2.0 n.1 (seq q.0 n3.0 q.1 (seq y.raw rest y.spelled (yields _))))) (yields _);
@@ -140,7 +140,7 @@ have_variable_spelled x ts rest h =
     let s = the_sign n1.1 in
     let n = the_name n1.2 in
     let e = the_sign n2.2 in
-    let named : Named = record { name = x; line = n.0 } in
+    let named : RawName = record { name = x; line = n.0 } in
     record {
       raw = raw.HaveVariable named;
       spelled = seq s.0 n1.0 s.1 (seq named n2.0 n.1 (the_one (seq e.0 rest e.1 (yields _))));
@@ -158,7 +158,7 @@ have_spelled x p fits ts rest h =
     let n = the_name n1.2 in
     let q = the_sign n2.2 in
     let y = closed (place_spelled p fits n3.0 n4.0 n3.2) n4.2 in
-    let named : Named = record { name = x; line = n.0 } in
+    let named : RawName = record { name = x; line = n.0 } in
     record {
       raw = raw.Have named y.raw;
       spelled = seq s.0 n1.0 s.1 (seq named n2.0 n.1 (the_other (seq q.0 n3.0 q.1 (seq y.raw rest y.spelled (yields _)))));

@@ -4,9 +4,9 @@ use Rattle.std.proofs.lemmas.List.{append-nil}
 use Rattle.sync_lex.specs.declared.signs.Sign.{Sign}
 use Rattle.sync_lex.specs.declared.signs.Sign.TheVariants as sign
 use Rattle.sync_lex.specs.declared.terminals.Terminal.{Terminal}
-use Rattle.sync_lex.specs.Terminals.{largest}
-use Rattle.sync_parse_exprs.specs.declared.expressions.Expr.{Expr}
-use Rattle.sync_parse_exprs.specs.declared.expressions.ExprKind.{ExprKind}
+use Rattle.sync_base.specs.Limits.{largest}
+use Rattle.sync_parse_exprs.specs.declared.expressions.RawExpr.{RawExpr}
+use Rattle.sync_parse_exprs.specs.declared.expressions.RawExprKind.{RawExprKind}
 use Rattle.sync_parse_exprs.specs.declared.expressions.Special.{Special}
 use Rattle.sync_parse_exprs.specs.declared.expressions.Function.{Function}
 use Rattle.sync_parse_exprs.specs.declared.expressions.Operator.TheVariants as operator
@@ -16,7 +16,7 @@ use Rattle.sync_print.specs.Exprs.{implies, either, both, equal, at_most, below,
 use Rattle.sync_print.specs.Lexemes.{Lexeme, one, one_name, one_number, needed, with_commas, listed}
 use Rattle.sync_print.specs.ShowExprs.{shown, all_shown, show_expr, function_sign, special_sign, before, behind}
 use Rattle.sync_print_spelling.specs.Says.{Says, no_more}
-use Rattle.sync_print_spelling.specs.Limits.{Fits, AllFit}
+use Rattle.sync_print_spelling.specs.Limits.{ExprFits, AllFit}
 use Rattle.sync_print_spelling.specs.Laws.{Derives, ShownIsDerived}
 use Rattle.sync_print_spelling.proofs.Terminals.{split, the_sign, the_number, the_name, yields, seq, whole}
 use Rattle.sync_print_spelling.proofs.Levels.{Spelt, says_placed, Level, l0, l1, l2, l3, l4, l5, l6, rank, level, lift, sums, ands, ors, relations, implications, joins}
@@ -54,7 +54,7 @@ lowest l6 = refl
 operands : {high : ℕ} {e : Plain} {xs : List Lexeme} → Core l6 high e xs → Placed high e (λ wanted. xs)
 operands core = record { reads = λ d enough k ts rest h. lift (Nested d) l6 k (never_above k) (core.reads d enough ts rest h) }
 
-nested_is : (d : ℕ) {ts rest : List Terminal} {x : ExprKind} → Implied (Nested d) ts rest x → Nested (suc d) ts rest x
+nested_is : (d : ℕ) {ts rest : List Terminal} {x : RawExprKind} → Implied (Nested d) ts rest x → Nested (suc d) ts rest x
 unfolding Nested
 nested_is d h = h
 
@@ -225,8 +225,8 @@ record Both (e : Plain) : Type 0 where
   pub negated : Placed (height e) (negation e) (shown e).negated
 
 -- arguments behind a comma
-record Behind (I : Spelled ExprKind) (es : Plains) (ts rest : List Terminal) : Type 0 where
-  pub list : List Expr
+record Behind (I : Spelled RawExprKind) (es : Plains) (ts rest : List Terminal) : Type 0 where
+  pub list : List RawExpr
   pub spelled : Many (The sign.Comma >> Whole I) ts rest list
   pub means : plains_of (map plain list) ≡ es
 
@@ -265,11 +265,11 @@ call_reads f es p (suc d) enough ts rest h =
 call_placed : (f : Function) (es : Plains) → AllPlaced es → Placed (suc (heights es)) (call f es) (λ wanted. one (function_sign f) ++ one sign.OpenRound ++ listed (all_shown es) ++ one sign.CloseRound)
 call_placed f es p = operands (record { reads = call_reads f es p })
 
-none_first : (I : Spelled ExprKind) {ts rest : List Terminal} → Says [] ts rest → Args I none ts rest
+none_first : (I : Spelled RawExprKind) {ts rest : List Terminal} → Says [] ts rest → Args I none ts rest
 unfolding Listed
 none_first inside no_more = record { list = []; spelled = the_one (yields []); means = refl }
 
-none_behind : (I : Spelled ExprKind) {ts rest : List Terminal} → Says [] ts rest → Behind I none ts rest
+none_behind : (I : Spelled RawExprKind) {ts rest : List Terminal} → Says [] ts rest → Behind I none ts rest
 none_behind inside no_more = record { list = []; spelled = nothing; means = refl }
 
 no_args : AllPlaced none
@@ -307,7 +307,7 @@ more_args : (e : Plain) (es : Plains) → Both e → AllPlaced es → AllPlaced 
 more_args e es p ps = record { first = more_first e es p ps; behind = more_behind e es p ps }
 
 mutual
-  all_placed : (e : Plain) → Fits e → Both e
+  all_placed : (e : Plain) → ExprFits e → Both e
   all_placed (number n) fits = record { at = number_placed n fits; negated = bangs (number_placed n fits) }
   all_placed (name x) fits = record { at = name_placed x; negated = bangs (name_placed x) }
   all_placed (param x) fits = record { at = param_placed x; negated = bangs (param_placed x) }
@@ -333,11 +333,11 @@ mutual
   args_placed (more e es) fits = more_args e es (all_placed e fits.0) (args_placed es fits.1)
 
 -- terminals that say the canonical lexemes of an expression spell an expression that says the same
-expr_spelled : (e : Plain) → Fits e → (ts rest : List Terminal) → Says (show_expr e) ts rest → Derives AnExpr plain e ts rest
+expr_spelled : (e : Plain) → ExprFits e → (ts rest : List Terminal) → Says (show_expr e) ts rest → Derives AnExpr plain e ts rest
 unfolding AnExpr
 expr_spelled e fits ts rest h =
     let x = (all_placed e fits).at.reads (height e) (omega arith) l0 ts rest h in
     record { raw = placed_at x.kind ts; spelled = whole (suc (height e), nested_is (height e) x.spelled); is = says_placed x.kind _ ∙ x.means }
 
-pub exprs : ShownIsDerived AnExpr plain show_expr Fits
+pub exprs : ShownIsDerived AnExpr plain show_expr ExprFits
 exprs = record { holds = expr_spelled }

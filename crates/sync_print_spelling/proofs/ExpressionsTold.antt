@@ -6,15 +6,15 @@ use Rattle.sync_base.specs.declared.names.NameList.{NameList}
 use Rattle.sync_lex.specs.declared.signs.Sign.{Sign}
 use Rattle.sync_lex.specs.declared.signs.Sign.TheVariants as sign
 use Rattle.sync_lex.specs.declared.terminals.Terminal.{Terminal}
-use Rattle.sync_lex.specs.Terminals.{largest}
-use Rattle.sync_parse_exprs.specs.declared.expressions.Expr.{Expr}
-use Rattle.sync_parse_exprs.specs.declared.expressions.ExprKind.{ExprKind}
-use Rattle.sync_parse_exprs.specs.declared.expressions.ExprKind.TheVariants as kind
+use Rattle.sync_base.specs.Limits.{largest}
+use Rattle.sync_parse_exprs.specs.declared.expressions.RawExpr.{RawExpr}
+use Rattle.sync_parse_exprs.specs.declared.expressions.RawExprKind.{RawExprKind}
+use Rattle.sync_parse_exprs.specs.declared.expressions.RawExprKind.TheVariants as kind
 use Rattle.sync_parse_exprs.specs.declared.expressions.Function.{Function}
 use Rattle.sync_parse_exprs.specs.declared.expressions.Special.{Special}
 use Rattle.sync_parse_exprs.specs.declared.expressions.Operator.{Operator}
 use Rattle.sync_parse_exprs.specs.declared.expressions.Operator.TheVariants as operator
-use Rattle.sync_parse_exprs.specs.declared.naming.Named.{Named}
+use Rattle.sync_parse_exprs.specs.declared.raw_names.RawName.{RawName}
 use Rattle.sync_parse_exprs.specs.Expressions.{signed}
 use Rattle.sync_parse_grammar.specs.Relations.{Spelled, AName, Yields, Either, the_one, the_other, Then}
 use Rattle.sync_parse_grammar.specs.Expressions.{placed_at, Whole, NoNumber, Operand, Unary, operand, negated, minus as minus_before, Product, Chain, ends, goes_on, Chained, Joins, SumSign, Sum, RelationSign, Relation, And, Or, Implied, plain as no_implies, implies as and_implies, Nested, AnExpr, Args}
@@ -22,7 +22,7 @@ use Rattle.sync_print.specs.Exprs.{Joint, implies, either, both as conjunction, 
 use Rattle.sync_print.specs.Lexemes.{Lexeme, one, listed}
 use Rattle.sync_print.specs.ShowExprs.{shown, all_shown, show_expr, function_sign, special_sign, between, left_of, right_of}
 use Rattle.sync_print.proofs.Saying.{said, said-Number, said-Name, said-Param, said-Nil, said-Bracketed, said-Special, said-Call, said-Not, said-Minus, said-Times, said-Two, all_shown-of}
-use Rattle.sync_print_spelling.specs.Limits.{Fits, AllFit}
+use Rattle.sync_print_spelling.specs.Limits.{ExprFits, AllFit}
 use Rattle.sync_print_spelling.proofs.Levels.{says_placed}
 use Rattle.sync_print_spelling.proofs.Told.{Tells, both, behind, nothing, silent, perhaps, number_shown, sign_read, one_of_read, number_read, name_told, none_read}
 use Rattle.sync_print_spelling.proofs.ListsTold.{Reads, in_brackets}
@@ -31,7 +31,7 @@ use Rattle.sync_print_spelling.proofs.ListsTold.{Reads, in_brackets}
 
 -- an expression is within the limits, and terminals name what is shown of it, and of its negation, at each place
 pub record OfPlain (names : NameList) (e : Plain) (ts rest : List Terminal) : Type 0 where
-  pub fits : Fits e
+  pub fits : ExprFits e
   pub at : (k : ℕ) → Tells names ((shown e).at k) ts rest
   pub negated : (k : ℕ) → Tells names ((shown e).negated k) ts rest
 
@@ -53,10 +53,10 @@ banged p = both (silent sign.Bang) p
 of_number : {names : NameList} {ts rest : List Terminal} (n : ℕ) → n ≤ largest → Tells names [] ts rest → OfPlain names (number n) ts rest
 of_number n fits d = let p = both d (number_shown n fits) in record { fits = fits; at = λ k. p; negated = λ k. banged p }
 
-of_name : {names : NameList} {ts rest : List Terminal} {x : Named} → AName ts rest x → OfPlain names (name x.name) ts rest
+of_name : {names : NameList} {ts rest : List Terminal} {x : RawName} → AName ts rest x → OfPlain names (name x.name) ts rest
 of_name d = let p = name_told d in record { fits = tt; at = λ k. p; negated = λ k. banged p }
 
-of_param : {names : NameList} {ts rest : List Terminal} {x : Named} → AName ts rest x → OfPlain names (param x.name) ts rest
+of_param : {names : NameList} {ts rest : List Terminal} {x : RawName} → AName ts rest x → OfPlain names (param x.name) ts rest
 of_param d = let p = both (silent sign.Dollar) (name_told d) in record { fits = tt; at = λ k. p; negated = λ k. banged p }
 
 of_nil : {names : NameList} {ts rest : List Terminal} → Tells names [] ts rest → OfPlain names nil ts rest
@@ -107,41 +107,41 @@ of_joined operator.Minus p d q = of_two minus p d q
 -- ---- what productions give
 
 -- a production of kinds of expressions reads what is within the limits, and its terminals name what is shown
-pub record Kinds (names : NameList) (K : Spelled ExprKind) : Type 0 where
-  pub at : (ts rest : List Terminal) (x : ExprKind) → K ts rest x → OfPlain names (said x) ts rest
+pub record Kinds (names : NameList) (K : Spelled RawExprKind) : Type 0 where
+  pub at : (ts rest : List Terminal) (x : RawExprKind) → K ts rest x → OfPlain names (said x) ts rest
 
 -- the same of expressions
-pub record Exprs (names : NameList) (M : Spelled Expr) : Type 0 where
-  pub at : (ts rest : List Terminal) (e : Expr) → M ts rest e → OfPlain names (plain e) ts rest
+pub record Exprs (names : NameList) (M : Spelled RawExpr) : Type 0 where
+  pub at : (ts rest : List Terminal) (e : RawExpr) → M ts rest e → OfPlain names (plain e) ts rest
 
 -- the terminals of an operator name nothing
 record Operators (names : NameList) (Op : Spelled Operator) : Type 0 where
   pub at : (ts rest : List Terminal) (o : Operator) → Op ts rest o → Tells names [] ts rest
 
 -- a kind that a production ends with
-yielded : {names : NameList} {x y : ExprKind} {ts us rest : List Terminal} → Yields x us rest y → OfPlain names (said x) ts us → OfPlain names (said y) ts rest
+yielded : {names : NameList} {x y : RawExprKind} {ts us rest : List Terminal} → Yields x us rest y → OfPlain names (said x) ts us → OfPlain names (said y) ts rest
 yielded d p = meant (ap said d.is) (followed p (none_read d))
 
-whole : {names : NameList} {K : Spelled ExprKind} → Kinds names K → Exprs names (Whole K)
+whole : {names : NameList} {K : Spelled RawExprKind} → Kinds names K → Exprs names (Whole K)
 whole k = record {
   at = λ ts rest e d.
       let p = k.at d.middle d.next.middle d.next.value d.next.one in
       meant (ap plain d.next.next.is ∙ says_placed d.next.value _) (led (nothing d.one.none) (followed p (none_read d.next.next)));
 }
 
-pub shown_whole : {names : NameList} {M : Spelled Expr} → Exprs names M → Reads names M plain show_expr Fits
+pub shown_whole : {names : NameList} {M : Spelled RawExpr} → Exprs names M → Reads names M plain show_expr ExprFits
 shown_whole m = record { at = λ ts rest e d. let p = m.at ts rest e d in record { fits = p.fits; tells = p.at 0 } }
 
 -- ---- operands
 
-all_fit : (es : List Plain) → All Fits es → AllFit (plains_of es)
+all_fit : (es : List Plain) → All ExprFits es → AllFit (plains_of es)
 all_fit [] fits = tt
-all_fit (e ∷ es) fits = (All-head Fits e es fits, all_fit es (All-tail Fits e es fits))
+all_fit (e ∷ es) fits = (All-head ExprFits e es fits, all_fit es (All-tail ExprFits e es fits))
 
 within_largest : (n : ℕ) → unsigned_abs (signed n) ≤ largest
 within_largest n = omega arith
 
-no_number : {names : NameList} {I : Spelled ExprKind} → Kinds names I → (ts rest : List Terminal) (x : ExprKind) → NoNumber I ts rest x → OfPlain names (said x) ts rest
+no_number : {names : NameList} {I : Spelled RawExprKind} → Kinds names I → (ts rest : List Terminal) (x : RawExprKind) → NoNumber I ts rest x → OfPlain names (said x) ts rest
 unfolding NoNumber
 no_number i ts rest x (the_one d) = yielded d.next (meant (said-Name d.value) (of_name d.one))
 no_number i ts rest x (the_other (the_one d)) = yielded d.next.next (meant (said-Param d.value d.next.value) (led (sign_read d.one) (of_param d.next.one)))
@@ -157,22 +157,22 @@ no_number i ts rest x (the_other (the_other (the_other (the_other (the_other d))
     let p = (whole i).at d.middle d.next.middle d.next.value d.next.one in
     yielded d.next.next.next (meant (said-Bracketed d.next.value) (led (sign_read d.one) (followed p (sign_read d.next.next.one))))
 
-an_operand : {names : NameList} {I : Spelled ExprKind} → Kinds names I → (ts rest : List Terminal) (x : ExprKind) → Operand I ts rest x → OfPlain names (said x) ts rest
+an_operand : {names : NameList} {I : Spelled RawExprKind} → Kinds names I → (ts rest : List Terminal) (x : RawExprKind) → Operand I ts rest x → OfPlain names (said x) ts rest
 unfolding Operand
 an_operand i ts rest x (the_one d) = yielded d.next (meant (said-Number (signed d.value)) (of_number _ (within_largest d.value) (number_read d.one)))
 an_operand i ts rest x (the_other d) = no_number i ts rest x d
 
-a_unary : {names : NameList} {I : Spelled ExprKind} → Kinds names I → (ts rest : List Terminal) (x : ExprKind) → Unary I ts rest x → OfPlain names (said x) ts rest
+a_unary : {names : NameList} {I : Spelled RawExprKind} → Kinds names I → (ts rest : List Terminal) (x : RawExprKind) → Unary I ts rest x → OfPlain names (said x) ts rest
 a_unary i ts rest x (operand d) = an_operand i ts rest x d
 a_unary i ts rest x (negated {us = us} {x = y} b d) =
     meant (said-Not (placed_at y us) ∙ ap negation (says_placed y _)) (of_negation (led (sign_read b) (a_unary i us rest y d)))
 a_unary i ts rest x (minus_before {us = us} {x = y} b d) =
     meant (said-Minus (placed_at y us) ∙ ap (two minus (number 0)) (says_placed y _)) (of_two minus (of_number 0 (omega arith) (nothing refl)) (sign_read b) (a_unary i us rest y d))
 
-unaries : {names : NameList} {I : Spelled ExprKind} → Kinds names I → Kinds names (Unary I)
+unaries : {names : NameList} {I : Spelled RawExprKind} → Kinds names I → Kinds names (Unary I)
 unaries i = record { at = a_unary i }
 
-a_product : {names : NameList} {I : Spelled ExprKind} → Kinds names I → (ts rest : List Terminal) (x : ExprKind) → Product I ts rest x → OfPlain names (said x) ts rest
+a_product : {names : NameList} {I : Spelled RawExprKind} → Kinds names I → (ts rest : List Terminal) (x : RawExprKind) → Product I ts rest x → OfPlain names (said x) ts rest
 unfolding Product
 a_product i ts rest x (the_one d) = a_unary i ts rest x d
 a_product i ts rest x (the_other d) =
@@ -180,20 +180,20 @@ a_product i ts rest x (the_other d) =
     let p = (whole (unaries i)).at d.next.middle y.middle y.value y.one in
     yielded y.next (meant (said-Times (signed d.value) y.value) (of_times _ (within_largest d.value) (number_read d.one) (led (sign_read d.next.one) p)))
 
-products : {names : NameList} {I : Spelled ExprKind} → Kinds names I → Kinds names (Product I)
+products : {names : NameList} {I : Spelled RawExprKind} → Kinds names I → Kinds names (Product I)
 products i = record { at = a_product i }
 
 -- ---- chains
 
-a_chain : {names : NameList} {Op : Spelled Operator} {Item : Spelled ExprKind} {start : List Terminal} → Operators names Op → Kinds names Item
-    → (held : ExprKind) (from ts rest : List Terminal) (x : ExprKind) → Chain Op Item start held ts rest x → OfPlain names (said held) from ts → OfPlain names (said x) from rest
+a_chain : {names : NameList} {Op : Spelled Operator} {Item : Spelled RawExprKind} {start : List Terminal} → Operators names Op → Kinds names Item
+    → (held : RawExprKind) (from ts rest : List Terminal) (x : RawExprKind) → Chain Op Item start held ts rest x → OfPlain names (said held) from ts → OfPlain names (said x) from rest
 a_chain o i held from ts rest x ends p = p
 a_chain {start = start} o i held from ts rest x (goes_on {us = us} {vs = vs} {o = op} y sign_is item d) p =
     let q = (whole i).at us vs y item in
     let r = meant (said-Two op (placed_at held start) y ∙ ap (λ z. joined op z (plain y)) (says_placed held _)) (of_joined op p (o.at ts us op sign_is) q) in
     a_chain o i (kind.Two op (placed_at held start) y) from vs rest x d r
 
-chains : {names : NameList} {Op : Spelled Operator} {Item : Spelled ExprKind} → Operators names Op → Kinds names Item → Kinds names (Chained Op Item)
+chains : {names : NameList} {Op : Spelled Operator} {Item : Spelled RawExprKind} → Operators names Op → Kinds names Item → Kinds names (Chained Op Item)
 unfolding Chained
 chains o i = record {
   at = λ ts rest x d.
@@ -227,15 +227,15 @@ relation_signs = either_operator (joints sign.Equal operator.Equal) (either_oper
 
 -- ---- the levels
 
-sums : {names : NameList} {I : Spelled ExprKind} → Kinds names I → Kinds names (Sum I)
+sums : {names : NameList} {I : Spelled RawExprKind} → Kinds names I → Kinds names (Sum I)
 unfolding Sum
 sums i = chains sum_signs (products i)
 
 -- what a relation may have behind its first side
-RelatedTo : Spelled ExprKind → List Terminal → ExprKind → Spelled ExprKind
+RelatedTo : Spelled RawExprKind → List Terminal → RawExprKind → Spelled RawExprKind
 RelatedTo inside start x = Either (Yields x) (Then RelationSign (λ o. Then (Whole (Sum inside)) (λ y. Yields (kind.Two o (placed_at x start) y))))
 
-related : {names : NameList} {I : Spelled ExprKind} → Kinds names I → (start from ts rest : List Terminal) (held x : ExprKind) → RelatedTo I start held ts rest x → OfPlain names (said held) from ts
+related : {names : NameList} {I : Spelled RawExprKind} → Kinds names I → (start from ts rest : List Terminal) (held x : RawExprKind) → RelatedTo I start held ts rest x → OfPlain names (said held) from ts
     → OfPlain names (said x) from rest
 unfolding RelatedTo
 related i start from ts rest held x (the_one d) p = yielded d p
@@ -245,7 +245,7 @@ related i start from ts rest held x (the_other d) p =
     let r = meant (said-Two d.value (placed_at held start) y.value ∙ ap (λ z. joined d.value z (plain y.value)) (says_placed held _)) (of_joined d.value p (relation_signs.at ts d.middle d.value d.one) q) in
     yielded y.next r
 
-relations : {names : NameList} {I : Spelled ExprKind} → Kinds names I → Kinds names (Relation I)
+relations : {names : NameList} {I : Spelled RawExprKind} → Kinds names I → Kinds names (Relation I)
 unfolding Relation RelatedTo
 relations i = record {
   at = λ ts rest x d.
@@ -253,15 +253,15 @@ relations i = record {
       related i d.value ts d.next.middle rest d.next.value x d.next.next p;
 }
 
-ands : {names : NameList} {I : Spelled ExprKind} → Kinds names I → Kinds names (And I)
+ands : {names : NameList} {I : Spelled RawExprKind} → Kinds names I → Kinds names (And I)
 unfolding And
 ands i = chains (joints sign.And operator.And) (relations i)
 
-ors : {names : NameList} {I : Spelled ExprKind} → Kinds names I → Kinds names (Or I)
+ors : {names : NameList} {I : Spelled RawExprKind} → Kinds names I → Kinds names (Or I)
 unfolding Or
 ors i = chains (joints sign.Or operator.Or) (ands i)
 
-an_implication : {names : NameList} {I : Spelled ExprKind} → Kinds names I → (ts rest : List Terminal) (x : ExprKind) → Implied I ts rest x → OfPlain names (said x) ts rest
+an_implication : {names : NameList} {I : Spelled RawExprKind} → Kinds names I → (ts rest : List Terminal) (x : RawExprKind) → Implied I ts rest x → OfPlain names (said x) ts rest
 an_implication i ts rest x (no_implies d) = (ors i).at ts rest x d
 an_implication i ts rest x (and_implies {vs = vs} {y = y} z us line d s e) =
     let p = (ors i).at ts us z d in
@@ -277,11 +277,11 @@ unfolding Nested
 nested zero = record { at = λ ts rest x d. absurd d }
 nested (suc depth) = record { at = an_implication (nested depth) }
 
-pub exprs_told : {names : NameList} → Reads names AnExpr plain show_expr Fits
+pub exprs_told : {names : NameList} → Reads names AnExpr plain show_expr ExprFits
 unfolding AnExpr
 exprs_told = shown_whole (whole (record { at = λ ts rest x d. (nested d.0).at ts rest x d.1 }))
 
 -- arguments, in brackets that name nothing
-pub args_told : {names : NameList} → Reads names Args (map plain) (λ es. listed (map show_expr es)) (All Fits)
+pub args_told : {names : NameList} → Reads names Args (map plain) (λ es. listed (map show_expr es)) (All ExprFits)
 unfolding Args
 args_told = in_brackets exprs_told

@@ -3,13 +3,13 @@ use Rattle.std.proofs.Common.{◌≡◌, ◌≤◌, ℕ, suc, ℤ, pos, negsuc, 
 use Rattle.std.specs.Int.{is_negative}
 use Rattle.sync_lex.specs.declared.signs.Sign.TheVariants as sign
 use Rattle.sync_lex.specs.declared.terminals.Terminal.{Terminal}
-use Rattle.sync_lex.specs.Terminals.{largest}
+use Rattle.sync_base.specs.Limits.{largest}
 use Rattle.sync_parse_exprs.specs.declared.expressions.Special.{Special}
 use Rattle.sync_parse_exprs.specs.declared.expressions.Special.TheVariants as terminal
-use Rattle.sync_parse_exprs.specs.declared.naming.Named.{Named}
-use Rattle.sync_parse.specs.declared.scripts.Subject.TheVariants as raw_subject
-use Rattle.sync_parse.specs.declared.scripts.RawHyp.TheVariants as raw
-use Rattle.sync_parse.specs.Scripts.{place_of, bounded_of, times_of}
+use Rattle.sync_parse_exprs.specs.declared.raw_names.RawName.{RawName}
+use Rattle.sync_parse.specs.declared.scripts.RawSubject.TheVariants as raw_subject
+use Rattle.sync_parse.specs.declared.scripts.RawHypName.TheVariants as raw
+use Rattle.sync_parse.specs.Scripts.{statement_number, bounded_of, times_of}
 use Rattle.sync_parse_grammar.specs.Relations.{the_one, the_other}
 use Rattle.sync_parse_grammar.specs.Scripts.{ASubject, Hyp, Scaled, Part, As}
 use Rattle.sync_print.specs.Scripts.{PlainSubject, name, special, PlainHyp, denied, label, at, low, high, PlainPart, plain_subject, plain_hyp, plain_part}
@@ -33,13 +33,13 @@ subject_spelled : (s : PlainSubject) → SubjectFits s → (ts rest : List Termi
 unfolding ASubject
 subject_spelled (name x) fits ts rest h =
     let n = the_name h in
-    let named : Named = record { name = x; line = n.0 } in
+    let named : RawName = record { name = x; line = n.0 } in
     record { raw = raw_subject.Name named; spelled = the_one (seq named rest n.1 (yields _)); is = refl }
 subject_spelled (special w) fits ts rest h =
     let s = one_of bounded_of w (bounded_found w fits) h in
     record { raw = raw_subject.Special w s.0; spelled = the_other (seq (w, s.0) rest s.1 (yields _)); is = refl }
 
-pub within_place : (n : ℕ) → n ≤ last_place → place_of n ≡ n
+pub within_place : (n : ℕ) → n ≤ last_place → statement_number n ≡ n
 within_place n fits = omega arith
 
 hyp_spelled : (p : PlainHyp) → HypFits p → (ts rest : List Terminal) → Says (show_hyp p) ts rest → Derives Hyp plain_hyp p ts rest
@@ -49,12 +49,12 @@ hyp_spelled denied fits ts rest h =
     record { raw = raw.Denied; spelled = the_one (seq s.0 rest s.1 (yields _)); is = refl }
 hyp_spelled (label x) fits ts rest h =
     let n = the_name h in
-    let named : Named = record { name = x; line = n.0 } in
+    let named : RawName = record { name = x; line = n.0 } in
     record { raw = raw.Label named; spelled = the_other (the_other (the_other (the_other (seq named rest n.1 (yields _))))); is = refl }
 hyp_spelled (at n) fits ts rest h =
     let r = split (one sign.At) (one_number n) h in
     let s = the_sign r.1 in
-    record { raw = raw.At (place_of n); spelled = the_other (the_one (seq s.0 r.0 s.1 (seq n rest (the_number r.2) (yields _)))); is = ap at (within_place n fits) }
+    record { raw = raw.At (statement_number n); spelled = the_other (the_one (seq s.0 r.0 s.1 (seq n rest (the_number r.2) (yields _)))); is = ap at (within_place n fits) }
 hyp_spelled (low p) fits ts rest h =
     let r = split (one sign.Low) (show_subject p) h in
     let s = the_sign r.1 in

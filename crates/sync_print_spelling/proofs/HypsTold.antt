@@ -6,14 +6,14 @@ use Rattle.sync_lex.specs.declared.signs.Sign.{Sign}
 use Rattle.sync_lex.specs.declared.signs.Sign.TheVariants as sign
 use Rattle.sync_lex.specs.declared.terminals.Terminal.{Terminal}
 use Rattle.sync_lex.specs.Signs.{is_same}
-use Rattle.sync_lex.specs.Terminals.{largest}
+use Rattle.sync_base.specs.Limits.{largest}
 use Rattle.sync_parse_exprs.specs.declared.expressions.Special.{Special}
 use Rattle.sync_parse_exprs.specs.declared.expressions.Special.TheVariants as terminal
-use Rattle.sync_parse_exprs.specs.declared.naming.Named.{Named}
-use Rattle.sync_parse.specs.declared.scripts.Subject.{Subject}
-use Rattle.sync_parse.specs.declared.scripts.RawHyp.{RawHyp}
+use Rattle.sync_parse_exprs.specs.declared.raw_names.RawName.{RawName}
+use Rattle.sync_parse.specs.declared.scripts.RawSubject.{RawSubject}
+use Rattle.sync_parse.specs.declared.scripts.RawHypName.{RawHypName}
 use Rattle.sync_parse.specs.declared.scripts.RawPart.{RawPart}
-use Rattle.sync_parse.specs.Scripts.{place_of, bounded_of, times_of}
+use Rattle.sync_parse.specs.Scripts.{statement_number, bounded_of, times_of}
 use Rattle.sync_parse_grammar.specs.Relations.{Yields, the_one, the_other}
 use Rattle.sync_parse_grammar.specs.Scripts.{ASubject, Hyp, Scaled, Part, As}
 use Rattle.sync_print.specs.Scripts.{plain_subject, plain_hyp, plain_part}
@@ -39,11 +39,11 @@ unfolding bounded_of
 is_bounded s w e = bounded_case (is_same s sign.Old) (is_same s sign.New) (is_same s sign.Wrap) w e
 
 -- what is said of a subject that a production ends with
-subject_end : {names : NameList} {x y : Subject} {ts us rest : List Terminal} → Yields x us rest y → Read names (SubjectFits (plain_subject x)) (show_subject (plain_subject x)) ts us
+subject_end : {names : NameList} {x y : RawSubject} {ts us rest : List Terminal} → Yields x us rest y → Read names (SubjectFits (plain_subject x)) (show_subject (plain_subject x)) ts us
     → Read names (SubjectFits (plain_subject y)) (show_subject (plain_subject y)) ts rest
-subject_end {names = names} d r = ended (λ (z : Subject) us vs. Read names (SubjectFits (plain_subject z)) (show_subject (plain_subject z)) us vs) d r
+subject_end {names = names} d r = ended (λ (z : RawSubject) us vs. Read names (SubjectFits (plain_subject z)) (show_subject (plain_subject z)) us vs) d r
 
-subject_told : {names : NameList} (ts rest : List Terminal) (x : Subject) → ASubject ts rest x → Read names (SubjectFits (plain_subject x)) (show_subject (plain_subject x)) ts rest
+subject_told : {names : NameList} (ts rest : List Terminal) (x : RawSubject) → ASubject ts rest x → Read names (SubjectFits (plain_subject x)) (show_subject (plain_subject x)) ts rest
 unfolding ASubject
 subject_told ts rest x (the_one d) = subject_end d.next (record { fits = tt; tells = name_told d.one })
 subject_told ts rest x (the_other d) =
@@ -52,22 +52,22 @@ subject_told ts rest x (the_other d) =
 subjects_told : {names : NameList} → Reads names ASubject plain_subject show_subject SubjectFits
 subjects_told = record { at = subject_told }
 
-pub within_last : (n : ℕ) → place_of n ≤ last_place
+pub within_last : (n : ℕ) → statement_number n ≤ last_place
 within_last n = omega arith
 
-pub place_within_largest : (n : ℕ) → place_of n ≤ largest
+pub place_within_largest : (n : ℕ) → statement_number n ≤ largest
 place_within_largest n = omega arith
 
-hyp_end : {names : NameList} {x y : RawHyp} {ts us rest : List Terminal} → Yields x us rest y → Read names (HypFits (plain_hyp x)) (show_hyp (plain_hyp x)) ts us
+hyp_end : {names : NameList} {x y : RawHypName} {ts us rest : List Terminal} → Yields x us rest y → Read names (HypFits (plain_hyp x)) (show_hyp (plain_hyp x)) ts us
     → Read names (HypFits (plain_hyp y)) (show_hyp (plain_hyp y)) ts rest
-hyp_end {names = names} d r = ended (λ (z : RawHyp) us vs. Read names (HypFits (plain_hyp z)) (show_hyp (plain_hyp z)) us vs) d r
+hyp_end {names = names} d r = ended (λ (z : RawHypName) us vs. Read names (HypFits (plain_hyp z)) (show_hyp (plain_hyp z)) us vs) d r
 
-hyp_told : {names : NameList} (ts rest : List Terminal) (x : RawHyp) → Hyp ts rest x → Read names (HypFits (plain_hyp x)) (show_hyp (plain_hyp x)) ts rest
+hyp_told : {names : NameList} (ts rest : List Terminal) (x : RawHypName) → Hyp ts rest x → Read names (HypFits (plain_hyp x)) (show_hyp (plain_hyp x)) ts rest
 unfolding Hyp
 hyp_told ts rest x (the_one d) = hyp_end d.next (record { fits = tt; tells = sign_told sign.Denied d.one })
 hyp_told ts rest x (the_other (the_one d)) =
     let n = d.next in
-    hyp_end n.next (record { fits = within_last n.value; tells = both (sign_told sign.At d.one) (number_told (place_of n.value) (place_within_largest n.value) n.one) })
+    hyp_end n.next (record { fits = within_last n.value; tells = both (sign_told sign.At d.one) (number_told (statement_number n.value) (place_within_largest n.value) n.one) })
 hyp_told ts rest x (the_other (the_other (the_one d))) =
     let s = d.next in
     let y = subject_told d.middle s.middle s.value s.one in
@@ -122,6 +122,6 @@ pub parts_told : {names : NameList} → Reads names Part plain_part show_part Pa
 parts_told = record { at = part_told }
 
 -- the name that a step gives
-pub as_told : {names : NameList} {ts rest : List Terminal} (x : Named) → As ts rest x → Tells names (show_as x.name) ts rest
+pub as_told : {names : NameList} {ts rest : List Terminal} (x : RawName) → As ts rest x → Tells names (show_as x.name) ts rest
 unfolding As
 as_told x d = both (sign_told sign.As d.one) (name_told d.next)

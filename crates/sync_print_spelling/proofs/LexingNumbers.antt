@@ -11,7 +11,7 @@ use Rattle.std.specs.Fmt.{decimal}
 use Rattle.std.proofs.lemmas.Fmt.{decimal_is_IsNumeral_wide}
 use Rattle.sync_lex.specs.declared.lexemes.Kind.TheVariants as kind
 use Rattle.sync_lex.specs.Bytes.{is_blank, begins_name, number_value}
-use Rattle.sync_lex.specs.Pieces.{largest}
+use Rattle.sync_base.specs.Limits.{largest}
 use Rattle.sync_print_spelling.proofs.Lexing.{Begins}
 use Rattle.sync_print_spelling.proofs.LexingRuns.{number_begins, run_of}
 

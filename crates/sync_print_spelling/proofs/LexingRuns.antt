@@ -5,7 +5,8 @@ use Rattle.std.specs.Char.{is_ascii_digit}
 use Rattle.std.specs.List.{prefix_len, take_while, list_all}
 use Rattle.sync_lex.specs.declared.lexemes.Kind.TheVariants as kind
 use Rattle.sync_lex.specs.Bytes.{is_blank, begins_name, continues_name, number_value}
-use Rattle.sync_lex.specs.Pieces.{piece, largest}
+use Rattle.sync_lex.specs.Pieces.{piece}
+use Rattle.sync_base.specs.Limits.{largest}
 use Rattle.sync_lex.specs.Lexemes.{lexemes_from}
 use Rattle.sync_print_spelling.proofs.Lexing.{Begins}
 

@@ -3,20 +3,20 @@ use Rattle.std.proofs.Common.{◌≡◌, ℕ, List, [], ◌∷◌, ◌++◌, map
 use Rattle.std.specs.List.{flat_map, All}
 use Rattle.sync_lex.specs.declared.signs.Sign.TheVariants as sign
 use Rattle.sync_lex.specs.declared.terminals.Terminal.{Terminal}
-use Rattle.sync_parse_exprs.specs.declared.naming.Named.{Named}
-use Rattle.sync_parse_exprs.specs.Lexemes.{first_line}
+use Rattle.sync_parse_exprs.specs.declared.raw_names.RawName.{RawName}
+use Rattle.sync_parse_exprs.specs.Terminals.{first_line}
 use Rattle.sync_base.specs.declared.strategies.Strategy.{Strategy}
 use Rattle.sync_base.specs.declared.strategies.OpMode.{OpMode}
 use Rattle.sync_base.specs.declared.strategies.OpMode.TheVariants as mode
 use Rattle.sync_parse.specs.declared.scripts.RawScript.{RawScript}
 use Rattle.sync_parse.specs.declared.trees.RawClaim.TheVariants as raw_claim
-use Rattle.sync_parse.specs.Scripts.{place_of}
+use Rattle.sync_parse.specs.Scripts.{statement_number}
 use Rattle.sync_parse_grammar.specs.Relations.{AName, AStrategy, the_one, the_other, Names}
 use Rattle.sync_parse_grammar.specs.Scripts.{Script}
 use Rattle.sync_parse_grammar.specs.Machines.{Field, Mode, Operation, Invariant, Machine, Claim, Proof, Proofs}
 use Rattle.sync_print.specs.Exprs.{Plain}
 use Rattle.sync_print.specs.Scripts.{PlainBlock}
-use Rattle.sync_print.specs.Texts.{PlainAct, PlainField, PlainOperation, PlainInvariant, PlainMachine, PlainClaim, keeps, at, PlainProof, name_of, plain_field, plain_operation, plain_invariant, plain_machine, plain_claim, plain_proof}
+use Rattle.sync_print.specs.Texts.{PlainAct, PlainField, PlainOperation, PlainInvariant, PlainMachine, PlainClaim, keeps, at, PlainProof, name_number, plain_field, plain_operation, plain_invariant, plain_machine, plain_claim, plain_proof}
 use Rattle.sync_print.specs.Lexemes.{one, one_name, one_number, one_strategy, listed}
 use Rattle.sync_print.specs.ShowExprs.{show_expr}
 use Rattle.sync_print.specs.ShowScripts.{show_block}
@@ -40,15 +40,15 @@ all_within xs = λ k d within. tt
 
 -- ---- names
 
-name_spelled : (x : ℕ) → NoLimit x → (ts rest : List Terminal) → Says (one_name x) ts rest → Derives AName name_of x ts rest
+name_spelled : (x : ℕ) → NoLimit x → (ts rest : List Terminal) → Says (one_name x) ts rest → Derives AName name_number x ts rest
 name_spelled x fits ts rest h =
     let n = the_name h in
     record { raw = record { name = x; line = n.0 }; spelled = n.1; is = refl }
 
-names : ShownIsDerived AName name_of one_name NoLimit
+names : ShownIsDerived AName name_number one_name NoLimit
 names = record { holds = name_spelled }
 
-names_spelled : (xs : List ℕ) (ts rest : List Terminal) → Says (show_names xs) ts rest → Derives Names (map name_of) xs ts rest
+names_spelled : (xs : List ℕ) (ts rest : List Terminal) → Says (show_names xs) ts rest → Derives Names (map name_number) xs ts rest
 unfolding Names
 names_spelled xs ts rest h =
     let r = parted (one sign.OpenRound ++ listed (map one_name xs)) (one sign.CloseRound) h in
@@ -73,7 +73,7 @@ field_spelled f fits ts rest h =
     let c = the_sign n2.2 in
     let w = the_strategy n3.2 in
     let e = the_sign n4.2 in
-    let named : Named = record { name = f.name; line = n.0 } in
+    let named : RawName = record { name = f.name; line = n.0 } in
     record {
       raw = record { name = named; strategy = f.strategy; line = s.0 };
       spelled = seq s.0 n1.0 s.1 (seq named n2.0 n.1 (seq c.0 n3.0 c.1 (seq f.strategy n4.0 w (seq e.0 rest e.1 (yields _)))));
@@ -109,9 +109,9 @@ operation_spelled o fits ts rest h =
     let b = the_sign n3.2 in
     let ys = (rows acts).holds o.acts fits n4.0 n5.0 n4.2 in
     let e = the_sign n5.2 in
-    let named : Named = record { name = o.name; line = n.0 } in
+    let named : RawName = record { name = o.name; line = n.0 } in
     record {
-      raw = record { mode = o.mode; name = named; params = ps.raw; acts = ys.raw; line = first_line ts };
+      raw = record { mode = o.mode; name = named; params = ps.raw; steps = ys.raw; line = first_line ts };
       spelled = seq ts ts here_is (seq o.mode n1.0 m (seq named n2.0 n.1 (seq ps.raw n3.0 ps.spelled (seq b.0 n4.0 b.1 (seq ys.raw n5.0 ys.spelled (seq e.0 rest e.1 (yields _)))))));
       is = operation_is o ps.is ys.is;
     }
@@ -137,7 +137,7 @@ invariant_spelled v fits ts rest h =
     let ps = names_spelled v.params n2.0 n3.0 n2.2 in
     let c = the_sign n3.2 in
     let y = closed (exprs.holds v.form fits n4.0 n5.0 n4.2) n5.2 in
-    let named : Named = record { name = v.name; line = n.0 } in
+    let named : RawName = record { name = v.name; line = n.0 } in
     record {
       raw = record { name = named; params = ps.raw; form = y.raw; line = s.0 };
       spelled = seq s.0 n1.0 s.1 (seq named n2.0 n.1 (seq ps.raw n3.0 ps.spelled (seq c.0 n4.0 c.1 (seq y.raw rest y.spelled (yields _)))));
@@ -169,7 +169,7 @@ machine_spelled m fits ts rest h =
     let os = (rows operations).holds m.operations fits.0 n4.0 n5.0 n4.2 in
     let vs = (rows invariants).holds m.invariants fits.1 n5.0 n6.0 n5.2 in
     let e = the_sign n6.2 in
-    let named : Named = record { name = m.name; line = n.0 } in
+    let named : RawName = record { name = m.name; line = n.0 } in
     record {
       raw = record { name = named; fields = fs.raw; operations = os.raw; invariants = vs.raw; line = s.0 };
       spelled = seq s.0 n1.0 s.1 (seq named n2.0 n.1 (seq b.0 n3.0 b.1 (seq fs.raw n4.0 fs.spelled (seq os.raw n5.0 os.spelled (seq vs.raw n6.0 vs.spelled (seq e.0 rest e.1 (yields _)))))));
@@ -187,12 +187,12 @@ claim_spelled (keeps x) fits ts rest h =
     let r = parted (one sign.Keeps) (one_name x) h in
     let s = the_sign r.1 in
     let n = the_name r.2 in
-    let named : Named = record { name = x; line = n.0 } in
+    let named : RawName = record { name = x; line = n.0 } in
     record { raw = raw_claim.Keeps named; spelled = the_other (seq s.0 r.0 s.1 (seq named rest n.1 (yields _))); is = refl }
 claim_spelled (at n) fits ts rest h =
     let r = parted (one sign.At) (one_number n) h in
     let s = the_sign r.1 in
-    record { raw = raw_claim.At (place_of n); spelled = the_one (seq s.0 r.0 s.1 (seq n rest (the_number r.2) (yields _))); is = ap at (within_place n fits) }
+    record { raw = raw_claim.At (statement_number n); spelled = the_one (seq s.0 r.0 s.1 (seq n rest (the_number r.2) (yields _))); is = ap at (within_place n fits) }
 
 proof_is : (p : PlainProof) {c : PlainClaim} {b : PlainBlock} → c ≡ p.claim → b ≡ p.block → ◌≡◌ {A = PlainProof} (record { operation = p.operation; claim = c; block = b }) p
 proof_is p q r = λ i. record { operation = p.operation; claim = q i; block = r i }
@@ -207,7 +207,7 @@ proof_spelled p fits ts rest h =
     let c = claim_spelled p.claim fits.0 n1.0 n2.0 n1.2 in
     let s = the_sign n2.2 in
     let b = blocks.holds p.block fits.1 n3.0 rest n3.2 in
-    let named : Named = record { name = p.operation; line = n.0 } in
+    let named : RawName = record { name = p.operation; line = n.0 } in
     let script : RawScript = record { block = b.raw; line = s.0 } in
     record {
       raw = record { operation = named; claim = c.raw; script = script };

@@ -6,18 +6,18 @@ use Rattle.sync_base.specs.declared.names.NameList.{NameList}
 use Rattle.sync_base.specs.declared.strategies.OpMode.{OpMode}
 use Rattle.sync_lex.specs.declared.signs.Sign.TheVariants as sign
 use Rattle.sync_lex.specs.declared.terminals.Terminal.{Terminal}
-use Rattle.sync_parse_exprs.specs.declared.naming.Named.{Named}
+use Rattle.sync_parse_exprs.specs.declared.raw_names.RawName.{RawName}
 use Rattle.sync_parse.specs.declared.trees.RawMachine.{RawMachine}
 use Rattle.sync_parse.specs.declared.trees.RawField.{RawField}
 use Rattle.sync_parse.specs.declared.trees.RawOperation.{RawOperation}
 use Rattle.sync_parse.specs.declared.trees.RawInvariant.{RawInvariant}
 use Rattle.sync_parse.specs.declared.trees.RawProof.{RawProof}
 use Rattle.sync_parse.specs.declared.trees.RawClaim.{RawClaim}
-use Rattle.sync_parse.specs.Scripts.{place_of}
+use Rattle.sync_parse.specs.Scripts.{statement_number}
 use Rattle.sync_parse_grammar.specs.Relations.{AName, the_one, the_other, Names}
 use Rattle.sync_parse_grammar.specs.Scripts.{Script}
 use Rattle.sync_parse_grammar.specs.Machines.{Field, Mode, Operation, Invariant, Machine, Claim, Proof, Proofs}
-use Rattle.sync_print.specs.Texts.{name_of, plain_field, plain_operation, plain_invariant, plain_machine, plain_claim, plain_proof}
+use Rattle.sync_print.specs.Texts.{name_number, plain_field, plain_operation, plain_invariant, plain_machine, plain_claim, plain_proof}
 use Rattle.sync_print.specs.Lexemes.{one, one_name}
 use Rattle.sync_print.specs.ShowTexts.{show_field, mode_sign, show_names, show_operation, show_invariant, show_machine, show_claim, show_proof, show_proofs}
 use Rattle.sync_print_spelling.specs.Limits.{OperationFits, InvariantFits, MachineFits, ClaimFits, ProofFits}
@@ -34,10 +34,10 @@ NoLimit x = Unit {0}
 
 -- ---- names
 
-a_name_told : {names : NameList} → Reads names AName name_of one_name NoLimit
+a_name_told : {names : NameList} → Reads names AName name_number one_name NoLimit
 a_name_told = record { at = λ ts rest x d. record { fits = tt; tells = name_told d } }
 
-names_told : {names : NameList} (ts rest : List Terminal) (xs : List Named) → Names ts rest xs → Tells names (show_names (map name_of xs)) ts rest
+names_told : {names : NameList} (ts rest : List Terminal) (xs : List RawName) → Names ts rest xs → Tells names (show_names (map name_number xs)) ts rest
 unfolding Names
 names_told ts rest xs d = both (both (silent sign.OpenRound) ((in_brackets a_name_told).at ts rest xs d).tells) (silent sign.CloseRound)
 
@@ -142,7 +142,7 @@ claim_told : {names : NameList} (ts rest : List Terminal) (c : RawClaim) → Cla
 unfolding Claim
 claim_told {names = names} ts rest c (the_one d) =
     let n = d.next in
-    ended (OfClaim names) n.next (record { fits = within_last n.value; tells = both (sign_told sign.At d.one) (number_told (place_of n.value) (place_within_largest n.value) n.one) })
+    ended (OfClaim names) n.next (record { fits = within_last n.value; tells = both (sign_told sign.At d.one) (number_told (statement_number n.value) (place_within_largest n.value) n.one) })
 claim_told {names = names} ts rest c (the_other d) =
     let n = d.next in
     ended (OfClaim names) n.next (record { fits = tt; tells = both (sign_told sign.Keeps d.one) (name_told n.one) })

@@ -2,15 +2,15 @@
 use Rattle.std.proofs.Common.{◌≡◌, ◌≤◌, ℕ, unsigned_abs, List, map, Some, refl, ap, ◌∙◌, arith}
 use Rattle.sync_lex.specs.declared.signs.Sign.TheVariants as sign
 use Rattle.sync_lex.specs.declared.terminals.Terminal.{Terminal}
-use Rattle.sync_lex.specs.Terminals.{largest}
-use Rattle.sync_parse_exprs.specs.declared.expressions.Expr.{Expr}
-use Rattle.sync_parse_exprs.specs.declared.expressions.ExprKind.{ExprKind}
-use Rattle.sync_parse_exprs.specs.declared.expressions.ExprKind.TheVariants as kinds
+use Rattle.sync_base.specs.Limits.{largest}
+use Rattle.sync_parse_exprs.specs.declared.expressions.RawExpr.{RawExpr}
+use Rattle.sync_parse_exprs.specs.declared.expressions.RawExprKind.{RawExprKind}
+use Rattle.sync_parse_exprs.specs.declared.expressions.RawExprKind.TheVariants as kinds
 use Rattle.sync_parse_exprs.specs.declared.expressions.Special.{Special}
 use Rattle.sync_parse_exprs.specs.declared.expressions.Special.TheVariants as terminal
 use Rattle.sync_parse_exprs.specs.declared.expressions.Function.{Function}
 use Rattle.sync_parse_exprs.specs.declared.expressions.Function.TheVariants as function
-use Rattle.sync_parse_exprs.specs.declared.naming.Named.{Named}
+use Rattle.sync_parse_exprs.specs.declared.raw_names.RawName.{RawName}
 use Rattle.sync_parse_exprs.specs.Expressions.{signed, special_of, function_of}
 use Rattle.sync_parse_grammar.specs.Relations.{Spelled, The, AName, ANumber, the_one, the_other, Listed, InRound}
 use Rattle.sync_parse_grammar.specs.Expressions.{placed_at, Whole, NoNumber, Operand, Unary, operand, negated, Product}
@@ -28,7 +28,7 @@ use Rattle.sync_print_spelling.proofs.Levels.{Spelt, says_placed}
 pub within : (n : ℕ) → n ≤ largest → unsigned_abs (signed n) ≡ n
 within n fits = omega arith
 
-pub bracketed : {I : Spelled ExprKind} {e : Plain} {ts us vs rest : List Terminal} {line line' : ℕ}
+pub bracketed : {I : Spelled RawExprKind} {e : Plain} {ts us vs rest : List Terminal} {line line' : ℕ}
     → The sign.OpenRound ts us line → Spelt I e us vs → The sign.CloseRound vs rest line' → Spelt (Unary I) e ts rest
 unfolding Operand NoNumber
 bracketed {us = us} {vs = vs} {rest = rest} {line = line} {line' = line'} o x c =
@@ -39,28 +39,28 @@ bracketed {us = us} {vs = vs} {rest = rest} {line = line} {line' = line'} o x c 
       means = said-Bracketed y ∙ (says_placed x.kind _ ∙ x.means);
     }
 
-pub a_name_operand : {I : Spelled ExprKind} {ts rest : List Terminal} {x line : ℕ} → AName ts rest (record { name = x; line = line }) → Spelt (Unary I) (name x) ts rest
+pub a_name_operand : {I : Spelled RawExprKind} {ts rest : List Terminal} {x line : ℕ} → AName ts rest (record { name = x; line = line }) → Spelt (Unary I) (name x) ts rest
 unfolding Operand NoNumber
 a_name_operand {rest = rest} {x = x} {line = line} h =
-    let named : Named = record { name = x; line = line } in
+    let named : RawName = record { name = x; line = line } in
     record { kind = kinds.Name named; spelled = operand (the_other (the_one (seq named rest h (yields _)))); means = said-Name named }
 
-pub a_number_operand : {I : Spelled ExprKind} {ts rest : List Terminal} {n : ℕ} → n ≤ largest → ANumber ts rest n → Spelt (Unary I) (number n) ts rest
+pub a_number_operand : {I : Spelled RawExprKind} {ts rest : List Terminal} {n : ℕ} → n ≤ largest → ANumber ts rest n → Spelt (Unary I) (number n) ts rest
 unfolding Operand
 a_number_operand {rest = rest} {n = n} fits h =
     record { kind = kinds.Number (signed n); spelled = operand (the_one (seq n rest h (yields _))); means = said-Number (signed n) ∙ ap number (within n fits) }
 
-pub a_param_operand : {I : Spelled ExprKind} {ts us rest : List Terminal} {x line line' : ℕ} → The sign.Dollar ts us line → AName us rest (record { name = x; line = line' }) → Spelt (Unary I) (param x) ts rest
+pub a_param_operand : {I : Spelled RawExprKind} {ts us rest : List Terminal} {x line line' : ℕ} → The sign.Dollar ts us line → AName us rest (record { name = x; line = line' }) → Spelt (Unary I) (param x) ts rest
 unfolding Operand NoNumber
 a_param_operand {us = us} {rest = rest} {x = x} {line = line} {line' = line'} d h =
-    let named : Named = record { name = x; line = line' } in
+    let named : RawName = record { name = x; line = line' } in
     record {
       kind = kinds.Param line named;
       spelled = operand (the_other (the_other (the_one (seq line us d (seq named rest h (yields _))))));
       means = said-Param line named;
     }
 
-pub nil_operand : {I : Spelled ExprKind} {ts rest : List Terminal} {line : ℕ} → The sign.Nil ts rest line → Spelt (Unary I) nil ts rest
+pub nil_operand : {I : Spelled RawExprKind} {ts rest : List Terminal} {line : ℕ} → The sign.Nil ts rest line → Spelt (Unary I) nil ts rest
 unfolding Operand NoNumber
 nil_operand {rest = rest} {line = line} h =
     record { kind = kinds.Nil; spelled = operand (the_other (the_other (the_other (the_one (seq line rest h (yields _)))))); means = said-Nil }
@@ -73,7 +73,7 @@ special_found terminal.Old = refl
 special_found terminal.New = refl
 special_found terminal.Wrap = refl
 
-pub special_operand : {I : Spelled ExprKind} {ts rest : List Terminal} (w : Special) → Says (one (special_sign w)) ts rest → Spelt (Unary I) (special w) ts rest
+pub special_operand : {I : Spelled RawExprKind} {ts rest : List Terminal} (w : Special) → Says (one (special_sign w)) ts rest → Spelt (Unary I) (special w) ts rest
 unfolding Operand NoNumber
 special_operand {rest = rest} w h =
     let s = the_sign h in
@@ -96,12 +96,12 @@ function_found function.Bump = refl
 function_found function.Held = refl
 
 -- arguments that are spelled
-pub record Args (I : Spelled ExprKind) (es : Plains) (ts rest : List Terminal) : Type 0 where
-  pub list : List Expr
+pub record Args (I : Spelled RawExprKind) (es : Plains) (ts rest : List Terminal) : Type 0 where
+  pub list : List RawExpr
   pub spelled : Listed (Whole I) ts rest list
   pub means : plains_of (map plain list) ≡ es
 
-pub call_operand : {I : Spelled ExprKind} {es : Plains} {ts us vs ws rest : List Terminal} {line line' : ℕ} (f : Function)
+pub call_operand : {I : Spelled RawExprKind} {es : Plains} {ts us vs ws rest : List Terminal} {line line' : ℕ} (f : Function)
     → Says (one (function_sign f)) ts us → The sign.OpenRound us vs line → Args I es vs ws → The sign.CloseRound ws rest line' → Spelt (Unary I) (call f es) ts rest
 unfolding Operand NoNumber InRound
 call_operand {us = us} {vs = vs} {ws = ws} {rest = rest} {line = line} {line' = line'} f h o args c =
@@ -114,7 +114,7 @@ call_operand {us = us} {vs = vs} {ws = ws} {rest = rest} {line = line} {line' = 
       means = said-Call f s.0 args.list ∙ ap (call f) args.means;
     }
 
-pub negations : {I : Spelled ExprKind} {e : Plain} {ts us rest : List Terminal} {line : ℕ} → The sign.Bang ts us line → Spelt (Unary I) e us rest → Spelt (Unary I) (negation e) ts rest
+pub negations : {I : Spelled RawExprKind} {e : Plain} {ts us rest : List Terminal} {line : ℕ} → The sign.Bang ts us line → Spelt (Unary I) e us rest → Spelt (Unary I) (negation e) ts rest
 negations {us = us} b x =
     record {
       kind = kinds.Not (placed_at x.kind us);
@@ -122,7 +122,7 @@ negations {us = us} b x =
       means = said-Not (placed_at x.kind us) ∙ ap negation (says_placed x.kind _ ∙ x.means);
     }
 
-pub products : {I : Spelled ExprKind} {e : Plain} {ts us vs rest : List Terminal} {n line : ℕ} → n ≤ largest → ANumber ts us n → The sign.Star us vs line → Spelt (Unary I) e vs rest
+pub products : {I : Spelled RawExprKind} {e : Plain} {ts us vs rest : List Terminal} {n line : ℕ} → n ≤ largest → ANumber ts us n → The sign.Star us vs line → Spelt (Unary I) e vs rest
     → Spelt (Product I) (times n e) ts rest
 unfolding Product
 products {e = e} {us = us} {vs = vs} {rest = rest} {n = n} {line = line} fits h s x =

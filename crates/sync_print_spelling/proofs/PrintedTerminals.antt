@@ -1,5 +1,6 @@
 -- The terminals of what is printed of lexemes say these lexemes; a longer text than the limit is refused.
 use Rattle.std.proofs.Common.{◌≡◌, ◌<◌, ◌≤◌, ℕ, All, List, [], length, Ok, Err, refl, ap, ◌∙◌, le-ltb, lt-ltb}
+use Rattle.sync_base.specs.Limits.{longest_text}
 use Rattle.sync_base.specs.declared.names.NameList.{NameList}
 use Rattle.sync_base.specs.declared.stops.Rule.TheVariants.{L1}
 use Rattle.sync_base.specs.Outcome.{◌>>=◌}
@@ -13,11 +14,11 @@ use Rattle.sync_print_spelling.specs.Namings.{names_said, in_order, LexemeFits}
 use Rattle.sync_print_spelling.specs.Printed.{AreNames, ArePrinted}
 use Rattle.sync_print_spelling.proofs.ReadRuns.{runs}
 
-within : (text : List ℕ) → length text ≤ 1048576 → lexemes_of text ≡ lexemes_from 0 1 0 text
+within : (text : List ℕ) → length text ≤ longest_text → lexemes_of text ≡ lexemes_from 0 1 0 text
 unfolding lexemes_of
-within text le = rw (le-ltb 1048576 (length text) le) refl
+within text le = rw (le-ltb longest_text (length text) le) refl
 
-pub printed_terminals_in : (names : NameList) → AreNames names.list → (xs : List Lexeme) → All (LexemeFits names) xs → length (printed names xs) ≤ 1048576
+pub printed_terminals_in : (names : NameList) → AreNames names.list → (xs : List Lexeme) → All (LexemeFits names) xs → length (printed names xs) ≤ longest_text
     → (ws : Terminals) × ArePrinted names xs ws
 unfolding terminals_in terminals_of
 printed_terminals_in names are xs fits short =
@@ -35,6 +36,6 @@ printed_terminals_in names are xs fits short =
       },
     )
 
-pub too_long : (text : List ℕ) → 1048576 < length text → terminals_in text ≡ Err (record { line = 1; rule = L1 })
+pub too_long : (text : List ℕ) → longest_text < length text → terminals_in text ≡ Err (record { line = 1; rule = L1 })
 unfolding terminals_in lexemes_of
-too_long text over = rw (lt-ltb 1048576 (length text) over) refl
+too_long text over = rw (lt-ltb longest_text (length text) over) refl

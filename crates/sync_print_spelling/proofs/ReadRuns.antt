@@ -12,8 +12,8 @@ use Rattle.sync_lex.specs.declared.terminals.Terminal.{Terminal}
 use Rattle.sync_lex.specs.Strategies as strategies
 use Rattle.sync_lex.specs.Strategies.{strategy_of}
 use Rattle.sync_lex.specs.Terminals.{number_in, said, bytes_at, terminals_after}
-use Rattle.sync_print.specs.Lexemes.{Lexeme, a_sign, a_number, a_name, a_strategy, spelling, spelled, separator, printed}
-use Rattle.sync_print_spelling.specs.Says.{IsSaid, Says, no_more, one_more}
+use Rattle.sync_print.specs.Lexemes.{Lexeme, a_sign, a_number, a_name, a_strategy, spelling, lexeme_bytes, separator, printed}
+use Rattle.sync_print_spelling.specs.Says.{SaysOne, Says, no_more, one_more}
 use Rattle.sync_print_spelling.specs.Namings.{names_said, in_order, LexemeFits}
 use Rattle.sync_print_spelling.specs.Printed.{AreNames}
 use Rattle.sync_print_spelling.proofs.Interning.{number_last, own_number}
@@ -46,7 +46,7 @@ behind text bytes gap rest at here =
 
 -- a terminal that says a lexeme where these names came before, if these are all the names in the end
 is_said : (names : NameList) → AreNames names.list → (x : Lexeme) (xs : List Lexeme) (before : List Name) (line : ℕ) → LexemeFits names x
-    → in_order before (names_said names (x ∷ xs)) ≡ names.list → IsSaid x (record { what = (says_now names before x).0; line = line })
+    → in_order before (names_said names (x ∷ xs)) ≡ names.list → SaysOne x (record { what = (says_now names before x).0; line = line })
 unfolding names_said in_order
 is_said names are (a_sign s) xs before line fits all = refl
 is_said names are (a_number n) xs before line fits all = refl
@@ -89,26 +89,26 @@ no_run names at line = record {
   terminals = λ text here held before. record { terminals = []; read = ap (λ (ws : List Terminal). (ws, before)) (sym (append-nil held)); says = λ _. no_more };
 }
 
-lexed_first : (names : NameList) (x : Lexeme) (xs : List Lexeme) (at line : ℕ) (r : IsRead names x) (run : IsRun names xs (at + length (spelled names x) + 1) (line_after (separator x) line))
-    → lexemes_from at line 0 (printed names (x ∷ xs)) ≡ Ok (record { kind = r.kind; start = at; end = at + length (spelled names x); line = line } ∷ run.lexemes, run.last)
+lexed_first : (names : NameList) (x : Lexeme) (xs : List Lexeme) (at line : ℕ) (r : IsRead names x) (run : IsRun names xs (at + length (lexeme_bytes names x) + 1) (line_after (separator x) line))
+    → lexemes_from at line 0 (printed names (x ∷ xs)) ≡ Ok (record { kind = r.kind; start = at; end = at + length (lexeme_bytes names x); line = line } ∷ run.lexemes, run.last)
 unfolding printed
 lexed_first names x xs at line r run =
-    ap (lexemes_from at line 0) (append_assoc (spelled names x) (separator x ∷ []) (printed names xs))
-    ∙ (token_read r.kind (spelled names x) (separator x) r.token (printed names xs) at line
-    ∙ ap (with_first (record { kind = r.kind; start = at; end = at + length (spelled names x); line = line })) run.lexed)
+    ap (lexemes_from at line 0) (append_assoc (lexeme_bytes names x) (separator x ∷ []) (printed names xs))
+    ∙ (token_read r.kind (lexeme_bytes names x) (separator x) r.token (printed names xs) at line
+    ∙ ap (with_first (record { kind = r.kind; start = at; end = at + length (lexeme_bytes names x); line = line })) run.lexed)
 
 terminals_first : (names : NameList) → AreNames names.list → (x : Lexeme) (xs : List Lexeme) (at line : ℕ) → LexemeFits names x → (r : IsRead names x)
-    → (run : IsRun names xs (at + length (spelled names x) + 1) (line_after (separator x) line)) → (text : List ℕ) → drop at text ≡ printed names (x ∷ xs)
-    → (held : List Terminal) (before : List Name) → AreTerminals names (x ∷ xs) text (record { kind = r.kind; start = at; end = at + length (spelled names x); line = line } ∷ run.lexemes) held before
+    → (run : IsRun names xs (at + length (lexeme_bytes names x) + 1) (line_after (separator x) line)) → (text : List ℕ) → drop at text ≡ printed names (x ∷ xs)
+    → (held : List Terminal) (before : List Name) → AreTerminals names (x ∷ xs) text (record { kind = r.kind; start = at; end = at + length (lexeme_bytes names x); line = line } ∷ run.lexemes) held before
 unfolding printed terminals_after
 terminals_first names are x xs at line fits r run text here held before =
     let now = says_now names before x in
-    let token : lexed.Lexeme = record { kind = r.kind; start = at; end = at + length (spelled names x); line = line } in
-    let bytes : bytes_at text token ≡ spelled names x =
-    bytes_are text (spelled names x) (separator x ∷ printed names xs) token refl r.token.some (here ∙ append_assoc (spelled names x) (separator x ∷ []) (printed names xs)) in
+    let token : lexed.Lexeme = record { kind = r.kind; start = at; end = at + length (lexeme_bytes names x); line = line } in
+    let bytes : bytes_at text token ≡ lexeme_bytes names x =
+    bytes_are text (lexeme_bytes names x) (separator x ∷ printed names xs) token refl r.token.some (here ∙ append_assoc (lexeme_bytes names x) (separator x ∷ []) (printed names xs)) in
     let is : said before r.kind (bytes_at text token) ≡ now = ap (said before r.kind) bytes ∙ r.says before in
     let terminal : Terminal = record { what = now.0; line = line } in
-    let rest = run.terminals text (behind text (spelled names x) (separator x) (printed names xs) at here) (held ++ terminal ∷ []) now.1 in
+    let rest = run.terminals text (behind text (lexeme_bytes names x) (separator x) (printed names xs) at here) (held ++ terminal ∷ []) now.1 in
     record {
       terminals = terminal ∷ rest.terminals;
       read =
@@ -123,9 +123,9 @@ runs names are [] fits at line = no_run names at line
 runs names are (x ∷ xs) fits at line =
     let first = All-head (LexemeFits names) x xs fits in
     let r = reads names are x first in
-    let run = runs names are xs (All-tail (LexemeFits names) x xs fits) (at + length (spelled names x) + 1) (line_after (separator x) line) in
+    let run = runs names are xs (All-tail (LexemeFits names) x xs fits) (at + length (lexeme_bytes names x) + 1) (line_after (separator x) line) in
     record {
-      lexemes = record { kind = r.kind; start = at; end = at + length (spelled names x); line = line } ∷ run.lexemes;
+      lexemes = record { kind = r.kind; start = at; end = at + length (lexeme_bytes names x); line = line } ∷ run.lexemes;
       last = run.last;
       lexed = lexed_first names x xs at line r run;
       terminals = terminals_first names are x xs at line first r run;

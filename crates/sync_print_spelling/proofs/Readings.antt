@@ -22,8 +22,9 @@ use Rattle.sync_lex.specs.Signs as signs
 use Rattle.sync_lex.specs.Signs.{sign_of}
 use Rattle.sync_lex.specs.Strategies as strategies
 use Rattle.sync_lex.specs.Strategies.{strategy_of}
-use Rattle.sync_lex.specs.Terminals.{largest, number_in, names_with, named, said}
-use Rattle.sync_print.specs.Lexemes.{Lexeme, a_sign, a_number, a_name, a_strategy, spelling, spelled, behind_sign, separator}
+use Rattle.sync_lex.specs.Terminals.{number_in, names_with, named, said}
+use Rattle.sync_base.specs.Limits.{largest}
+use Rattle.sync_print.specs.Lexemes.{Lexeme, a_sign, a_number, a_name, a_strategy, spelling, lexeme_bytes, behind_sign, separator}
 use Rattle.sync_print_spelling.specs.Namings.{LexemeFits}
 use Rattle.sync_print_spelling.specs.Printed.{IsName, AreNames}
 use Rattle.sync_print_spelling.proofs.Lexing.{Begins, one_line, IsGap, space_gap, feed_gap, passes, one_sign}
@@ -130,8 +131,8 @@ says_now names before (a_strategy s) = (what.Name (number_in before (strategies.
 
 pub record IsRead (names : NameList) (x : Lexeme) : Type 0 where
   pub kind : Kind
-  pub token : IsToken kind (spelled names x) (separator x)
-  pub says : (before : List Name) → said before kind (spelled names x) ≡ says_now names before x
+  pub token : IsToken kind (lexeme_bytes names x) (separator x)
+  pub says : (before : List Name) → said before kind (lexeme_bytes names x) ≡ says_now names before x
 
 is_name : (names : NameList) → AreNames names.list → (x : ℕ) → x < length names.list → IsName (spelling names x)
 is_name names are x lt =

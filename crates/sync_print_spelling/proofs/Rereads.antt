@@ -2,6 +2,7 @@
 use Rattle.std.proofs.Common.{◌≡◌, ◌<◌, ◌≤◌, ℕ, All, Bool, true, false, List, [], length, Result, Ok, Err, IfOk, inl, inr, refl, sym, ap, ◌∙◌, subst, arith}
 use Rattle.std.specs.Prelude.{nat_lt}
 use Rattle.std.proofs.lemmas.Bool.Decides.{nat_tests}
+use Rattle.sync_base.specs.Limits.{longest_text}
 use Rattle.sync_base.specs.Outcome as outcome
 use Rattle.sync_base.specs.declared.names.Name.{Name}
 use Rattle.sync_base.specs.declared.names.NameList.{NameList}
@@ -56,7 +57,7 @@ module _ (raw : RawText) (fits : TextFits (plain_text raw)) (are : AreNames raw.
       (canonical.only again d, d.3 ∙ ap (λ (z : Terminals). z.names) same ∙ names)
   read_case ws is names says canonical (Err r) e = inr (refused_deep printed_text ws canonical.tree r is (version_one (plain_text raw) says) canonical.spelled e)
 
-  short_read : length printed_text ≤ 1048576 → ReadsBack raw printed_text
+  short_read : length printed_text ≤ longest_text → ReadsBack raw printed_text
   short_read short =
       let p = printed_terminals_in raw.names are (show (plain_text raw)) each short in
       let says = p.1.says named in
@@ -64,13 +65,13 @@ module _ (raw : RawText) (fits : TextFits (plain_text raw)) (are : AreNames raw.
       let names : p.0.names ≡ raw.names = ap (λ (list : List Name). record { list = list }) (p.1.named ∙ named) in
       read_case p.0 p.1.terminals_in names says canonical (parsed printed_text) refl
 
-  long_read : 1048576 < length printed_text → ReadsBack raw printed_text
+  long_read : longest_text < length printed_text → ReadsBack raw printed_text
   long_read over = subst (Rereads raw) (sym (not_terminals_in printed_text (record { line = 1; rule = L1 }) (too_long printed_text over))) (inl refl)
 
   read_back : ReadsBack raw printed_text
-  read_back = by_length (nat_lt 1048576 (length printed_text)) refl
+  read_back = by_length (nat_lt longest_text (length printed_text)) refl
     where
-      by_length : (c : Bool) → nat_lt 1048576 (length printed_text) ≡ c → ReadsBack raw printed_text
+      by_length : (c : Bool) → nat_lt longest_text (length printed_text) ≡ c → ReadsBack raw printed_text
       by_length true e = long_read (grind (arith, nat_tests))
       by_length false e = short_read (grind (arith, nat_tests))
 

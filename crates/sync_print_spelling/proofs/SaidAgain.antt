@@ -14,7 +14,8 @@ use Rattle.sync_lex.specs.Signs as signs
 use Rattle.sync_lex.specs.Signs.{sign_of}
 use Rattle.sync_lex.specs.Strategies as strategies
 use Rattle.sync_lex.specs.Strategies.{strategy_of}
-use Rattle.sync_lex.specs.Terminals.{largest, decimal_after, number_of}
+use Rattle.sync_lex.specs.Terminals.{decimal_after, number_of}
+use Rattle.sync_base.specs.Limits.{largest}
 
 -- ---- numbers
 

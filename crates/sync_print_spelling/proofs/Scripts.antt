@@ -2,10 +2,10 @@
 use Rattle.std.proofs.Common.{◌≡◌, ◌≤◌, ◌+◌, ℕ, zero, suc, List, [], ◌∷◌, ◌++◌, map, refl, ap, ◌∙◌, arith}
 use Rattle.sync_lex.specs.declared.signs.Sign.TheVariants as sign
 use Rattle.sync_lex.specs.declared.terminals.Terminal.{Terminal}
-use Rattle.sync_parse_exprs.specs.declared.naming.Named.{Named}
-use Rattle.sync_parse_exprs.specs.Lexemes.{first_line}
+use Rattle.sync_parse_exprs.specs.declared.raw_names.RawName.{RawName}
+use Rattle.sync_parse_exprs.specs.Terminals.{first_line}
 use Rattle.sync_parse.specs.declared.scripts.RawBlock.{roll-RawBlock, fold-roll-RawBlock}
-use Rattle.sync_parse.specs.declared.scripts.RawStep.{RawStep, roll-RawStep, fold-roll-RawStep}
+use Rattle.sync_parse.specs.declared.scripts.RawScriptStep.{RawScriptStep, roll-RawScriptStep, fold-roll-RawScriptStep}
 use Rattle.sync_parse.specs.declared.scripts.RawStepKind.{RawStepKind}
 use Rattle.sync_parse.specs.declared.scripts.RawStepKind.TheVariants as step
 use Rattle.sync_parse_grammar.specs.Relations.{Many, nothing, more, the_one, the_other}
@@ -16,17 +16,17 @@ use Rattle.sync_print.specs.Lexemes.{one}
 use Rattle.sync_print.specs.ShowExprs.{show_expr}
 use Rattle.sync_print.specs.ShowScripts.{show_hyp, show_as, show_step, show_steps, show_block}
 use Rattle.sync_print_spelling.specs.Says.{Says, no_more}
-use Rattle.sync_print_spelling.specs.Limits.{Fits, HypFits, StepFits, BlockFits}
+use Rattle.sync_print_spelling.specs.Limits.{ExprFits, HypFits, StepFits, BlockFits}
 use Rattle.sync_print_spelling.specs.Laws.{Derives, ShownIsDerived}
 use Rattle.sync_print_spelling.proofs.Terminals.{split as parted, the_sign, here_is, yields, seq}
 use Rattle.sync_print_spelling.proofs.Expressions.{exprs}
 use Rattle.sync_print_spelling.proofs.Hyps.{hyps, the_as}
 use Rattle.sync_print_spelling.proofs.Steps.{said_step, said-Split, said-Cut, same_spelled, sum_spelled, inst_spelled, parts_spelled, read_spelled, size_spelled, total_spelled, cong_spelled}
 
-pub said-Step : (what : RawStepKind) (line : ℕ) → plain_step (roll-RawStep (record { what = what; line = line })) ≡ said_step what
-said-Step what line = fold-roll-RawStep PlainStep PlainBlock PlainStep plain_step_kind plain_in_block plain_at (record { what = what; line = line })
+pub said-Step : (what : RawStepKind) (line : ℕ) → plain_step (roll-RawScriptStep (record { what = what; line = line })) ≡ said_step what
+said-Step what line = fold-roll-RawScriptStep PlainStep PlainBlock PlainStep plain_step_kind plain_in_block plain_at (record { what = what; line = line })
 
-pub said-Block : (steps : List RawStep) (line : ℕ) → plain_block (roll-RawBlock (record { steps = steps; end_line = line })) ≡ block_of (map plain_step steps)
+pub said-Block : (steps : List RawScriptStep) (line : ℕ) → plain_block (roll-RawBlock (record { steps = steps; end_line = line })) ≡ block_of (map plain_step steps)
 said-Block steps line = fold-roll-RawBlock PlainStep PlainBlock PlainStep plain_step_kind plain_in_block plain_at (record { steps = steps; end_line = line })
 
 abbrev mutual
@@ -47,7 +47,7 @@ abbrev mutual
   depth done = 0
   depth (first s b) = depth_of s + depth b
 
-abbrev said_steps : List RawStep → PlainBlock
+abbrev said_steps : List RawScriptStep → PlainBlock
 said_steps xs = block_of (map plain_step xs)
 
 -- a step, and the steps of a block, where so many braces may be open at once
@@ -85,14 +85,14 @@ split_spelled p x b c fits of_b of_c (suc d) enough ts rest h =
     let a = the_as x n2.2 in
     let u = braced b of_b d (omega arith) n3.0 n4.0 n3.2 in
     let v = braced c of_c d (omega arith) n4.0 rest n4.2 in
-    let named : Named = record { name = x; line = a.0 } in
+    let named : RawName = record { name = x; line = a.0 } in
     record {
       raw = step.Split y.raw named u.raw v.raw;
       spelled = the_one (seq s.0 n1.0 s.1 (seq y.raw n2.0 y.spelled (seq named n3.0 a.1 (seq u.raw n4.0 u.spelled (seq v.raw rest v.spelled (yields _))))));
       is = said-Split y.raw named u.raw v.raw ∙ (ap (λ w. split w x (plain_block u.raw) (plain_block v.raw)) y.is ∙ (ap (λ w. split p x w (plain_block v.raw)) u.is ∙ ap (λ w. split p x b w) v.is));
     }
 
-cut_spelled : (e : Plain) (x : ℕ) (b : PlainBlock) → Fits e → OfBlock b → (d : ℕ) → suc (depth b) ≤ d → (ts rest : List Terminal)
+cut_spelled : (e : Plain) (x : ℕ) (b : PlainBlock) → ExprFits e → OfBlock b → (d : ℕ) → suc (depth b) ≤ d → (ts rest : List Terminal)
     → Says (one sign.Cut ++ show_expr e ++ show_as x ++ show_block b) ts rest → Derives (StepKind (Nested d)) said_step (cut e x b) ts rest
 unfolding StepKind Cut
 cut_spelled e x b fits of_b zero enough ts rest h = absurd (omega arith)
@@ -104,7 +104,7 @@ cut_spelled e x b fits of_b (suc d) enough ts rest h =
     let y = exprs.holds e fits n1.0 n2.0 n1.2 in
     let a = the_as x n2.2 in
     let u = braced b of_b d (omega arith) n3.0 rest n3.2 in
-    let named : Named = record { name = x; line = a.0 } in
+    let named : RawName = record { name = x; line = a.0 } in
     record {
       raw = step.Cut y.raw named u.raw;
       spelled = the_other (the_one (seq s.0 n1.0 s.1 (seq y.raw n2.0 y.spelled (seq named n3.0 a.1 (seq u.raw rest u.spelled (yields _))))));
@@ -121,7 +121,7 @@ more_steps s b of_s of_b d enough ts rest h =
     let r = parted (show_step s) (show_steps b) h in
     let y = of_s.reads d (omega arith) ts r.0 r.1 in
     let ys = of_b.reads d (omega arith) r.0 rest r.2 in
-    let x = roll-RawStep (record { what = y.raw; line = first_line ts }) in
+    let x = roll-RawScriptStep (record { what = y.raw; line = first_line ts }) in
     record {
       raw = x ∷ ys.raw;
       spelled = more (seq ts ts here_is (seq y.raw r.0 y.spelled (yields x))) ys.spelled;

@@ -6,8 +6,8 @@ use Rattle.sync_base.specs.declared.names.NameList.{NameList}
 use Rattle.sync_lex.specs.declared.signs.Sign.{Sign}
 use Rattle.sync_lex.specs.declared.signs.Sign.TheVariants as sign
 use Rattle.sync_lex.specs.declared.terminals.Terminal.{Terminal}
-use Rattle.sync_parse_exprs.specs.declared.naming.Named.{Named}
-use Rattle.sync_parse_exprs.specs.declared.expressions.Expr.{Expr}
+use Rattle.sync_parse_exprs.specs.declared.raw_names.RawName.{RawName}
+use Rattle.sync_parse_exprs.specs.declared.expressions.RawExpr.{RawExpr}
 use Rattle.sync_parse.specs.declared.scripts.RawBlock.{RawBlock}
 use Rattle.sync_parse.specs.declared.scripts.RawStepKind.{RawStepKind}
 use Rattle.sync_parse.specs.declared.scripts.RawStepKind.TheVariants as step
@@ -16,7 +16,7 @@ use Rattle.sync_parse_grammar.specs.Scripts.{Same, Sum, Inst, Parts, Lookup, Con
 use Rattle.sync_print.specs.Exprs.{Plain, plain}
 use Rattle.sync_print.specs.Scripts.{PlainStep, PlainBlock, plain_block, plain_step, block_of}
 use Rattle.sync_print.specs.ShowScripts.{show_step, show_steps, show_block, show_lookup}
-use Rattle.sync_print_spelling.specs.Limits.{Fits, StepFits, BlockFits}
+use Rattle.sync_print_spelling.specs.Limits.{ExprFits, StepFits, BlockFits}
 use Rattle.sync_print_spelling.proofs.Told.{Tells, both, behind, nothing, silent, sign_told, name_told, none_read}
 use Rattle.sync_print_spelling.proofs.ListsTold.{Read, Reads, rows, series}
 use Rattle.sync_print_spelling.proofs.ExpressionsTold.{exprs_told, args_told}
@@ -77,9 +77,9 @@ parts_step_told ts rest x d =
       tells = both (both (both (both (both (sign_told sign.Parts d.one) y.tells) (as_told a.value a.one)) (sign_told sign.Comma c.one)) (name_told b.one)) (sign_told sign.Semicolon e.one);
     })
 
-lookup_told : {names : NameList} (opening : Sign) (made : Expr → Expr → Named → RawStepKind) (what : Plain → Plain → ℕ → PlainStep)
-    → ((m k : Expr) (x : Named) → said_step (made m k x) ≡ what (plain m) (plain k) x.name)
-    → ((m k : Plain) (x : ℕ) (ts rest : List Terminal) → Fits m → Fits k → Tells names (show_lookup opening m k x) ts rest → OfStep names (what m k x) ts rest)
+lookup_told : {names : NameList} (opening : Sign) (made : RawExpr → RawExpr → RawName → RawStepKind) (what : Plain → Plain → ℕ → PlainStep)
+    → ((m k : RawExpr) (x : RawName) → said_step (made m k x) ≡ what (plain m) (plain k) x.name)
+    → ((m k : Plain) (x : ℕ) (ts rest : List Terminal) → ExprFits m → ExprFits k → Tells names (show_lookup opening m k x) ts rest → OfStep names (what m k x) ts rest)
     → (ts rest : List Terminal) (x : RawStepKind) → Lookup opening made ts rest x → OfStep names (said_step x) ts rest
 unfolding Lookup
 lookup_told opening made what said of_what ts rest x d =

@@ -4,9 +4,9 @@ use Rattle.std.specs.List.{All}
 use Rattle.sync_lex.specs.declared.signs.Sign.{Sign}
 use Rattle.sync_lex.specs.declared.signs.Sign.TheVariants as sign
 use Rattle.sync_lex.specs.declared.terminals.Terminal.{Terminal}
-use Rattle.sync_parse_exprs.specs.declared.naming.Named.{Named}
-use Rattle.sync_parse_exprs.specs.declared.expressions.Expr.{Expr}
-use Rattle.sync_parse.specs.declared.scripts.RawHyp.{RawHyp}
+use Rattle.sync_parse_exprs.specs.declared.raw_names.RawName.{RawName}
+use Rattle.sync_parse_exprs.specs.declared.expressions.RawExpr.{RawExpr}
+use Rattle.sync_parse.specs.declared.scripts.RawHypName.{RawHypName}
 use Rattle.sync_parse.specs.declared.scripts.RawPart.{RawPart}
 use Rattle.sync_parse.specs.declared.scripts.RawBlock.{RawBlock}
 use Rattle.sync_parse.specs.declared.scripts.RawStepKind.{RawStepKind, fold-RawStepKind, fold-roll-RawStepKind, roll-RawStepKind}
@@ -22,7 +22,7 @@ use Rattle.sync_print.specs.Lexemes.{one, one_name, listed}
 use Rattle.sync_print.specs.ShowExprs.{show_expr}
 use Rattle.sync_print.specs.ShowScripts.{show_hyp, show_part, show_as, show_lookup}
 use Rattle.sync_print_spelling.specs.Says.{Says}
-use Rattle.sync_print_spelling.specs.Limits.{Fits, HypFits, PartFits}
+use Rattle.sync_print_spelling.specs.Limits.{ExprFits, HypFits, PartFits}
 use Rattle.sync_print_spelling.specs.Laws.{Derives}
 use Rattle.sync_print_spelling.proofs.Terminals.{split as parted, the_sign, the_name, yields, seq}
 use Rattle.sync_print_spelling.proofs.Expressions.{exprs}
@@ -41,35 +41,35 @@ pub said-Sum : (ps : List RawPart) → said_step (step.Sum ps) ≡ sum (map plai
 unfolding roll-RawStepKind denote.Hole.Carrier.roll
 said-Sum ps = ap said_step (rolls-Sum ps) ∙ fold-roll-RawStepKind PlainStep PlainBlock PlainStep plain_step_kind plain_in_block plain_at (RawStepKind-F.Sum ps)
 
-pub said-Inst : (h : RawHyp) (es : List Expr) (x : Named) → said_step (step.Inst h es x) ≡ inst (plain_hyp h) (map plain es) x.name
+pub said-Inst : (h : RawHypName) (es : List RawExpr) (x : RawName) → said_step (step.Inst h es x) ≡ inst (plain_hyp h) (map plain es) x.name
 unfolding roll-RawStepKind denote.Hole.Carrier.roll
 said-Inst h es x = ap said_step (rolls-Inst h es x) ∙ fold-roll-RawStepKind PlainStep PlainBlock PlainStep plain_step_kind plain_in_block plain_at (RawStepKind-F.Inst h es x)
 
-pub said-Parts : (h : RawHyp) (x y : Named) → said_step (step.Parts h x y) ≡ parts (plain_hyp h) x.name y.name
+pub said-Parts : (h : RawHypName) (x y : RawName) → said_step (step.Parts h x y) ≡ parts (plain_hyp h) x.name y.name
 unfolding roll-RawStepKind denote.Hole.Carrier.roll
 said-Parts h x y = ap said_step (rolls-Parts h x y) ∙ fold-roll-RawStepKind PlainStep PlainBlock PlainStep plain_step_kind plain_in_block plain_at (RawStepKind-F.Parts h x y)
 
-pub said-Split : (h : RawHyp) (x : Named) (b c : RawBlock) → said_step (step.Split h x b c) ≡ split (plain_hyp h) x.name (plain_block b) (plain_block c)
+pub said-Split : (h : RawHypName) (x : RawName) (b c : RawBlock) → said_step (step.Split h x b c) ≡ split (plain_hyp h) x.name (plain_block b) (plain_block c)
 unfolding roll-RawStepKind denote.Hole.Carrier.roll
 said-Split h x b c = ap said_step (rolls-Split h x b c) ∙ fold-roll-RawStepKind PlainStep PlainBlock PlainStep plain_step_kind plain_in_block plain_at (RawStepKind-F.Split h x b c)
 
-pub said-Cut : (e : Expr) (x : Named) (b : RawBlock) → said_step (step.Cut e x b) ≡ cut (plain e) x.name (plain_block b)
+pub said-Cut : (e : RawExpr) (x : RawName) (b : RawBlock) → said_step (step.Cut e x b) ≡ cut (plain e) x.name (plain_block b)
 unfolding roll-RawStepKind denote.Hole.Carrier.roll
 said-Cut e x b = ap said_step (rolls-Cut e x b) ∙ fold-roll-RawStepKind PlainStep PlainBlock PlainStep plain_step_kind plain_in_block plain_at (RawStepKind-F.Cut e x b)
 
-pub said-Read : (m k : Expr) (x : Named) → said_step (step.Read m k x) ≡ read (plain m) (plain k) x.name
+pub said-Read : (m k : RawExpr) (x : RawName) → said_step (step.Read m k x) ≡ read (plain m) (plain k) x.name
 unfolding roll-RawStepKind denote.Hole.Carrier.roll
 said-Read m k x = ap said_step (rolls-Read m k x) ∙ fold-roll-RawStepKind PlainStep PlainBlock PlainStep plain_step_kind plain_in_block plain_at (RawStepKind-F.Read m k x)
 
-pub said-Size : (m k : Expr) (x : Named) → said_step (step.Size m k x) ≡ size (plain m) (plain k) x.name
+pub said-Size : (m k : RawExpr) (x : RawName) → said_step (step.Size m k x) ≡ size (plain m) (plain k) x.name
 unfolding roll-RawStepKind denote.Hole.Carrier.roll
 said-Size m k x = ap said_step (rolls-Size m k x) ∙ fold-roll-RawStepKind PlainStep PlainBlock PlainStep plain_step_kind plain_in_block plain_at (RawStepKind-F.Size m k x)
 
-pub said-Total : (m k : Expr) (x : Named) → said_step (step.Total m k x) ≡ total (plain m) (plain k) x.name
+pub said-Total : (m k : RawExpr) (x : RawName) → said_step (step.Total m k x) ≡ total (plain m) (plain k) x.name
 unfolding roll-RawStepKind denote.Hole.Carrier.roll
 said-Total m k x = ap said_step (rolls-Total m k x) ∙ fold-roll-RawStepKind PlainStep PlainBlock PlainStep plain_step_kind plain_in_block plain_at (RawStepKind-F.Total m k x)
 
-pub said-Cong : (m j k : Expr) (x : Named) → said_step (step.Cong m j k x) ≡ cong (plain m) (plain j) (plain k) x.name
+pub said-Cong : (m j k : RawExpr) (x : RawName) → said_step (step.Cong m j k x) ≡ cong (plain m) (plain j) (plain k) x.name
 unfolding roll-RawStepKind denote.Hole.Carrier.roll
 said-Cong m j k x = ap said_step (rolls-Cong m j k x) ∙ fold-roll-RawStepKind PlainStep PlainBlock PlainStep plain_step_kind plain_in_block plain_at (RawStepKind-F.Cong m j k x)
 
@@ -92,7 +92,7 @@ sum_spelled inner ps some fit {rest = rest} h =
     let e = the_sign r.2 in
     record { raw = step.Sum x.raw; spelled = the_other (the_other (the_other (the_one (seq s.0 q.0 s.1 (seq x.raw r.0 x.spelled (seq e.0 rest e.1 (yields _))))))); is = said-Sum x.raw ∙ ap sum x.is }
 
-pub inst_spelled : (I : Spelled RawBlock) (p : PlainHyp) (es : List Plain) (x : ℕ) → HypFits p → All Fits es → {ts rest : List Terminal}
+pub inst_spelled : (I : Spelled RawBlock) (p : PlainHyp) (es : List Plain) (x : ℕ) → HypFits p → All ExprFits es → {ts rest : List Terminal}
     → Says (one sign.Inst ++ show_hyp p ++ one sign.OpenRound ++ listed (map show_expr es) ++ one sign.CloseRound ++ show_as x ++ one sign.Semicolon) ts rest
     → Derives (StepKind I) said_step (inst p es x) ts rest
 unfolding StepKind Inst Args
@@ -108,7 +108,7 @@ inst_spelled inner p es x fits fit {rest = rest} h =
     let ys = in_brackets exprs es fit n2.0 n3.0 n4.0 n5.0 n2.2 n3.2 n4.2 in
     let a = the_as x n5.2 in
     let e = the_sign n6.2 in
-    let named : Named = record { name = x; line = a.0 } in
+    let named : RawName = record { name = x; line = a.0 } in
     record {
       raw = step.Inst y.raw ys.raw named;
       spelled = the_other (the_other (the_other (the_other (the_one (seq s.0 n1.0 s.1 (seq y.raw n2.0 y.spelled (seq ys.raw n5.0 ys.spelled (seq named n6.0 a.1 (seq e.0 rest e.1 (yields _))))))))));
@@ -130,17 +130,17 @@ parts_spelled inner p x y fits {rest = rest} h =
     let c = the_sign n3.2 in
     let as_y = the_name n4.2 in
     let e = the_sign n5.2 in
-    let named : Named = record { name = x; line = as_x.0 } in
-    let other : Named = record { name = y; line = as_y.0 } in
+    let named : RawName = record { name = x; line = as_x.0 } in
+    let other : RawName = record { name = y; line = as_y.0 } in
     record {
       raw = step.Parts z.raw named other;
       spelled = the_other (the_other (the_other (the_other (the_other (the_one (seq s.0 n1.0 s.1 (seq z.raw n2.0 z.spelled (seq named n3.0 as_x.1 (seq c.0 n4.0 c.1 (seq other n5.0 as_y.1 (seq e.0 rest e.1 (yields _))))))))))));
       is = said-Parts z.raw named other ∙ ap (λ w. parts w x y) z.is;
     }
 
-lookup_spelled : (opening : Sign) (made : Expr → Expr → Named → RawStepKind) (what : Plain → Plain → ℕ → PlainStep)
-    → ((m k : Expr) (x : Named) → said_step (made m k x) ≡ what (plain m) (plain k) x.name)
-    → (m k : Plain) (x : ℕ) → Fits m → Fits k → {ts rest : List Terminal} → Says (show_lookup opening m k x) ts rest → Derives (Lookup opening made) said_step (what m k x) ts rest
+lookup_spelled : (opening : Sign) (made : RawExpr → RawExpr → RawName → RawStepKind) (what : Plain → Plain → ℕ → PlainStep)
+    → ((m k : RawExpr) (x : RawName) → said_step (made m k x) ≡ what (plain m) (plain k) x.name)
+    → (m k : Plain) (x : ℕ) → ExprFits m → ExprFits k → {ts rest : List Terminal} → Says (show_lookup opening m k x) ts rest → Derives (Lookup opening made) said_step (what m k x) ts rest
 unfolding Lookup
 lookup_spelled opening made what said m k x fit_m fit_k {rest = rest} h =
     let n5 = parted (one opening ++ show_expr m ++ one sign.Comma ++ show_expr k ++ show_as x) (one sign.Semicolon) h in
@@ -154,32 +154,32 @@ lookup_spelled opening made what said m k x fit_m fit_k {rest = rest} h =
     let z = exprs.holds k fit_k n3.0 n4.0 n3.2 in
     let as_x = the_as x n4.2 in
     let e = the_sign n5.2 in
-    let named : Named = record { name = x; line = as_x.0 } in
+    let named : RawName = record { name = x; line = as_x.0 } in
     record {
       raw = made y.raw z.raw named;
       spelled = seq s.0 n1.0 s.1 (seq y.raw n2.0 y.spelled (seq c.0 n3.0 c.1 (seq z.raw n4.0 z.spelled (seq named n5.0 as_x.1 (seq e.0 rest e.1 (yields _))))));
       is = said y.raw z.raw named ∙ (ap (λ w. what w (plain z.raw) x) y.is ∙ ap (λ w. what m w x) z.is);
     }
 
-pub read_spelled : (I : Spelled RawBlock) (m k : Plain) (x : ℕ) → Fits m → Fits k → {ts rest : List Terminal} → Says (show_lookup sign.Read m k x) ts rest → Derives (StepKind I) said_step (read m k x) ts rest
+pub read_spelled : (I : Spelled RawBlock) (m k : Plain) (x : ℕ) → ExprFits m → ExprFits k → {ts rest : List Terminal} → Says (show_lookup sign.Read m k x) ts rest → Derives (StepKind I) said_step (read m k x) ts rest
 unfolding StepKind
 read_spelled inner m k x fit_m fit_k h =
     let y = lookup_spelled sign.Read step.Read read said-Read m k x fit_m fit_k h in
     record { raw = y.raw; spelled = the_other (the_other (the_other (the_other (the_other (the_other (the_one y.spelled)))))); is = y.is }
 
-pub size_spelled : (I : Spelled RawBlock) (m k : Plain) (x : ℕ) → Fits m → Fits k → {ts rest : List Terminal} → Says (show_lookup sign.Size m k x) ts rest → Derives (StepKind I) said_step (size m k x) ts rest
+pub size_spelled : (I : Spelled RawBlock) (m k : Plain) (x : ℕ) → ExprFits m → ExprFits k → {ts rest : List Terminal} → Says (show_lookup sign.Size m k x) ts rest → Derives (StepKind I) said_step (size m k x) ts rest
 unfolding StepKind
 size_spelled inner m k x fit_m fit_k h =
     let y = lookup_spelled sign.Size step.Size size said-Size m k x fit_m fit_k h in
     record { raw = y.raw; spelled = the_other (the_other (the_other (the_other (the_other (the_other (the_other (the_one y.spelled))))))); is = y.is }
 
-pub total_spelled : (I : Spelled RawBlock) (m k : Plain) (x : ℕ) → Fits m → Fits k → {ts rest : List Terminal} → Says (show_lookup sign.Total m k x) ts rest → Derives (StepKind I) said_step (total m k x) ts rest
+pub total_spelled : (I : Spelled RawBlock) (m k : Plain) (x : ℕ) → ExprFits m → ExprFits k → {ts rest : List Terminal} → Says (show_lookup sign.Total m k x) ts rest → Derives (StepKind I) said_step (total m k x) ts rest
 unfolding StepKind
 total_spelled inner m k x fit_m fit_k h =
     let y = lookup_spelled sign.Total step.Total total said-Total m k x fit_m fit_k h in
     record { raw = y.raw; spelled = the_other (the_other (the_other (the_other (the_other (the_other (the_other (the_other (the_one y.spelled)))))))); is = y.is }
 
-pub cong_spelled : (I : Spelled RawBlock) (m j k : Plain) (x : ℕ) → Fits m → Fits j → Fits k → {ts rest : List Terminal} → Says (one sign.Cong ++ show_expr m ++ one sign.Comma ++ show_expr j ++ one sign.Comma ++ show_expr k ++ show_as x ++ one sign.Semicolon) ts rest
+pub cong_spelled : (I : Spelled RawBlock) (m j k : Plain) (x : ℕ) → ExprFits m → ExprFits j → ExprFits k → {ts rest : List Terminal} → Says (one sign.Cong ++ show_expr m ++ one sign.Comma ++ show_expr j ++ one sign.Comma ++ show_expr k ++ show_as x ++ one sign.Semicolon) ts rest
     → Derives (StepKind I) said_step (cong m j k x) ts rest
 unfolding StepKind Cong
 cong_spelled inner m j k x fit_m fit_j fit_k {rest = rest} h =
@@ -198,7 +198,7 @@ cong_spelled inner m j k x fit_m fit_j fit_k {rest = rest} h =
     let v = exprs.holds k fit_k n5.0 n6.0 n5.2 in
     let as_x = the_as x n6.2 in
     let e = the_sign n7.2 in
-    let named : Named = record { name = x; line = as_x.0 } in
+    let named : RawName = record { name = x; line = as_x.0 } in
     record {
       raw = step.Cong y.raw z.raw v.raw named;
       spelled = the_other (the_other (the_other (the_other (the_other (the_other (the_other (the_other (the_other (seq s.0 n1.0 s.1 (seq y.raw n2.0 y.spelled (seq c.0 n3.0 c.1 (seq z.raw n4.0 z.spelled (seq d.0 n5.0 d.1 (seq v.raw n6.0 v.spelled (seq named n7.0 as_x.1 (seq e.0 rest e.1 (yields _)))))))))))))))));

@@ -18,7 +18,8 @@ use Rattle.sync_lex.specs.declared.terminals.Terminal.{Terminal}
 use Rattle.sync_lex.specs.declared.terminals.Terminals.{Terminals}
 use Rattle.sync_lex.specs.Signs.{sign_of}
 use Rattle.sync_lex.specs.Strategies.{strategy_of}
-use Rattle.sync_lex.specs.Terminals.{largest, decimal_after, number_of, number_in, names_with, named, said, bytes_at, terminals_after, terminals_of, terminals_in}
+use Rattle.sync_lex.specs.Terminals.{decimal_after, number_of, number_in, names_with, named, said, bytes_at, terminals_after, terminals_of, terminals_in}
+use Rattle.sync_base.specs.Limits.{largest}
 use Rattle.sync_print.specs.Lexemes.{spelling}
 use Rattle.sync_print_spelling.specs.Namings.{what_name, terminal_names, in_order, SaysTrue, IsTrue, AreTrue}
 use Rattle.sync_print_spelling.proofs.Interning.{spelled_at, spelled_last, number_last_below}

@@ -2,7 +2,7 @@
 use Rattle.std.proofs.Common.{◌≡◌, Option, Some, ℕ, List, [], ◌∷◌, ◌++◌, refl}
 use Rattle.sync_lex.specs.declared.signs.Sign.{Sign}
 use Rattle.sync_lex.specs.declared.terminals.Terminal.{Terminal}
-use Rattle.sync_parse_exprs.specs.declared.expressions.ExprKind.{ExprKind}
+use Rattle.sync_parse_exprs.specs.declared.expressions.RawExprKind.{RawExprKind}
 use Rattle.sync_parse_grammar.specs.Relations.{Spelled, The, AName, ANumber, OneOf, Yields, Here, Then}
 use Rattle.sync_parse_grammar.specs.Expressions.{placed_at, Whole}
 use Rattle.sync_print.specs.Lexemes.{Lexeme, one, one_name, one_number}
@@ -43,5 +43,5 @@ yields x = record { none = refl; is = refl }
 pub seq : {A B : Type 0} {One : Spelled A} {Next : A → Spelled B} {ts rest : List Terminal} {y : B} (x : A) (us : List Terminal) → One ts us x → Next x us rest y → Then One Next ts rest y
 seq x us p q = record { value = x; middle = us; one = p; next = q }
 
-pub whole : {K : Spelled ExprKind} {ts rest : List Terminal} {x : ExprKind} → K ts rest x → Whole K ts rest (placed_at x ts)
+pub whole : {K : Spelled RawExprKind} {ts rest : List Terminal} {x : RawExprKind} → K ts rest x → Whole K ts rest (placed_at x ts)
 whole {ts = ts} {rest = rest} {x = x} h = seq ts ts here_is (seq x rest h (yields _))

@@ -13,10 +13,11 @@ use Rattle.sync_lex.specs.declared.lexemes.Kind.{Kind}
 use Rattle.sync_lex.specs.declared.lexemes.Kind.TheVariants as kind
 use Rattle.sync_lex.specs.declared.lexemes.Lexeme as lexed
 use Rattle.sync_lex.specs.Bytes.{is_blank, begins_name, number_value}
-use Rattle.sync_lex.specs.Punctuation.{signs}
+use Rattle.sync_lex.specs.Punctuation.{punctuation}
 use Rattle.sync_lex.specs.Spelling.{IsSpelled, IsLexeme}
-use Rattle.sync_lex.specs.Pieces.{largest, name_piece, number_piece, sign_piece, piece}
-use Rattle.sync_lex.specs.Lexemes.{Lexed, line_after, with_first, placed, lexemes_from, lexemes_of}
+use Rattle.sync_lex.specs.Pieces.{name_piece, number_piece, sign_piece, piece}
+use Rattle.sync_base.specs.Limits.{longest_text, largest}
+use Rattle.sync_lex.specs.Lexemes.{Lexed, line_after, with_first, with_piece, lexemes_from, lexemes_of}
 use Rattle.sync_lex.proofs.Within.{by_test}
 use Rattle.sync_lex.proofs.Places.{lies}
 use Rattle.sync_lex.specs.declared.signs.Sign.{Sign}
@@ -54,27 +55,27 @@ module _ (at line : ℕ) (follows : ℕ → Lexed) (all : List lexed.Lexeme × �
       let size : (at + len) - at ≡ len = omega arith in
       first_short (record { kind = k; start = at; end = at + len; line = line }) (follows (len - 1)) all (λ is. rw size (short is)) (later (len - 1)) e
 
-  name_short : (len : ℕ) → placed at line (name_piece len) follows ≡ Ok all → AreShort all.0
+  name_short : (len : ℕ) → with_piece at line (name_piece len) follows ≡ Ok all → AreShort all.0
   name_short len =
-      by_test (λ p. placed at line p follows ≡ Ok all → AreShort all.0) (nat_lt 64 len) _ _ (λ _ e. absurd cc) (λ short e. terminal_short kind.Name len (λ _. short_name len short) e)
+      by_test (λ p. with_piece at line p follows ≡ Ok all → AreShort all.0) (nat_lt 64 len) _ _ (λ _ e. absurd cc) (λ short e. terminal_short kind.Name len (λ _. short_name len short) e)
 
-  number_short : (digits : List ℕ) → placed at line (number_piece digits) follows ≡ Ok all → AreShort all.0
+  number_short : (digits : List ℕ) → with_piece at line (number_piece digits) follows ≡ Ok all → AreShort all.0
   number_short digits =
-      by_test (λ p. placed at line p follows ≡ Ok all → AreShort all.0) (nat_lt largest (number_value digits)) _ _ (λ _ e. absurd cc)
+      by_test (λ p. with_piece at line p follows ≡ Ok all → AreShort all.0) (nat_lt largest (number_value digits)) _ _ (λ _ e. absurd cc)
       (λ _ e. terminal_short kind.Number (length digits) (λ is. absurd cc) e)
 
-  sign_short : (len : ℕ) → placed at line (sign_piece len) follows ≡ Ok all → AreShort all.0
+  sign_short : (len : ℕ) → with_piece at line (sign_piece len) follows ≡ Ok all → AreShort all.0
   sign_short zero e = absurd cc
   sign_short (suc len) e = terminal_short kind.Sign (suc len) (λ is. absurd cc) e
 
-  piece_short : (bytes : List ℕ) → placed at line (piece bytes) follows ≡ Ok all → AreShort all.0
+  piece_short : (bytes : List ℕ) → with_piece at line (piece bytes) follows ≡ Ok all → AreShort all.0
   unfolding piece
   piece_short [] e = absurd cc
   piece_short (b ∷ bytes) e =
-      by_test (λ p. placed at line p follows ≡ Ok all → AreShort all.0) (is_blank b) _ _ (λ _. later _ all) (λ _.
-      by_test (λ p. placed at line p follows ≡ Ok all → AreShort all.0) (begins_name b) _ _ (λ _. name_short _) (λ _.
-      by_test (λ p. placed at line p follows ≡ Ok all → AreShort all.0) (is_ascii_digit b) _ _ (λ _. number_short (take_while is_ascii_digit (b ∷ bytes))) (λ _.
-      by_test (λ p. placed at line p follows ≡ Ok all → AreShort all.0) (starts_with nat_eq (b ∷ bytes) (codes "//")) _ _ (λ _. later _ all) (λ _. sign_short _)))) e
+      by_test (λ p. with_piece at line p follows ≡ Ok all → AreShort all.0) (is_blank b) _ _ (λ _. later _ all) (λ _.
+      by_test (λ p. with_piece at line p follows ≡ Ok all → AreShort all.0) (begins_name b) _ _ (λ _. name_short _) (λ _.
+      by_test (λ p. with_piece at line p follows ≡ Ok all → AreShort all.0) (is_ascii_digit b) _ _ (λ _. number_short (take_while is_ascii_digit (b ∷ bytes))) (λ _.
+      by_test (λ p. with_piece at line p follows ≡ Ok all → AreShort all.0) (starts_with nat_eq (b ∷ bytes) (codes "//")) _ _ (λ _. later _ all) (λ _. sign_short _)))) e
 
 short_from : (at line skip : ℕ) (bytes : List ℕ) (all : List lexed.Lexeme × ℕ) → lexemes_from at line skip bytes ≡ Ok all → AreShort all.0
 unfolding lexemes_from
@@ -89,7 +90,7 @@ within false first read all none e = e
 
 all_short : (text : List ℕ) (all : List lexed.Lexeme × ℕ) → lexemes_of text ≡ Ok all → AreShort all.0
 unfolding lexemes_of
-all_short text all e = short_from 0 1 0 text all (within (nat_lt 1048576 (length text)) _ (lexemes_from 0 1 0 text) all (λ a is. absurd cc) e)
+all_short text all e = short_from 0 1 0 text all (within (nat_lt longest_text (length text)) _ (lexemes_from 0 1 0 text) all (λ a is. absurd cc) e)
 
 -- ---- what the bytes of a lexeme are
 
@@ -118,7 +119,7 @@ are_found text (x ∷ xs) each short = (is_found text x each.0 short.0, are_foun
 -- ---- the names
 
 -- each sign of the lexer is a sign of the terminals
-sign_known : list_all (λ bytes. is_some (sign_of bytes)) signs ≡ true
+sign_known : list_all (λ bytes. is_some (sign_of bytes)) punctuation ≡ true
 unfolding sign_of terminals.spelling_of
 sign_known = refl
 
@@ -130,9 +131,9 @@ all_pass : (p : List ℕ → Bool) (xs : List (List ℕ)) → list_all p xs ≡ 
 all_pass p [] e = tt
 all_pass p (x ∷ xs) e = let both = both_true (p x) (list_all p xs) e in (both.0, all_pass p xs both.1)
 
-sign_is_known : (bytes : List ℕ) → Contains signs bytes → is_some (sign_of bytes) ≡ true
+sign_is_known : (bytes : List ℕ) → Contains punctuation bytes → is_some (sign_of bytes) ≡ true
 sign_is_known bytes has =
-    All-contains (λ bytes. is_some (sign_of bytes) ≡ true) signs bytes (All-from_recursion (λ bytes. is_some (sign_of bytes) ≡ true) signs (all_pass (λ bytes. is_some (sign_of bytes)) signs sign_known)) has
+    All-contains (λ bytes. is_some (sign_of bytes) ≡ true) punctuation bytes (All-from_recursion (λ bytes. is_some (sign_of bytes) ≡ true) punctuation (all_pass (λ bytes. is_some (sign_of bytes)) punctuation sign_known)) has
 
 unknown : (o : Option Sign) → o ≡ None → is_some o ≡ true → ⊥
 unknown (Some s) e known = absurd cc

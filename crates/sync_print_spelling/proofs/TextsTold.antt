@@ -6,7 +6,8 @@ use Rattle.sync_base.specs.declared.names.NameList.{NameList}
 use Rattle.sync_lex.specs.declared.signs.Sign.TheVariants as sign
 use Rattle.sync_lex.specs.declared.terminals.Terminal.{Terminal}
 use Rattle.sync_lex.specs.declared.terminals.Terminals.{Terminals}
-use Rattle.sync_lex.specs.Terminals.{largest, terminals_in}
+use Rattle.sync_lex.specs.Terminals.{terminals_in}
+use Rattle.sync_base.specs.Limits.{largest}
 use Rattle.sync_parse.specs.declared.trees.RawText.{RawText}
 use Rattle.sync_parse.specs.declared.trees.RawMachine.{RawMachine}
 use Rattle.sync_parse.specs.declared.trees.RawProof.{RawProof}

@@ -9,8 +9,8 @@ use Rattle.sync_base.specs.declared.strategies.Strategy.{Strategy}
 use Rattle.sync_lex.specs.declared.signs.Sign.{Sign}
 use Rattle.sync_lex.specs.declared.terminals.Terminal.{Terminal}
 use Rattle.sync_lex.specs.Strategies.{spelling_of, strategy_of, strategies}
-use Rattle.sync_lex.specs.Terminals.{largest}
-use Rattle.sync_parse_exprs.specs.declared.naming.Named.{Named}
+use Rattle.sync_base.specs.Limits.{largest}
+use Rattle.sync_parse_exprs.specs.declared.raw_names.RawName.{RawName}
 use Rattle.sync_parse_grammar.specs.Relations.{The, AName, ANumber, AStrategy, OneOf, Yields}
 use Rattle.sync_print.specs.Lexemes.{Lexeme, a_sign, a_number, a_name, a_strategy, one, one_name, one_number, one_strategy, needed, spelling}
 use Rattle.sync_print_spelling.specs.Namings.{names_said, what_name, terminal_names, SaysTrue, IsTrue, AreTrue, LexemeFits}
@@ -120,10 +120,10 @@ number_read {names = names} d = skipped d.terminal d.stands (ap (what_name names
 pub number_told : {names : NameList} {ts rest : List Terminal} {n : ℕ} (m : ℕ) → m ≤ largest → ANumber ts rest n → Tells names (one_number m) ts rest
 number_told m fits d = both (number_read d) (number_shown m fits)
 
-pub name_told : {names : NameList} {ts rest : List Terminal} {x : Named} → AName ts rest x → Tells names (one_name x.name) ts rest
+pub name_told : {names : NameList} {ts rest : List Terminal} {x : RawName} → AName ts rest x → Tells names (one_name x.name) ts rest
 unfolding names_said one_name
 name_told {names = names} {x = x} d =
-    let same : x.name ≡ d.number = ap (λ (y : Named). y.name) d.name_is in
+    let same : x.name ≡ d.number = ap (λ (y : RawName). y.name) d.name_is in
     record {
       told = λ t.
           one_told d.terminal (a_name x.name) (spelling names x.name) d.stands (ap (what_name names) d.is ∙ ap (λ (y : ℕ). Some (spelling names y)) (sym same)) refl

@@ -19,7 +19,7 @@ use Rattle.sync_print.specs.ShowExprs.{show_expr}
 use Rattle.sync_print.specs.ShowScripts.{show_block}
 use Rattle.sync_print.specs.ShowTexts.{show}
 use Rattle.sync_print_spelling.specs.Says.{Says}
-use Rattle.sync_print_spelling.specs.Limits.{Fits, BlockFits, TextFits}
+use Rattle.sync_print_spelling.specs.Limits.{ExprFits, BlockFits, TextFits}
 use Rattle.sync_print_spelling.specs.Namings.{names_said, terminal_names, in_order, LexemeFits}
 
 -- no bytes spell two raw trees
@@ -48,7 +48,7 @@ pub record SaysText (t : PlainText) (text : List ℕ) : Type 0 where
   pub only : (other : RawText) → Spells text other → plain_text other ≡ t
 
 pub record ShowSpells : Type 0 where
-  pub exprs : ShownIsDerived AnExpr plain show_expr Fits
+  pub exprs : ShownIsDerived AnExpr plain show_expr ExprFits
   pub blocks : ShownIsDerived Block plain_block show_block BlockFits
   -- of a text, all of whose terminals say what is shown
   pub texts : (t : PlainText) → TextFits t → (text : List ℕ) (ws : Terminals) → terminals_in text ≡ Ok ws → Says (show t) ws.list [] → SaysText t text

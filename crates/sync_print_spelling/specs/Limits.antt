@@ -1,7 +1,7 @@
 -- What a text can hold: numbers up to 2 ^ 127 - 1, statements with numbers up to 4,294,967,295, and no sum of nothing.
 use Rattle.std.specs.Prelude.{ℕ, ◌≤◌, length, unsigned_abs}
 use Rattle.std.specs.List.{All}
-use Rattle.sync_lex.specs.Terminals.{largest}
+use Rattle.sync_base.specs.Limits.{largest}
 use Rattle.sync_parse_exprs.specs.declared.expressions.Special.{Special}
 use Rattle.sync_parse_exprs.specs.declared.expressions.Special.TheVariants as terminal
 use Rattle.sync_print.specs.Exprs.{Plain, number, name, param, nil, special, call, negation, times, two, Plains, none, more}
@@ -11,20 +11,20 @@ use Rattle.sync_print.specs.Texts.{PlainPattern, bind, term, PlainPlace, value, 
 -- ---- expressions
 
 abbrev mutual
-  pub Fits : Plain → Type 0
-  Fits (number n) = n ≤ largest
-  Fits (name x) = Unit {0}
-  Fits (param x) = Unit {0}
-  Fits nil = Unit {0}
-  Fits (special w) = Unit {0}
-  Fits (call f es) = AllFit es
-  Fits (negation e) = Fits e
-  Fits (times n e) = (n ≤ largest) × Fits e
-  Fits (two o a b) = Fits a × Fits b
+  pub ExprFits : Plain → Type 0
+  ExprFits (number n) = n ≤ largest
+  ExprFits (name x) = Unit {0}
+  ExprFits (param x) = Unit {0}
+  ExprFits nil = Unit {0}
+  ExprFits (special w) = Unit {0}
+  ExprFits (call f es) = AllFit es
+  ExprFits (negation e) = ExprFits e
+  ExprFits (times n e) = (n ≤ largest) × ExprFits e
+  ExprFits (two o a b) = ExprFits a × ExprFits b
 
   pub AllFit : Plains → Type 0
   AllFit none = Unit {0}
-  AllFit (more e es) = Fits e × AllFit es
+  AllFit (more e es) = ExprFits e × AllFit es
 
 -- ---- scripts
 
@@ -58,14 +58,14 @@ abbrev mutual
   pub StepFits : PlainStep → Type 0
   StepFits same = Unit {0}
   StepFits (sum ps) = (1 ≤ length ps) × All PartFits ps
-  StepFits (inst h es x) = HypFits h × All Fits es
+  StepFits (inst h es x) = HypFits h × All ExprFits es
   StepFits (parts h x y) = HypFits h
   StepFits (split h x b c) = HypFits h × BlockFits b × BlockFits c
-  StepFits (cut e x b) = Fits e × BlockFits b
-  StepFits (read m k x) = Fits m × Fits k
-  StepFits (size m k x) = Fits m × Fits k
-  StepFits (total m k x) = Fits m × Fits k
-  StepFits (cong m j k x) = Fits m × Fits j × Fits k
+  StepFits (cut e x b) = ExprFits e × BlockFits b
+  StepFits (read m k x) = ExprFits m × ExprFits k
+  StepFits (size m k x) = ExprFits m × ExprFits k
+  StepFits (total m k x) = ExprFits m × ExprFits k
+  StepFits (cong m j k x) = ExprFits m × ExprFits j × ExprFits k
 
   pub BlockFits : PlainBlock → Type 0
   BlockFits done = Unit {0}
@@ -75,18 +75,18 @@ abbrev mutual
 
 abbrev pub PatternFits : PlainPattern → Type 0
 PatternFits (bind x) = Unit {0}
-PatternFits (term e) = Fits e
+PatternFits (term e) = ExprFits e
 
 abbrev pub PlaceFits : PlainPlace → Type 0
 PlaceFits (value p) = PatternFits p
-PlaceFits (key e) = Fits e
-PlaceFits (entry e p) = Fits e × PatternFits p
+PlaceFits (key e) = ExprFits e
+PlaceFits (entry e p) = ExprFits e × PatternFits p
 
 abbrev pub ActFits : PlainAct → Type 0
-ActFits (init x e) = Fits e
-ActFits (require e) = Fits e
-ActFits (assert e) = Fits e
-ActFits (update x e) = Fits e
+ActFits (init x e) = ExprFits e
+ActFits (require e) = ExprFits e
+ActFits (assert e) = ExprFits e
+ActFits (update x e) = ExprFits e
 ActFits (have_variable x) = Unit {0}
 ActFits (have x p) = PlaceFits p
 ActFits (guard x p) = PlaceFits p
@@ -99,7 +99,7 @@ abbrev pub OperationFits : PlainOperation → Type 0
 OperationFits o = All ActFits o.acts
 
 abbrev pub InvariantFits : PlainInvariant → Type 0
-InvariantFits i = Fits i.form
+InvariantFits i = ExprFits i.form
 
 abbrev pub MachineFits : PlainMachine → Type 0
 MachineFits m = All OperationFits m.operations × All InvariantFits m.invariants

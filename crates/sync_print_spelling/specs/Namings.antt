@@ -7,7 +7,8 @@ use Rattle.sync_lex.specs.declared.terminals.TerminalKind.{TerminalKind}
 use Rattle.sync_lex.specs.declared.terminals.TerminalKind.TheVariants as what
 use Rattle.sync_lex.specs.declared.terminals.Terminal.{Terminal}
 use Rattle.sync_lex.specs.Strategies as strategies
-use Rattle.sync_lex.specs.Terminals.{largest, names_with}
+use Rattle.sync_lex.specs.Terminals.{names_with}
+use Rattle.sync_base.specs.Limits.{largest}
 use Rattle.sync_print.specs.Lexemes.{Lexeme, a_sign, a_number, a_name, a_strategy, spelling}
 
 -- ---- names, in order

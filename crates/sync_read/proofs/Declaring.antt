@@ -7,7 +7,7 @@ use Rattle.sync_machine.specs.declared.fields.Field.{Field}
 use Rattle.sync_machine.specs.States.{strategy_at}
 use Rattle.sync_machine.specs.Naming.{broken, at_line, first_fault, is_in, is_field_name, field_fault}
 use Rattle.sync_machine.proofs.Checks.{first_both}
-use Rattle.sync_parse_exprs.specs.declared.naming.Named.{Named}
+use Rattle.sync_parse_exprs.specs.declared.raw_names.RawName.{RawName}
 use Rattle.sync_parse.specs.declared.trees.RawField.{RawField}
 use Rattle.sync_read_names.specs.declared.scopes.Sort.{Sort}
 use Rattle.sync_read_names.specs.declared.scopes.Meaning.{Meaning}
@@ -46,7 +46,7 @@ one_more judge before (y ∷ ys) x e f =
 abbrev pub declared : Scope → ℕ → Meaning → Scope
 declared s n m = record s { meanings = slice_set s.meanings n m }
 
-pub declare_is : (P : Scope → Type 0) (s : Scope) (named : Named) (m : Meaning)
+pub declare_is : (P : Scope → Type 0) (s : Scope) (named : RawName) (m : Meaning)
     → (named.name < length s.meanings → meaning_of s named.name ≡ meaning.Nothing → P (declared s named.name m)) → IfOk (declare s named m) P
 declare_is P s named m h = below (nat_lt named.name (length s.meanings)) refl where
   new : named.name < length s.meanings → (x : Meaning) → meaning_of s named.name ≡ x → IfOk (if_new x named (declared s named.name m)) P

@@ -18,8 +18,8 @@ use Rattle.sync_machine.specs.Scope.{knows}
 use Rattle.sync_machine.specs.Naming.{broken, at_line, first_fault, formula_fault, is_in, bound_names, repeated, parameter_fault, step_fault, field_fault, is_field_name, is_operation_name, is_invariant_name, is_taken, start_fault, head_fault, operation_fault, invariant_rule, invariant_fault, machine_fault}
 use Rattle.sync_machine.specs.Naming as naming
 use Rattle.sync_machine.proofs.Checks.{list_any_view}
-use Rattle.sync_parse_exprs.specs.declared.naming.Named.{Named}
-use Rattle.sync_parse.specs.declared.trees.RawAct.{RawAct}
+use Rattle.sync_parse_exprs.specs.declared.raw_names.RawName.{RawName}
+use Rattle.sync_parse.specs.declared.trees.RawStep.{RawStep}
 use Rattle.sync_parse.specs.declared.trees.RawOperation.{RawOperation}
 use Rattle.sync_parse.specs.declared.trees.RawInvariant.{RawInvariant}
 use Rattle.sync_parse.specs.declared.trees.RawMachine.{RawMachine}
@@ -49,7 +49,7 @@ record Begun (x : Owner) (fs : List Field) (taken : List ℕ) (n : ℕ) (s : Sco
   no_field : is_field_name fs n ≡ false
   no_other : is_in n taken ≡ false
 
-begun : (x : Owner) (F : Owner → Type 0) (fs : List Field) (taken : List ℕ) (s : Scope) (named : Named) (m : Meaning) → Between fs taken F s
+begun : (x : Owner) (F : Owner → Type 0) (fs : List Field) (taken : List ℕ) (s : Scope) (named : RawName) (m : Meaning) → Between fs taken F s
     → is_field m ≡ false → (m ≡ meaning.Nothing → ⊥) → IsCounted x → F x → ((y : Owner) → IsLater x y → F y)
     → IfOk (declare s named m >>= λ t. Ok (record t { owner = x })) (Begun x fs taken named.name)
 begun x F fs taken s named m h plain some counted here later =
@@ -120,7 +120,7 @@ ended x fs taken names now G s h e f = fewer fs taken now (IsLater s.owner) G s 
 
 -- ---- first values
 
-starts_at : (fs : List Field) (acts : List RawAct) → starts_once fs acts ≡ true → (i : ℕ) → i < length fs → (start_count (name_at fs i) 0 acts == 1) ≡ true
+starts_at : (fs : List Field) (acts : List RawStep) → starts_once fs acts ≡ true → (i : ℕ) → i < length fs → (start_count (name_at fs i) 0 acts == 1) ≡ true
 unfolding starts_once
 starts_at [] acts e i low = absurd (omega arith)
 starts_at (f ∷ fs) acts e zero low = here (start_count f.name 0 acts == 1) e where
@@ -136,7 +136,7 @@ all_from : (p : ℕ → Bool) (a n : ℕ) → ((i : ℕ) → i < a + n → p i �
 all_from p a zero h = refl
 all_from p a (suc n) h = and_from (p a) (list_all p (range_with_len (a + 1) n)) (h a (omega arith)) (all_from p (a + 1) n (λ i low. h i (omega arith)))
 
-started : (m : OpMode) (fs : List Field) (acts : List RawAct) (steps : List StepTree) → is_started m fs acts ≡ true
+started : (m : OpMode) (fs : List Field) (acts : List RawStep) (steps : List StepTree) → is_started m fs acts ≡ true
     → ((i : ℕ) → i < length fs → counted i steps ≡ start_count (name_at fs i) 0 acts) → start_fault fs m steps ≡ None
 unfolding naming.is_started
 started mode.Init fs acts steps e same =
@@ -153,14 +153,14 @@ operation_names os = map (λ (o : OperationTree). o.name) os
 record HasBegun (number : ℕ) (fs : List Field) (taken : List ℕ) (o : RawOperation) (s : Scope) : Type 0 where
   begun : Begun (owner.Operation number) fs taken o.name.name s
   few : number < 64
-  starts : is_started o.mode fs o.acts ≡ true
+  starts : is_started o.mode fs o.steps ≡ true
 
 begin_operation_is : (number : ℕ) (fs : List Field) (taken : List ℕ) (s : Scope) (o : RawOperation) → Between fs taken (OperationsFrom number) s
     → IfOk (begin_operation number fs s o) (HasBegun number fs taken o)
 unfolding begin_operation
 begin_operation_is number fs taken s o h =
     let x : Owner = owner.Operation number in
-    if_ok (HasBegun number fs taken o) (is_started o.mode fs o.acts) _ _ (λ e.
+    if_ok (HasBegun number fs taken o) (is_started o.mode fs o.steps) _ _ (λ e.
     after_ok (HasBegun number fs taken o) (λ n. number < 64) (within 64 number o.line) _ (within_ok 64 number o.line) (λ n few.
     weaker (Begun x fs taken o.name.name) (HasBegun number fs taken o) (declare s o.name (meaning.Operation number) >>= λ t. Ok (record t { owner = x }))
     (begun x (OperationsFrom number) fs taken s o.name (meaning.Operation number) h refl (λ d. absurd cc) few (omega arith) (operations_later number))
@@ -180,14 +180,14 @@ operation_is fs held s o h =
     let now : List ℕ = taken ++ o.name.name ∷ [] in
     after_ok (IsOperation fs held) (HasBegun number fs taken o) (begin_operation number fs s o) _ (begin_operation_is number fs taken s o h) (λ s2 b.
     after_ok (IsOperation fs held) (λ y. AreParams true x fs now y.0 y.1) (params_from true [] s2 o.params) _ (params_are true x fs now [] s2 o.params (record { inside = b.begun.inside; passed = refl })) (λ ps p.
-    after_ok (IsOperation fs held) (Made x fs now ps.0 [] o.acts) (steps_from [] ps.1 o.acts) _
-    (steps_are x fs now ps.0 [] ps.1 o.acts (record { inside = subst (λ ns. Inside x fs now ns ps.1) (sym (append-nil ps.0)) p.inside; passed = refl })) (λ xs m.
+    after_ok (IsOperation fs held) (Made x fs now ps.0 [] o.steps) (steps_from [] ps.1 o.steps) _
+    (steps_are x fs now ps.0 [] ps.1 o.steps (record { inside = subst (λ ns. Inside x fs now ns ps.1) (sym (append-nil ps.0)) p.inside; passed = refl })) (λ xs m.
     let made : OperationTree = record { name = o.name.name; mode = o.mode; params = ps.0; steps = xs.0; line = o.line } in
     let names : is_taken fs held o.name.name ≡ false = or_from (is_field_name fs o.name.name) (is_operation_name held o.name.name) b.begun.no_field
     (sym (list_any_view (nat_eq o.name.name) (λ (y : OperationTree). y.name) held) ∙ b.begun.no_other) in
     let params = first_fault (parameter_fault fs) [] ps.0 in
     let head : head_fault fs held made ≡ None =
-    both (start_fault fs o.mode xs.0) (first (broken (nat_le 64 number) N5) (first (broken (is_taken fs held o.name.name) N2) params)) (started o.mode fs o.acts xs.0 b.starts m.counts)
+    both (start_fault fs o.mode xs.0) (first (broken (nat_le 64 number) N5) (first (broken (is_taken fs held o.name.name) N2) params)) (started o.mode fs o.steps xs.0 b.starts m.counts)
     (both (broken (nat_le 64 number) N5) (first (broken (is_taken fs held o.name.name) N2) params) (no_limit 64 number b.few)
     (both (broken (is_taken fs held o.name.name) N2) params (ap (λ b. broken b N2) names) p.passed)) in
     record {

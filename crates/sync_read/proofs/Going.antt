@@ -13,8 +13,8 @@ use Rattle.sync_machine.specs.declared.machine.Operation.{Operation}
 use Rattle.sync_machine.specs.declared.machine.Invariant.{Invariant}
 use Rattle.sync_machine.specs.Machines.{ActTree, StepTree, OperationTree, InvariantTree}
 use Rattle.sync_machine.specs.Views.{act_tree, step_tree, steps_tree, operation_tree, invariant_tree, HasActIds}
-use Rattle.sync_parse_exprs.specs.declared.expressions.Expr.{Expr}
-use Rattle.sync_parse.specs.declared.trees.RawAct.{RawAct}
+use Rattle.sync_parse_exprs.specs.declared.expressions.RawExpr.{RawExpr}
+use Rattle.sync_parse.specs.declared.trees.RawStep.{RawStep}
 use Rattle.sync_parse.specs.declared.trees.RawOperation.{RawOperation}
 use Rattle.sync_parse.specs.declared.trees.RawInvariant.{RawInvariant}
 use Rattle.sync_parse.specs.declared.trees.RawProof.{RawProof}
@@ -83,16 +83,16 @@ go_on from make opens old new scope next raw i o held more x want below item kep
 
 -- ---- statements
 
-abbrev steps_rest : List StepTree → RawAct → List RawAct → ActTree × Scope → Result (List StepTree × Scope) Refusal
+abbrev steps_rest : List StepTree → RawStep → List RawStep → ActTree × Scope → Result (List StepTree × Scope) Refusal
 steps_rest held a rest x = steps_from (held ++ record { act = x.0; line = a.line } ∷ []) x.1 rest
 
-pub steps_go : (s t : Stored) (scope next : Scope) (raw : List RawAct) (i : ℕ) (a : RawAct) (held more : List Step) (x : Step) (n : ℕ) (want : Result (List StepTree × Scope) Refusal)
+pub steps_go : (s t : Stored) (scope next : Scope) (raw : List RawStep) (i : ℕ) (a : RawStep) (held more : List Step) (x : Step) (n : ℕ) (want : Result (List StepTree × Scope) Refusal)
     → i < length raw → a ≡ get_or raw i a → Extends s t → AllByRecursion (λ (y : Step). HasActIds s y.act) held
     → within 64 (length held) a.line ≡ Ok n → act_in a.what scope ≡ Ok (act_tree t x.act, next) → x.line ≡ a.line → more ≡ held ++ x ∷ []
     → steps_from (steps_tree s held) scope (drop i raw) ≡ want → steps_from (steps_tree t more) next (drop (i + 1) raw) ≡ want
 unfolding steps_from
 steps_go s t scope next raw i a held more x n want below item grows ids few acts line is so_far =
-    let rest : List RawAct = drop (i + 1) raw in
+    let rest : List RawStep = drop (i + 1) raw in
     let trees : steps_tree t more ≡ steps_tree s held ++ record { act = act_tree t x.act; line = a.line } ∷ [] =
     seen (step_tree s) (step_tree t) held more x is (steps_kept s t held grows ids) ∙ ap (λ (l : ℕ). steps_tree s held ++ record { act = act_tree t x.act; line = l } ∷ []) line in
     let few_trees : within 64 (length (steps_tree s held)) a.line ≡ Ok n = ap (λ (k : ℕ). within 64 k a.line) (length-map held (step_tree s)) ∙ few in
@@ -129,11 +129,11 @@ invariants_go s t scope next raw i o held more x want below item grows ids made 
 
 -- ---- scripts
 
-numbers_open : (scope : Scope) (held : List Tree) (e : Expr) (rest : List Expr) → numbers_from held scope (e ∷ rest) ≡ (term_of sort.Number e scope >>= (λ y. numbers_from (held ++ y ∷ []) scope rest))
+numbers_open : (scope : Scope) (held : List Tree) (e : RawExpr) (rest : List RawExpr) → numbers_from held scope (e ∷ rest) ≡ (term_of sort.Number e scope >>= (λ y. numbers_from (held ++ y ∷ []) scope rest))
 unfolding numbers_from
 numbers_open scope held e rest = refl
 
-pub numbers_go : {X : Type 0} (scope : Scope) (view : X → Tree) (raw : List Expr) (i : ℕ) (e : Expr) (held more : List X) (x : X) (want : Result (List Tree) Refusal)
+pub numbers_go : {X : Type 0} (scope : Scope) (view : X → Tree) (raw : List RawExpr) (i : ℕ) (e : RawExpr) (held more : List X) (x : X) (want : Result (List Tree) Refusal)
     → i < length raw → e ≡ get_or raw i e → term_of sort.Number e scope ≡ Ok (view x) → more ≡ held ++ x ∷ []
     → numbers_from (map view held) scope (drop i raw) ≡ want → numbers_from (map view more) scope (drop (i + 1) raw) ≡ want
 numbers_go scope = go (λ held. numbers_from held scope) (λ e. term_of sort.Number e scope) (numbers_open scope)

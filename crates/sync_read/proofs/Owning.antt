@@ -13,7 +13,7 @@ use Rattle.sync_base.specs.declared.strategies.Strategy.TheVariants.{Variable, C
 use Rattle.sync_machine.specs.States.{Sort as Values, Numbers, Maps, sort_of, strategy_at}
 use Rattle.sync_machine.specs.Scope.{knows}
 use Rattle.sync_machine.specs.Naming.{is_in, is_fields, repeated, broken}
-use Rattle.sync_parse_exprs.specs.declared.naming.Named.{Named}
+use Rattle.sync_parse_exprs.specs.declared.raw_names.RawName.{RawName}
 use Rattle.sync_read_names.specs.declared.scopes.Sort.{Sort}
 use Rattle.sync_read_names.specs.declared.scopes.Sort.TheVariants as sort
 use Rattle.sync_read_names.specs.declared.scopes.Meaning.{Meaning}
@@ -218,7 +218,7 @@ meaning_within s n h = within (slice_get s.meanings n) refl where
   within (Some m) e = slice_get_within s.meanings n m e
   within None e = absurd (h (ap or_nothing e))
 
-module _ (x : Owner) (fs : List Field) (taken names : List ℕ) (s : Scope) (h : Inside x fs taken names s) (named : Named) (w : Owners) (there : slice_get s.owners named.name ≡ Some w) where
+module _ (x : Owner) (fs : List Field) (taken names : List ℕ) (s : Scope) (h : Inside x fs taken names s) (named : RawName) (w : Owners) (there : slice_get s.owners named.name ≡ Some w) where
   abbrev name : ℕ
   name = named.name
 
@@ -289,7 +289,7 @@ pub record Owned (x : Owner) (fs : List Field) (taken names : List ℕ) (y : ℕ
   pub inside : Inside x fs taken (names ++ y ∷ []) s
   pub new : repeated fs names y ≡ None
 
-pub own_is : (x : Owner) (fs : List Field) (taken names : List ℕ) (s : Scope) (named : Named) → Inside x fs taken names s → IfOk (own s named) (Owned x fs taken names (symbol_of named.name))
+pub own_is : (x : Owner) (fs : List Field) (taken names : List ℕ) (s : Scope) (named : RawName) → Inside x fs taken names s → IfOk (own s named) (Owned x fs taken names (symbol_of named.name))
 own_is x fs taken names s named h = there (slice_get s.owners named.name) refl where
   there : (o : Option Owners) → slice_get s.owners named.name ≡ o → IfOk (own_more o s named) (Owned x fs taken names (symbol_of named.name))
   there None e = tt

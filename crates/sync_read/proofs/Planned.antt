@@ -17,12 +17,12 @@ use Rattle.sync_terms.specs.declared.scripts.StepKind.TheOpen.{StepKind-F}
 use Rattle.sync_terms.specs.declared.scripts.StepKind.TheVariants as made
 use Rattle.sync_terms.specs.declared.scripts.StepKind.TheVariants.{rolls-Sum as made-Sum, rolls-Inst as made-Inst, rolls-Parts as made-Parts, rolls-Split as made-Split, rolls-Cut as made-Cut}
 use Rattle.sync_terms.specs.Plans.{Plan, Sum, Inst, Parts, Split, Cut, End, Then, kind_plan, block_plan, step_plan, steps_before, plan_of}
-use Rattle.sync_parse_exprs.specs.declared.expressions.Expr.{Expr}
-use Rattle.sync_parse_exprs.specs.declared.naming.Named.{Named}
-use Rattle.sync_parse.specs.declared.scripts.RawHyp.{RawHyp}
+use Rattle.sync_parse_exprs.specs.declared.expressions.RawExpr.{RawExpr}
+use Rattle.sync_parse_exprs.specs.declared.raw_names.RawName.{RawName}
+use Rattle.sync_parse.specs.declared.scripts.RawHypName.{RawHypName}
 use Rattle.sync_parse.specs.declared.scripts.RawPart.{RawPart}
 use Rattle.sync_parse.specs.declared.scripts.RawBlock.{RawBlock, out-RawBlock, fold_out-RawBlock}
-use Rattle.sync_parse.specs.declared.scripts.RawStep.{RawStep, out-RawStep, fold_out-RawStep}
+use Rattle.sync_parse.specs.declared.scripts.RawScriptStep.{RawScriptStep, out-RawScriptStep, fold_out-RawScriptStep}
 use Rattle.sync_parse.specs.declared.scripts.RawStepKind.{RawStepKind, fold-RawStepKind, fold-roll-RawStepKind}
 use Rattle.sync_parse.specs.declared.scripts.RawStepKind.TheOpen.{RawStepKind-F}
 use Rattle.sync_parse.specs.declared.scripts.RawStepKind.TheVariants as raw
@@ -37,8 +37,8 @@ use Rattle.sync_read.specs.Scripts.{Kind, hyp_in, parts_from, numbers_from, kind
 abbrev raw_kind : Scope → RawStepKind → Kind
 raw_kind s = fold-RawStepKind Kind (Result Plan Refusal) (Result Then Refusal) (kind_in s) block_in step_in
 
-step_is : (s : Scope) (x : RawStep) → step_of s x ≡ raw_kind s (out-RawStep x).what (out-RawStep x).line
-step_is s x = fold_out-RawStep Kind (Result Plan Refusal) (Result Then Refusal) (kind_in s) block_in step_in x
+step_is : (s : Scope) (x : RawScriptStep) → step_of s x ≡ raw_kind s (out-RawScriptStep x).what (out-RawScriptStep x).line
+step_is s x = fold_out-RawScriptStep Kind (Result Plan Refusal) (Result Then Refusal) (kind_in s) block_in step_in x
 
 abbrev made_kind : Stored → StepKind → ℕ → Then
 made_kind t = fold-StepKind (ℕ → Then) Plan Then (kind_plan t) block_plan step_plan
@@ -53,7 +53,7 @@ plan_is : (t : Stored) (steps : List ScriptStep) (line : ℕ) → plan_of t (rol
 plan_is t steps line = fold-roll-Block (ℕ → Then) Plan Then (kind_plan t) block_plan step_plan (record { steps = steps; end_line = line })
 
 -- a block whose steps are made
-pub block_made : (s : Scope) (t : Stored) (b : RawBlock) (items : List RawStep) (i : ℕ) (steps : List ScriptStep) → length items ≤ i → items ≡ (out-RawBlock b).steps
+pub block_made : (s : Scope) (t : Stored) (b : RawBlock) (items : List RawScriptStep) (i : ℕ) (steps : List ScriptStep) → length items ≤ i → items ≡ (out-RawBlock b).steps
     → thens_from (map (then_of t) steps) (map (step_of s) (drop i items)) ≡ thens_from [] (map (step_of s) items)
     → block_of s b ≡ Ok (plan_of t (roll-Block (record { steps = steps; end_line = (out-RawBlock b).end_line })))
 unfolding thens_from
@@ -64,7 +64,7 @@ block_made s t b items i steps past are so_far =
     block_is s b ∙ ap (λ r. r >>= (λ xs. Ok (steps_before xs (End line)))) all ∙ ap Ok (sym (plan_is t steps line))
 
 -- a block one of whose steps is not made
-pub block_stops : (e : Stop) (s : Scope) (b : RawBlock) (items : List RawStep) (i : ℕ) (x : RawStep) (held : List Then) → i < length items → x ≡ get_or items i x → items ≡ (out-RawBlock b).steps
+pub block_stops : (e : Stop) (s : Scope) (b : RawBlock) (items : List RawScriptStep) (i : ℕ) (x : RawScriptStep) (held : List Then) → i < length items → x ≡ get_or items i x → items ≡ (out-RawBlock b).steps
     → thens_from held (map (step_of s) (drop i items)) ≡ thens_from [] (map (step_of s) items) → Stops e (step_of s x) → Stops e (block_of s b)
 unfolding thens_from
 block_stops Memory s b items i x held below item are so_far h = tt
@@ -78,11 +78,11 @@ block_stops (Refused r) s b items i x held below item are so_far h =
 
 -- ---- kinds of steps
 
-pub sum_made : (s : Scope) (t : Stored) (x : RawStep) (parts : List RawPart) (ps : List Part) → (out-RawStep x).what ≡ raw.Sum parts → parts_from [] parts ≡ Ok ps
-    → step_of s x ≡ Ok (then_of t (roll-ScriptStep (record { what = made.Sum ps; line = (out-RawStep x).line })))
+pub sum_made : (s : Scope) (t : Stored) (x : RawScriptStep) (parts : List RawPart) (ps : List Part) → (out-RawScriptStep x).what ≡ raw.Sum parts → parts_from [] parts ≡ Ok ps
+    → step_of s x ≡ Ok (then_of t (roll-ScriptStep (record { what = made.Sum ps; line = (out-RawScriptStep x).line })))
 sum_made s t x parts ps is h =
-    let line = (out-RawStep x).line in
-    let said : raw_kind s (out-RawStep x).what line ≡ Ok (Sum line ps) =
+    let line = (out-RawScriptStep x).line in
+    let said : raw_kind s (out-RawScriptStep x).what line ≡ Ok (Sum line ps) =
     ap (λ k. raw_kind s k line) (is ∙ sym (rolls-Sum parts))
     ∙ ap (λ (f : Kind). f line) (fold-roll-RawStepKind Kind (Result Plan Refusal) (Result Then Refusal) (kind_in s) block_in step_in (RawStepKind-F.Sum parts))
     ∙ ap (λ r. r >>= (λ ps. Ok (Sum line ps))) h in
@@ -92,12 +92,12 @@ sum_made s t x parts ps is h =
     ∙ ap (λ (f : ℕ → Then). f line) (fold-roll-StepKind (ℕ → Then) Plan Then (kind_plan t) block_plan step_plan (StepKind-F.Sum ps)) in
     step_is s x ∙ said ∙ ap Ok (sym meant)
 
-pub inst_made : (s : Scope) (t : Stored) (x : RawStep) (h : RawHyp) (es : List Expr) (n : Named) (y : HypName) (ids : List TermId) → (out-RawStep x).what ≡ raw.Inst h es n
+pub inst_made : (s : Scope) (t : Stored) (x : RawScriptStep) (h : RawHypName) (es : List RawExpr) (n : RawName) (y : HypName) (ids : List TermId) → (out-RawScriptStep x).what ≡ raw.Inst h es n
     → hyp_in h ≡ Ok y → numbers_from [] s es ≡ Ok (map (tree t) ids)
-    → step_of s x ≡ Ok (then_of t (roll-ScriptStep (record { what = made.Inst y ids n.name; line = (out-RawStep x).line })))
+    → step_of s x ≡ Ok (then_of t (roll-ScriptStep (record { what = made.Inst y ids n.name; line = (out-RawScriptStep x).line })))
 inst_made s t x h es n y ids is hyps terms =
-    let line = (out-RawStep x).line in
-    let said : raw_kind s (out-RawStep x).what line ≡ Ok (Inst line y (map (tree t) ids) n.name) =
+    let line = (out-RawScriptStep x).line in
+    let said : raw_kind s (out-RawScriptStep x).what line ≡ Ok (Inst line y (map (tree t) ids) n.name) =
     ap (λ k. raw_kind s k line) (is ∙ sym (rolls-Inst h es n))
     ∙ ap (λ (f : Kind). f line) (fold-roll-RawStepKind Kind (Result Plan Refusal) (Result Then Refusal) (kind_in s) block_in step_in (RawStepKind-F.Inst h es n))
     ∙ ap (λ r. r >>= (λ x. numbers_from [] s es >>= (λ ts. Ok (Inst line x ts n.name)))) hyps
@@ -108,11 +108,11 @@ inst_made s t x h es n y ids is hyps terms =
     ∙ ap (λ (f : ℕ → Then). f line) (fold-roll-StepKind (ℕ → Then) Plan Then (kind_plan t) block_plan step_plan (StepKind-F.Inst y ids n.name)) in
     step_is s x ∙ said ∙ ap Ok (sym meant)
 
-pub parts_made : (s : Scope) (t : Stored) (x : RawStep) (h : RawHyp) (a b : Named) (y : HypName) → (out-RawStep x).what ≡ raw.Parts h a b → hyp_in h ≡ Ok y
-    → step_of s x ≡ Ok (then_of t (roll-ScriptStep (record { what = made.Parts y a.name b.name; line = (out-RawStep x).line })))
+pub parts_made : (s : Scope) (t : Stored) (x : RawScriptStep) (h : RawHypName) (a b : RawName) (y : HypName) → (out-RawScriptStep x).what ≡ raw.Parts h a b → hyp_in h ≡ Ok y
+    → step_of s x ≡ Ok (then_of t (roll-ScriptStep (record { what = made.Parts y a.name b.name; line = (out-RawScriptStep x).line })))
 parts_made s t x h a b y is hyps =
-    let line = (out-RawStep x).line in
-    let said : raw_kind s (out-RawStep x).what line ≡ Ok (Parts line y a.name b.name) =
+    let line = (out-RawScriptStep x).line in
+    let said : raw_kind s (out-RawScriptStep x).what line ≡ Ok (Parts line y a.name b.name) =
     ap (λ k. raw_kind s k line) (is ∙ sym (rolls-Parts h a b))
     ∙ ap (λ (f : Kind). f line) (fold-roll-RawStepKind Kind (Result Plan Refusal) (Result Then Refusal) (kind_in s) block_in step_in (RawStepKind-F.Parts h a b))
     ∙ ap (λ r. r >>= (λ x. Ok (Parts line x a.name b.name))) hyps in
@@ -123,33 +123,33 @@ parts_made s t x h a b y is hyps =
     step_is s x ∙ said ∙ ap Ok (sym meant)
 
 -- the blocks of a split, where its hypothesis is read
-split_is : (s : Scope) (x : RawStep) (h : RawHyp) (n : Named) (b c : RawBlock) (y : HypName) → (out-RawStep x).what ≡ raw.Split h n b c → hyp_in h ≡ Ok y
-    → step_of s x ≡ (block_of s b >>= (λ p. block_of s c >>= (λ q. Ok (Split (out-RawStep x).line y n.name p q))))
+split_is : (s : Scope) (x : RawScriptStep) (h : RawHypName) (n : RawName) (b c : RawBlock) (y : HypName) → (out-RawScriptStep x).what ≡ raw.Split h n b c → hyp_in h ≡ Ok y
+    → step_of s x ≡ (block_of s b >>= (λ p. block_of s c >>= (λ q. Ok (Split (out-RawScriptStep x).line y n.name p q))))
 split_is s x h n b c y is hyps =
-    let line = (out-RawStep x).line in
+    let line = (out-RawScriptStep x).line in
     step_is s x
     ∙ ap (λ k. raw_kind s k line) (is ∙ sym (rolls-Split h n b c))
     ∙ ap (λ (f : Kind). f line) (fold-roll-RawStepKind Kind (Result Plan Refusal) (Result Then Refusal) (kind_in s) block_in step_in (RawStepKind-F.Split h n b c))
     ∙ ap (λ r. r >>= (λ x. block_of s b >>= (λ p. block_of s c >>= (λ q. Ok (Split line x n.name p q))))) hyps
 
-pub first_stops : (e : Stop) (s : Scope) (x : RawStep) (h : RawHyp) (n : Named) (b c : RawBlock) (y : HypName) → (out-RawStep x).what ≡ raw.Split h n b c → hyp_in h ≡ Ok y
+pub first_stops : (e : Stop) (s : Scope) (x : RawScriptStep) (h : RawHypName) (n : RawName) (b c : RawBlock) (y : HypName) → (out-RawScriptStep x).what ≡ raw.Split h n b c → hyp_in h ≡ Ok y
     → Stops e (block_of s b) → Stops e (step_of s x)
 first_stops Memory s x h n b c y is hyps stops = tt
 first_stops (Refused r) s x h n b c y is hyps stops =
-    split_is s x h n b c y is hyps ∙ ap (λ r. r >>= (λ p. block_of s c >>= (λ q. Ok (Split (out-RawStep x).line y n.name p q)))) stops
+    split_is s x h n b c y is hyps ∙ ap (λ r. r >>= (λ p. block_of s c >>= (λ q. Ok (Split (out-RawScriptStep x).line y n.name p q)))) stops
 
-pub second_stops : (e : Stop) (s : Scope) (x : RawStep) (h : RawHyp) (n : Named) (b c : RawBlock) (y : HypName) (p : Plan) → (out-RawStep x).what ≡ raw.Split h n b c → hyp_in h ≡ Ok y
+pub second_stops : (e : Stop) (s : Scope) (x : RawScriptStep) (h : RawHypName) (n : RawName) (b c : RawBlock) (y : HypName) (p : Plan) → (out-RawScriptStep x).what ≡ raw.Split h n b c → hyp_in h ≡ Ok y
     → block_of s b ≡ Ok p → Stops e (block_of s c) → Stops e (step_of s x)
 second_stops Memory s x h n b c y p is hyps one stops = tt
 second_stops (Refused r) s x h n b c y p is hyps one stops =
-    split_is s x h n b c y is hyps ∙ ap (λ r. r >>= (λ p. block_of s c >>= (λ q. Ok (Split (out-RawStep x).line y n.name p q)))) one
-    ∙ ap (λ r. r >>= (λ q. Ok (Split (out-RawStep x).line y n.name p q))) stops
+    split_is s x h n b c y is hyps ∙ ap (λ r. r >>= (λ p. block_of s c >>= (λ q. Ok (Split (out-RawScriptStep x).line y n.name p q)))) one
+    ∙ ap (λ r. r >>= (λ q. Ok (Split (out-RawScriptStep x).line y n.name p q))) stops
 
-pub split_made : (s : Scope) (t : Stored) (x : RawStep) (h : RawHyp) (n : Named) (b c : RawBlock) (y : HypName) (p q : Block) → (out-RawStep x).what ≡ raw.Split h n b c
+pub split_made : (s : Scope) (t : Stored) (x : RawScriptStep) (h : RawHypName) (n : RawName) (b c : RawBlock) (y : HypName) (p q : Block) → (out-RawScriptStep x).what ≡ raw.Split h n b c
     → hyp_in h ≡ Ok y → block_of s b ≡ Ok (plan_of t p) → block_of s c ≡ Ok (plan_of t q)
-    → step_of s x ≡ Ok (then_of t (roll-ScriptStep (record { what = made.Split y n.name p q; line = (out-RawStep x).line })))
+    → step_of s x ≡ Ok (then_of t (roll-ScriptStep (record { what = made.Split y n.name p q; line = (out-RawScriptStep x).line })))
 split_made s t x h n b c y p q is hyps one two =
-    let line = (out-RawStep x).line in
+    let line = (out-RawScriptStep x).line in
     let said : step_of s x ≡ Ok (Split line y n.name (plan_of t p) (plan_of t q)) =
     split_is s x h n b c y is hyps
     ∙ ap (λ r. r >>= (λ p. block_of s c >>= (λ q. Ok (Split line y n.name p q)))) one
@@ -160,12 +160,12 @@ split_made s t x h n b c y p q is hyps one two =
     ∙ ap (λ (f : ℕ → Then). f line) (fold-roll-StepKind (ℕ → Then) Plan Then (kind_plan t) block_plan step_plan (StepKind-F.Split y n.name p q)) in
     said ∙ ap Ok (sym meant)
 
-pub cut_made : (s : Scope) (t : Stored) (x : RawStep) (e : Expr) (n : Named) (b : RawBlock) (f : FormId) (p : Block) → (out-RawStep x).what ≡ raw.Cut e n b
+pub cut_made : (s : Scope) (t : Stored) (x : RawScriptStep) (e : RawExpr) (n : RawName) (b : RawBlock) (f : FormId) (p : Block) → (out-RawScriptStep x).what ≡ raw.Cut e n b
     → form_of e s ≡ Ok (formula t f) → block_of s b ≡ Ok (plan_of t p)
-    → step_of s x ≡ Ok (then_of t (roll-ScriptStep (record { what = made.Cut f n.name p; line = (out-RawStep x).line })))
+    → step_of s x ≡ Ok (then_of t (roll-ScriptStep (record { what = made.Cut f n.name p; line = (out-RawScriptStep x).line })))
 cut_made s t x e n b f p is forms one =
-    let line = (out-RawStep x).line in
-    let said : raw_kind s (out-RawStep x).what line ≡ Ok (Cut line (formula t f) n.name (plan_of t p)) =
+    let line = (out-RawScriptStep x).line in
+    let said : raw_kind s (out-RawScriptStep x).what line ≡ Ok (Cut line (formula t f) n.name (plan_of t p)) =
     ap (λ k. raw_kind s k line) (is ∙ sym (rolls-Cut e n b))
     ∙ ap (λ (f : Kind). f line) (fold-roll-RawStepKind Kind (Result Plan Refusal) (Result Then Refusal) (kind_in s) block_in step_in (RawStepKind-F.Cut e n b))
     ∙ ap (λ r. r >>= (λ f. block_of s b >>= (λ p. Ok (Cut line f n.name p)))) forms

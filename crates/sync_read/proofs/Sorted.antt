@@ -11,10 +11,10 @@ use Rattle.sync_machine.specs.States.{Numbers, Maps}
 use Rattle.sync_machine.specs.Scope.{Known}
 use Rattle.sync_machine.specs.Naming.{sort_fault, number_fault, map_fault, formula_fault}
 use Rattle.sync_parse_exprs.specs.declared.expressions.Special.{Special}
-use Rattle.sync_parse_exprs.specs.declared.naming.Named.{Named}
-use Rattle.sync_parse_exprs.specs.declared.expressions.Expr.{Expr, ind-Expr, map-Expr, roll-Expr, fold-roll-Expr}
-use Rattle.sync_parse_exprs.specs.declared.expressions.ExprKind.{ExprKind, fold-ExprKind, fold-roll-ExprKind, roll-ExprKind, map-ExprKind}
-use Rattle.sync_parse_exprs.specs.declared.expressions.ExprKind.TheOpen.{ExprKind-F, Expr-F}
+use Rattle.sync_parse_exprs.specs.declared.raw_names.RawName.{RawName}
+use Rattle.sync_parse_exprs.specs.declared.expressions.RawExpr.{RawExpr, ind-RawExpr, map-RawExpr, roll-RawExpr, fold-roll-RawExpr}
+use Rattle.sync_parse_exprs.specs.declared.expressions.RawExprKind.{RawExprKind, fold-RawExprKind, fold-roll-RawExprKind, roll-RawExprKind, map-RawExprKind}
+use Rattle.sync_parse_exprs.specs.declared.expressions.RawExprKind.TheOpen.{RawExprKind-F, RawExpr-F}
 use Rattle.sync_parse_exprs.specs.declared.expressions.Function.{Function}
 use Rattle.sync_parse_exprs.specs.declared.expressions.Function.TheVariants as function
 use Rattle.sync_parse_exprs.specs.declared.expressions.Operator.{Operator}
@@ -102,18 +102,18 @@ module _ (s : Scope) (k : Known) (agrees : Agrees s k) where
 
   -- ---- kinds of expressions
 
-  number_good : (n : ℤ) (line : ℕ) → Good (kind_reading (ExprKind-F.Number n) line)
+  number_good : (n : ℤ) (line : ℕ) → Good (kind_reading (RawExprKind-F.Number n) line)
   unfolding number_fault
   number_good n line = record { number = refl; mapping = tt; form = tt }
 
-  nil_good : (line : ℕ) → Good (kind_reading ExprKind-F.Nil line)
+  nil_good : (line : ℕ) → Good (kind_reading RawExprKind-F.Nil line)
   unfolding number_fault
   nil_good line = record { number = tt; mapping = refl; form = tt }
 
-  special_good : (w : Special) (at line : ℕ) → Good (kind_reading (ExprKind-F.Special w at) line)
+  special_good : (w : Special) (at line : ℕ) → Good (kind_reading (RawExprKind-F.Special w at) line)
   special_good w at line = record { number = tt; mapping = tt; form = tt }
 
-  named_number : (named : Named) (r : Refusal) (b : Bool) (m : Meaning) → is_local s named.name ≡ b → meaning_of s named.name ≡ m
+  named_number : (named : RawName) (r : Refusal) (b : Bool) (m : Meaning) → is_local s named.name ≡ b → meaning_of s named.name ≡ m
       → IfOk (if clashes sort.Number (if b then Some sort.Number else field_sort m) then Err r else ((if b then Ok (symbol_of named.name) else field_symbol m named.line) >>= λ x. Ok (trees.Name x))) IsNumber
   named_number named r true m e f = name_number (symbol_of named.name) (agrees.own named.name e)
   named_number named r false Nothing e f = tt
@@ -123,7 +123,7 @@ module _ (s : Scope) (k : Known) (agrees : Agrees s k) where
   named_number named r false (Operation i) e f = tt
   named_number named r false (Invariant i) e f = tt
 
-  named_map : (named : Named) (r : Refusal) (b : Bool) (m : Meaning) → is_local s named.name ≡ b → meaning_of s named.name ≡ m
+  named_map : (named : RawName) (r : Refusal) (b : Bool) (m : Meaning) → is_local s named.name ≡ b → meaning_of s named.name ≡ m
       → IfOk (if clashes sort.Map (if b then Some sort.Number else field_sort m) then Err r else ((if b then Ok (symbol_of named.name) else field_symbol m named.line) >>= λ x. Ok (trees.Name x))) IsMap
   named_map named r true m e f = tt
   named_map named r false Nothing e f = tt
@@ -138,43 +138,43 @@ module _ (s : Scope) (k : Known) (agrees : Agrees s k) where
   refused P true x y = tt
   refused P false x y = tt
 
-  name_good : (named : Named) (line : ℕ) → Good (kind_reading (ExprKind-F.Name named) line)
+  name_good : (named : RawName) (line : ℕ) → Good (kind_reading (RawExprKind-F.Name named) line)
   name_good named line =
-      let r : Refusal = misfit (kind_reading (ExprKind-F.Name named) line) s in record {
+      let r : Refusal = misfit (kind_reading (RawExprKind-F.Name named) line) s in record {
         number = named_number named r (is_local s named.name) (meaning_of s named.name) refl refl;
         mapping = named_map named r (is_local s named.name) (meaning_of s named.name) refl refl;
-        form = refused IsFormula (clashes sort.Formula ((kind_reading (ExprKind-F.Name named) line).sort s)) r _;
+        form = refused IsFormula (clashes sort.Formula ((kind_reading (RawExprKind-F.Name named) line).sort s)) r _;
       }
 
-  param_term : (P : Tree → Type 0) (wanted : Sort) (at line : ℕ) (named : Named) (r : Refusal) (b : Bool) → b ≡ false
+  param_term : (P : Tree → Type 0) (wanted : Sort) (at line : ℕ) (named : RawName) (r : Refusal) (b : Bool) → b ≡ false
       → IfOk (if clashes wanted (if b then Some sort.Number else None) then Err r else ((if b then (if is_owned s s.claim named.name then Ok (param_symbol_of named.name) else refuse N1 named.line) else refuse N1 at) >>= λ x. Ok (trees.Name x))) P
   param_term P wanted at line named r true e = absurd (true≢false e)
   param_term P wanted at line named r false e = tt
 
-  param_good : (at line : ℕ) (named : Named) → Good (kind_reading (ExprKind-F.Param at named) line)
+  param_good : (at line : ℕ) (named : RawName) → Good (kind_reading (RawExprKind-F.Param at named) line)
   param_good at line named =
-      let r : Refusal = misfit (kind_reading (ExprKind-F.Param at named) line) s in record {
+      let r : Refusal = misfit (kind_reading (RawExprKind-F.Param at named) line) s in record {
         number = param_term IsNumber sort.Number at line named r (knows_params s.claim) agrees.nobody;
         mapping = param_term IsMap sort.Map at line named r (knows_params s.claim) agrees.nobody;
-        form = refused IsFormula (clashes sort.Formula ((kind_reading (ExprKind-F.Param at named) line).sort s)) r _;
+        form = refused IsFormula (clashes sort.Formula ((kind_reading (RawExprKind-F.Param at named) line).sort s)) r _;
       }
 
-  bracketed_good : (r : Reading) (line : ℕ) → Good r → Good (kind_reading (ExprKind-F.Bracketed r) line)
+  bracketed_good : (r : Reading) (line : ℕ) → Good r → Good (kind_reading (RawExprKind-F.Bracketed r) line)
   bracketed_good r line h = record {
     number = other_refusal IsNumber (clashes sort.Number (r.sort s)) _ _ (r.term s) h.number;
     mapping = other_refusal IsMap (clashes sort.Map (r.sort s)) _ _ (r.term s) h.mapping;
     form = other_refusal IsFormula (clashes sort.Formula (r.sort s)) _ _ (r.form s) h.form;
   }
 
-  not_good : (r : Reading) (line : ℕ) → Good r → Good (kind_reading (ExprKind-F.Not r) line)
+  not_good : (r : Reading) (line : ℕ) → Good r → Good (kind_reading (RawExprKind-F.Not r) line)
   unfolding formula_fault
   not_good r line h = record { number = tt; mapping = tt; form = after_ok IsFormula IsFormula (form_as r s) _ h.form (λ f p. p) }
 
-  minus_good : (r : Reading) (line : ℕ) → Good r → Good (kind_reading (ExprKind-F.Minus r) line)
+  minus_good : (r : Reading) (line : ℕ) → Good r → Good (kind_reading (RawExprKind-F.Minus r) line)
   unfolding number_fault
   minus_good r line h = record { number = after_ok IsNumber IsNumber (term_as sort.Number r s) _ h.number (λ t p. p); mapping = tt; form = tt }
 
-  times_good : (n : ℤ) (r : Reading) (line : ℕ) → Good r → Good (kind_reading (ExprKind-F.Times n r) line)
+  times_good : (n : ℤ) (r : Reading) (line : ℕ) → Good r → Good (kind_reading (RawExprKind-F.Times n r) line)
   unfolding number_fault
   times_good n r line h = record { number = after_ok IsNumber IsNumber (term_as sort.Number r s) _ h.number (λ t p. p); mapping = tt; form = tt }
 
@@ -213,7 +213,7 @@ module _ (s : Scope) (k : Known) (agrees : Agrees s k) where
   joined_form : (op : Operator) (a b : Reading) → Good a → Good b → IfOk (two_in true op a b s) IsFormula
   joined_form op a b p q = after_ok IsFormula (λ p. IsFormula p.0 × IsFormula p.1) (forms_as a b s) _ (forms_is a b p q) (λ t h. joined_is op t.0 t.1 h.0 h.1)
 
-  two_good : (op : Operator) (a b : Reading) (line : ℕ) → Good a → Good b → Good (kind_reading (ExprKind-F.Two op a b) line)
+  two_good : (op : Operator) (a b : Reading) (line : ℕ) → Good a → Good b → Good (kind_reading (RawExprKind-F.Two op a b) line)
   two_good operator.Plus a b line p q = record { number = sum_term operator.Plus a b p q; mapping = tt; form = tt }
   two_good operator.Minus a b line p q = record { number = sum_term operator.Minus a b p q; mapping = tt; form = tt }
   two_good operator.Implies a b line p q = record { number = tt; mapping = tt; form = joined_form operator.Implies a b p q }
@@ -236,7 +236,7 @@ module _ (s : Scope) (k : Known) (agrees : Agrees s k) where
     of_two : (make : Tree → Tree → Tree → Tree) → ((m x y : Tree) → IsMap m → IsNumber x → IsNumber y → IsMap (make m x y)) → IfOk (map_and_two args line s >>= (λ p. Ok (make p.0 p.1 p.2))) IsMap
     of_two make is = after_ok IsMap ThreeSorted (map_and_two args line s) _ (two_is args line h) (λ t q. is t.0 t.1 t.2 q.0 q.1 q.2)
 
-    call_good : (f : Function) (at : ℕ) → Good (kind_reading (ExprKind-F.Call f line args) at)
+    call_good : (f : Function) (at : ℕ) → Good (kind_reading (RawExprKind-F.Call f line args) at)
     unfolding number_fault applied call_term
     call_good function.Get at = record {
       number = unless_ok IsNumber (call_fault function.Get line (length args)) _ (of_key IsNumber trees.Get (λ m x p q. both (map_fault k m) (number_fault k x) p q));
@@ -269,55 +269,55 @@ module _ (s : Scope) (k : Known) (agrees : Agrees s k) where
 
   -- ---- every expression
 
-  abbrev kind : ExprKind → Kind
-  kind = fold-ExprKind Kind Reading kind_reading expr_reading
+  abbrev kind : RawExprKind → Kind
+  kind = fold-RawExprKind Kind Reading kind_reading expr_reading
 
-  abbrev GoodKind : ExprKind → Type 0
+  abbrev GoodKind : RawExprKind → Type 0
   GoodKind x = (line : ℕ) → Good (kind x line)
 
-  abbrev GoodExpr : Expr → Type 0
+  abbrev GoodExpr : RawExpr → Type 0
   GoodExpr e = Good (reading e)
 
   abbrev KindThat : Type 0
-  KindThat = (x : ExprKind) × GoodKind x
+  KindThat = (x : RawExprKind) × GoodKind x
 
   abbrev ExprThat : Type 0
-  ExprThat = (e : Expr) × GoodExpr e
+  ExprThat = (e : RawExpr) × GoodExpr e
 
   all_good : (es : List ExprThat) → AllByRecursion Good (map reading (map (λ e. e.0) es))
   all_good [] = tt
   all_good (e ∷ es) = (e.1, all_good es)
 
-  abbrev plain : ExprKind-F KindThat ExprThat → ExprKind-F ExprKind Expr
-  plain y = map-ExprKind KindThat ExprThat ExprKind Expr (λ e. e.0) (λ e. e.0) y
+  abbrev plain : RawExprKind-F KindThat ExprThat → RawExprKind-F RawExprKind RawExpr
+  plain y = map-RawExprKind KindThat ExprThat RawExprKind RawExpr (λ e. e.0) (λ e. e.0) y
 
-  layer_good : (y : ExprKind-F KindThat ExprThat) (line : ℕ) → Good (kind_reading (map-ExprKind ExprKind Expr Kind Reading kind reading (plain y)) line)
-  layer_good (ExprKind-F.Number n) line = number_good n line
-  layer_good (ExprKind-F.Name named) line = name_good named line
-  layer_good (ExprKind-F.Param at named) line = param_good at line named
-  layer_good ExprKind-F.Nil line = nil_good line
-  layer_good (ExprKind-F.Bracketed e) line = bracketed_good (reading e.0) line e.1
-  layer_good (ExprKind-F.Special word at) line = special_good word at line
-  layer_good (ExprKind-F.Call f at args) line = call_good (map reading (map (λ e. e.0) args)) at (all_good args) f line
-  layer_good (ExprKind-F.Not e) line = not_good (reading e.0) line e.1
-  layer_good (ExprKind-F.Minus e) line = minus_good (reading e.0) line e.1
-  layer_good (ExprKind-F.Times n e) line = times_good n (reading e.0) line e.1
-  layer_good (ExprKind-F.Two op a b) line = two_good op (reading a.0) (reading b.0) line a.1 b.1
+  layer_good : (y : RawExprKind-F KindThat ExprThat) (line : ℕ) → Good (kind_reading (map-RawExprKind RawExprKind RawExpr Kind Reading kind reading (plain y)) line)
+  layer_good (RawExprKind-F.Number n) line = number_good n line
+  layer_good (RawExprKind-F.Name named) line = name_good named line
+  layer_good (RawExprKind-F.Param at named) line = param_good at line named
+  layer_good RawExprKind-F.Nil line = nil_good line
+  layer_good (RawExprKind-F.Bracketed e) line = bracketed_good (reading e.0) line e.1
+  layer_good (RawExprKind-F.Special word at) line = special_good word at line
+  layer_good (RawExprKind-F.Call f at args) line = call_good (map reading (map (λ e. e.0) args)) at (all_good args) f line
+  layer_good (RawExprKind-F.Not e) line = not_good (reading e.0) line e.1
+  layer_good (RawExprKind-F.Minus e) line = minus_good (reading e.0) line e.1
+  layer_good (RawExprKind-F.Times n e) line = times_good n (reading e.0) line e.1
+  layer_good (RawExprKind-F.Two op a b) line = two_good op (reading a.0) (reading b.0) line a.1 b.1
 
-  kind_good : (y : ExprKind-F KindThat ExprThat) → GoodKind (roll-ExprKind (plain y))
-  kind_good y line = subst (λ (x : Kind). Good (x line)) (sym (fold-roll-ExprKind Kind Reading kind_reading expr_reading (plain y))) (layer_good y line)
+  kind_good : (y : RawExprKind-F KindThat ExprThat) → GoodKind (roll-RawExprKind (plain y))
+  kind_good y line = subst (λ (x : Kind). Good (x line)) (sym (fold-roll-RawExprKind Kind Reading kind_reading expr_reading (plain y))) (layer_good y line)
 
-  expr_good : (y : Expr-F KindThat ExprThat) → GoodExpr (roll-Expr (map-Expr KindThat ExprThat ExprKind Expr (λ e. e.0) (λ e. e.0) y))
-  expr_good y = subst Good (sym (fold-roll-Expr Kind Reading kind_reading expr_reading (map-Expr KindThat ExprThat ExprKind Expr (λ e. e.0) (λ e. e.0) y))) (y.what.1 y.line)
+  expr_good : (y : RawExpr-F KindThat ExprThat) → GoodExpr (roll-RawExpr (map-RawExpr KindThat ExprThat RawExprKind RawExpr (λ e. e.0) (λ e. e.0) y))
+  expr_good y = subst Good (sym (fold-roll-RawExpr Kind Reading kind_reading expr_reading (map-RawExpr KindThat ExprThat RawExprKind RawExpr (λ e. e.0) (λ e. e.0) y))) (y.what.1 y.line)
 
-  good : (e : Expr) → GoodExpr e
-  good = ind-Expr GoodKind GoodExpr (λ x y is. subst (λ z. GoodKind (roll-ExprKind z)) is (kind_good y)) (λ x y is. subst (λ z. GoodExpr (roll-Expr z)) is (expr_good y))
+  good : (e : RawExpr) → GoodExpr e
+  good = ind-RawExpr GoodKind GoodExpr (λ x y is. subst (λ z. GoodKind (roll-RawExprKind z)) is (kind_good y)) (λ x y is. subst (λ z. GoodExpr (roll-RawExpr z)) is (expr_good y))
 
-  pub term_number : (e : Expr) → IfOk (term_of sort.Number e s) (λ t. number_fault k t ≡ None)
+  pub term_number : (e : RawExpr) → IfOk (term_of sort.Number e s) (λ t. number_fault k t ≡ None)
   term_number e = unless_ok IsNumber (start_fault (reading e) s) _ (good e).number
 
-  pub term_map : (e : Expr) → IfOk (term_of sort.Map e s) (λ t. map_fault k t ≡ None)
+  pub term_map : (e : RawExpr) → IfOk (term_of sort.Map e s) (λ t. map_fault k t ≡ None)
   term_map e = unless_ok IsMap (start_fault (reading e) s) _ (good e).mapping
 
-  pub form_is : (e : Expr) → IfOk (form_of e s) (λ f. formula_fault k f ≡ None)
+  pub form_is : (e : RawExpr) → IfOk (form_of e s) (λ f. formula_fault k f ≡ None)
   form_is e = unless_ok IsFormula (start_fault (reading e) s) _ (good e).form

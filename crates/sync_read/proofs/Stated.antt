@@ -17,15 +17,15 @@ use Rattle.sync_machine.specs.Statements.{binds, bound_in}
 use Rattle.sync_machine.specs.States.{sort_of, strategy_at}
 use Rattle.sync_machine.specs.Scope.{Known, knows}
 use Rattle.sync_machine.specs.Naming.{broken, at_line, first_fault, number_fault, formula_fault, value_fault, bound_by, bound_names, repeated, unknown_field, key_fault, pattern_fault, on_place, on_value, act_fault, step_fault, initialises, parameter_fault}
-use Rattle.sync_parse_exprs.specs.declared.expressions.Expr.{Expr}
-use Rattle.sync_parse_exprs.specs.declared.naming.Named.{Named}
+use Rattle.sync_parse_exprs.specs.declared.expressions.RawExpr.{RawExpr}
+use Rattle.sync_parse_exprs.specs.declared.raw_names.RawName.{RawName}
 use Rattle.sync_parse.specs.declared.trees.RawPattern.{RawPattern}
 use Rattle.sync_parse.specs.declared.trees.RawPattern.TheVariants as pattern
 use Rattle.sync_parse.specs.declared.trees.RawPlace.{RawPlace}
 use Rattle.sync_parse.specs.declared.trees.RawPlace.TheVariants as place
-use Rattle.sync_parse.specs.declared.trees.RawActKind.{RawActKind}
-use Rattle.sync_parse.specs.declared.trees.RawActKind.TheVariants as raw
 use Rattle.sync_parse.specs.declared.trees.RawAct.{RawAct}
+use Rattle.sync_parse.specs.declared.trees.RawAct.TheVariants as raw
+use Rattle.sync_parse.specs.declared.trees.RawStep.{RawStep}
 use Rattle.sync_read_names.specs.declared.scopes.Sort.{Sort}
 use Rattle.sync_read_names.specs.declared.scopes.Sort.TheVariants as sort
 use Rattle.sync_read_names.specs.declared.scopes.Meaning.{Meaning}
@@ -52,7 +52,7 @@ pub record AreParams (limited : Bool) (x : Owner) (fs : List Field) (taken names
   pub inside : Inside x fs taken names s
   pub passed : first_fault (given_fault limited fs) [] names ≡ None
 
-one_param : (limited : Bool) (x : Owner) (fs : List Field) (taken names : List ℕ) (s : Scope) (named : Named) → AreParams limited x fs taken names s
+one_param : (limited : Bool) (x : Owner) (fs : List Field) (taken names : List ℕ) (s : Scope) (named : RawName) → AreParams limited x fs taken names s
     → IfOk (add_param limited (length names) s named) (AreParams limited x fs taken (names ++ symbol_of named.name ∷ []))
 one_param true x fs taken names s named h =
     let y : ℕ = symbol_of named.name in
@@ -68,7 +68,7 @@ one_param false x fs taken names s named h =
       passed = one_more (repeated fs) [] names y h.passed o.new;
     })
 
-pub params_are : (limited : Bool) (x : Owner) (fs : List Field) (taken names : List ℕ) (s : Scope) (ns : List Named) → AreParams limited x fs taken names s
+pub params_are : (limited : Bool) (x : Owner) (fs : List Field) (taken names : List ℕ) (s : Scope) (ns : List RawName) → AreParams limited x fs taken names s
     → IfOk (params_from limited names s ns) (λ y. AreParams limited x fs taken y.0 y.1)
 unfolding params_from
 params_are limited x fs taken names s [] h = h
@@ -85,7 +85,7 @@ record IsField (fs : List Field) (n : ℕ) (y : ℕ × Sort) : Type 0 where
   named : name_at fs y.0 ≡ n
   sorted : strategy_sort (strategy_at fs y.0) ≡ y.1
 
-found_field : (fs : List Field) (s : Scope) (named : Named) → HasFields fs s → IfOk (field_in s named) (IsField fs named.name)
+found_field : (fs : List Field) (s : Scope) (named : RawName) → HasFields fs s → IfOk (field_in s named) (IsField fs named.name)
 found_field fs s named h = found (meaning_of s named.name) refl where
   found : (m : Meaning) → meaning_of s named.name ≡ m → IfOk (field_meaning m named.line) (IsField fs named.name)
   found (meaning.Field i t) e = let f = field_is fs s named.name i t h e in record { below = f.0; named = f.1; sorted = f.2 }
@@ -111,7 +111,7 @@ same_field fs s n j i h below is low =
     (sym (h.named i low) ∙ ap (meaning_of s) (sym e ∙ sym is) ∙ h.named j below))
     (λ e. sym is ∙ ap (name_at fs) (sym e))
 
-value_is : (s : Scope) (k : Known) → Agrees s k → (st : Strategy) (e : Expr) → IfOk (term_of (strategy_sort st) e s) (λ t. value_fault k (sort_of st) t ≡ None)
+value_is : (s : Scope) (k : Known) → Agrees s k → (st : Strategy) (e : RawExpr) → IfOk (term_of (strategy_sort st) e s) (λ t. value_fault k (sort_of st) t ≡ None)
 unfolding sort_of
 value_is s k h Variable e = term_number s k h e
 value_is s k h Constant e = term_number s k h e
@@ -173,7 +173,7 @@ module _ (x : Owner) (fs : List Field) (taken names : List ℕ) (s : Scope) (h :
     passed : on_place fs names y.0 y.1 ≡ None
     behind : Behind (binds y.1) y.2
 
-  field_place_is : (named : Named) (p : RawPlace) → IfOk (field_place named p s) IsFieldPlace
+  field_place_is : (named : RawName) (p : RawPlace) → IfOk (field_place named p s) IsFieldPlace
   field_place_is named p =
       after_ok IsFieldPlace (IsField fs named.name) (field_in s named) _ (found_field fs s named fields) (λ f q.
       after_ok IsFieldPlace IsPlace (place_in p s) _ (place_is p) (λ y r. record {
@@ -185,7 +185,7 @@ module _ (x : Owner) (fs : List Field) (taken names : List ℕ) (s : Scope) (h :
     passed : on_value fs names y.0 y.1 ≡ None
     same : (i : ℕ) → i < length fs → (n == name_at fs i) ≡ nat_eq i y.0
 
-  field_term_is : (named : Named) (e : Expr) → IfOk (field_term named e s) (IsFieldTerm named.name)
+  field_term_is : (named : RawName) (e : RawExpr) → IfOk (field_term named e s) (IsFieldTerm named.name)
   field_term_is named e =
       after_ok (IsFieldTerm named.name) (IsField fs named.name) (field_in s named) _ (found_field fs s named fields) (λ f q.
       after_ok (IsFieldTerm named.name) (λ t. value_fault known (sort_of (strategy_at fs f.0)) t ≡ None) (term_of f.1 e s) _
@@ -195,12 +195,12 @@ module _ (x : Owner) (fs : List Field) (taken names : List ℕ) (s : Scope) (h :
         same = λ i low. same_field fs s named.name f.0 i fields q.below q.named low;
       }))
 
-  record IsAct (a : RawActKind) (y : ActTree × Scope) : Type 0 where
+  record IsAct (a : RawAct) (y : ActTree × Scope) : Type 0 where
     passed : act_fault fs names y.0 ≡ None
     behind : Behind (bound_by y.0) y.1
     same : (i : ℕ) → i < length fs → starts (name_at fs i) a ≡ initialises i y.0
 
-  act_is : (a : RawActKind) → IfOk (act_in a s) (IsAct a)
+  act_is : (a : RawAct) → IfOk (act_in a s) (IsAct a)
   unfolding act_fault bound_by
   act_is (raw.Init named e) =
       after_ok (IsAct (raw.Init named e)) (IsFieldTerm named.name) (field_term named e s) _ (field_term_is named e) (λ y q. record { passed = q.passed; behind = unbound; same = q.same })
@@ -236,7 +236,7 @@ pub record AreSteps (x : Owner) (fs : List Field) (taken params : List ℕ) (hel
   pub passed : first_fault (step_fault fs params) [] held ≡ None
 
 -- the statements, with as many of each field as the raw ones have beyond those that were held before
-pub record Made (x : Owner) (fs : List Field) (taken params : List ℕ) (held : List StepTree) (acts : List RawAct) (y : List StepTree × Scope) : Type 0 where
+pub record Made (x : Owner) (fs : List Field) (taken params : List ℕ) (held : List StepTree) (acts : List RawStep) (y : List StepTree × Scope) : Type 0 where
   pub are : AreSteps x fs taken params y.0 y.1
   pub counts : (i : ℕ) → i < length fs → counted i y.0 ≡ start_count (name_at fs i) (counted i held) acts
 
@@ -254,7 +254,7 @@ one_count i held t b e =
       added true = refl
       added false = omega arith
 
-pub steps_are : (x : Owner) (fs : List Field) (taken params : List ℕ) (held : List StepTree) (s : Scope) (acts : List RawAct) → AreSteps x fs taken params held s
+pub steps_are : (x : Owner) (fs : List Field) (taken params : List ℕ) (held : List StepTree) (s : Scope) (acts : List RawStep) → AreSteps x fs taken params held s
     → IfOk (steps_from held s acts) (Made x fs taken params held acts)
 unfolding steps_from start_count step_fault
 steps_are x fs taken params held s [] h = record { are = h; counts = λ i low. refl }

@@ -9,14 +9,14 @@ use Rattle.sync_machine.specs.Machines.{PatternTree, PlaceTree, ActTree, StepTre
 use Rattle.sync_machine.specs.Machines as machines
 use Rattle.sync_machine.specs.Statements.{binds}
 use Rattle.sync_machine.specs.Naming.{IsTextName, BindsTextName, bound_by, HasTextNames, AreTextNames}
-use Rattle.sync_parse_exprs.specs.declared.naming.Named.{Named}
+use Rattle.sync_parse_exprs.specs.declared.raw_names.RawName.{RawName}
 use Rattle.sync_parse.specs.declared.trees.RawPattern.{RawPattern}
 use Rattle.sync_parse.specs.declared.trees.RawPattern.TheVariants as pattern
 use Rattle.sync_parse.specs.declared.trees.RawPlace.{RawPlace}
 use Rattle.sync_parse.specs.declared.trees.RawPlace.TheVariants as place
-use Rattle.sync_parse.specs.declared.trees.RawActKind.{RawActKind}
-use Rattle.sync_parse.specs.declared.trees.RawActKind.TheVariants as raw
 use Rattle.sync_parse.specs.declared.trees.RawAct.{RawAct}
+use Rattle.sync_parse.specs.declared.trees.RawAct.TheVariants as raw
+use Rattle.sync_parse.specs.declared.trees.RawStep.{RawStep}
 use Rattle.sync_parse.specs.declared.trees.RawOperation.{RawOperation}
 use Rattle.sync_parse.specs.declared.trees.RawInvariant.{RawInvariant}
 use Rattle.sync_parse.specs.declared.trees.RawMachine.{RawMachine}
@@ -40,7 +40,7 @@ symbol_is name = (min name 1048575, refl, omega arith)
 abbrev Symbols : List ℕ × Scope → Type 0
 Symbols x = AllByRecursion IsTextName x.0
 
-params_are : (limited : Bool) (held : List ℕ) (s : Scope) (ns : List Named) → AllByRecursion IsTextName held → IfOk (params_from limited held s ns) Symbols
+params_are : (limited : Bool) (held : List ℕ) (s : Scope) (ns : List RawName) → AllByRecursion IsTextName held → IfOk (params_from limited held s ns) Symbols
 unfolding params_from
 params_are limited held s [] h = h
 params_are limited held s (n ∷ ns) h =
@@ -80,12 +80,12 @@ Acted x = BindsTextName (bound_by x.0)
 abbrev FieldPlaced : ℕ × PlaceTree × Scope → Type 0
 FieldPlaced x = BindsTextName (binds x.1)
 
-field_place_is : (named : Named) (p : RawPlace) (s : Scope) → IfOk (field_place named p s) FieldPlaced
+field_place_is : (named : RawName) (p : RawPlace) (s : Scope) → IfOk (field_place named p s) FieldPlaced
 field_place_is named p s =
     after FieldPlaced (field_in s named) _ (λ f.
     after_ok FieldPlaced Placed (place_in p s) _ (place_is p s) (λ x h. h))
 
-act_is : (a : RawActKind) (s : Scope) → IfOk (act_in a s) Acted
+act_is : (a : RawAct) (s : Scope) → IfOk (act_in a s) Acted
 unfolding bound_by
 act_is (raw.Init named e) s = after Acted (field_term named e s) _ (λ x. tt)
 act_is (raw.Require e) s = after Acted (form_of e s) _ (λ f. tt)
@@ -105,7 +105,7 @@ StepBinds x = BindsTextName (bound_by x.act)
 abbrev Stepped : List StepTree × Scope → Type 0
 Stepped x = AllByRecursion StepBinds x.0
 
-steps_are : (held : List StepTree) (s : Scope) (acts : List RawAct) → AllByRecursion StepBinds held → IfOk (steps_from held s acts) Stepped
+steps_are : (held : List StepTree) (s : Scope) (acts : List RawStep) → AllByRecursion StepBinds held → IfOk (steps_from held s acts) Stepped
 unfolding steps_from
 steps_are held s [] h = h
 steps_are held s (a ∷ more) h =
@@ -123,7 +123,7 @@ unfolding operation_in
 operation_is number fs s o =
     after Operated (begin_operation number fs s o) _ (λ s2.
     after_ok Operated Symbols (params_from true [] s2 o.params) _ (params_are true [] s2 o.params tt) (λ ps p.
-    after_ok Operated Stepped (steps_from [] ps.1 o.acts) _ (steps_are [] ps.1 o.acts tt) (λ xs b.
+    after_ok Operated Stepped (steps_from [] ps.1 o.steps) _ (steps_are [] ps.1 o.steps tt) (λ xs b.
     record { params = p; bound = b })))
 
 abbrev AllOperated : List OperationTree × Scope → Type 0

@@ -9,16 +9,16 @@ use Rattle.sync_base.specs.declared.strategies.Strategy.{Strategy}
 use Rattle.sync_base.specs.declared.strategies.Strategy.TheVariants.{Variable, Constant, NotTokenized, Option as OptionField, Map, Set, Multiset, Count, PersistentOption, PersistentMap, PersistentSet, PersistentCount, StorageMap}
 use Rattle.sync_machine.specs.Machines.{PatternTree, PlaceTree, ActTree, StepTree}
 use Rattle.sync_machine.specs.Machines as machines
-use Rattle.sync_parse_exprs.specs.declared.expressions.Expr.{Expr}
-use Rattle.sync_parse_exprs.specs.declared.naming.Named.{Named}
+use Rattle.sync_parse_exprs.specs.declared.expressions.RawExpr.{RawExpr}
+use Rattle.sync_parse_exprs.specs.declared.raw_names.RawName.{RawName}
 use Rattle.sync_parse.specs.declared.trees.RawField.{RawField}
 use Rattle.sync_parse.specs.declared.trees.RawPattern.{RawPattern}
 use Rattle.sync_parse.specs.declared.trees.RawPattern.TheVariants as pattern
 use Rattle.sync_parse.specs.declared.trees.RawPlace.{RawPlace}
 use Rattle.sync_parse.specs.declared.trees.RawPlace.TheVariants as place
-use Rattle.sync_parse.specs.declared.trees.RawActKind.{RawActKind}
-use Rattle.sync_parse.specs.declared.trees.RawActKind.TheVariants as raw
 use Rattle.sync_parse.specs.declared.trees.RawAct.{RawAct}
+use Rattle.sync_parse.specs.declared.trees.RawAct.TheVariants as raw
+use Rattle.sync_parse.specs.declared.trees.RawStep.{RawStep}
 use Rattle.sync_read_names.specs.declared.scopes.Sort.{Sort}
 use Rattle.sync_read_names.specs.declared.scopes.Sort.TheVariants as sort
 use Rattle.sync_read_names.specs.declared.scopes.Meaning.{Meaning}
@@ -69,14 +69,14 @@ abbrev pub most_params : Bool → ℕ → ℕ → Result ℕ Refusal
 most_params true before line = within 8 before line
 most_params false before line = Ok before
 
-abbrev pub add_param : Bool → ℕ → Scope → Named → Result Scope Refusal
+abbrev pub add_param : Bool → ℕ → Scope → RawName → Result Scope Refusal
 add_param limited before s named = do
   s2 ← own s named
   n ← most_params limited before named.line
   Ok s2
 
 -- the parameters of an operation, which has at most 8, or of an invariant
-unfoldable pub params_from : Bool → List ℕ → Scope → List Named → Result (List ℕ × Scope) Refusal
+unfoldable pub params_from : Bool → List ℕ → Scope → List RawName → Result (List ℕ × Scope) Refusal
 params_from limited held s [] = Ok (held, s)
 params_from limited held s (n ∷ ns) = do
   s2 ← add_param limited (length held) s n
@@ -91,7 +91,7 @@ field_meaning (meaning.Operation number) line = refuse N1 line
 field_meaning (meaning.Invariant number) line = refuse N1 line
 
 -- the number and the sort of a field
-abbrev pub field_in : Scope → Named → Result (ℕ × Sort) Refusal
+abbrev pub field_in : Scope → RawName → Result (ℕ × Sort) Refusal
 field_in s named = field_meaning (meaning_of s named.name) named.line
 
 abbrev pub pattern_in : RawPattern → Scope → Result (Option PatternTree × Scope) Refusal
@@ -115,21 +115,21 @@ place_in (place.Entry e p) s = do
   Ok (record { key = Some k; value = x.0 }, x.1)
 
 -- a field and a term of its sort
-abbrev pub field_term : Named → Expr → Scope → Result (ℕ × Tree) Refusal
+abbrev pub field_term : RawName → RawExpr → Scope → Result (ℕ × Tree) Refusal
 field_term named e s = do
   f ← field_in s named
   t ← term_of f.1 e s
   Ok (f.0, t)
 
 -- a field and a place
-abbrev pub field_place : Named → RawPlace → Scope → Result (ℕ × PlaceTree × Scope) Refusal
+abbrev pub field_place : RawName → RawPlace → Scope → Result (ℕ × PlaceTree × Scope) Refusal
 field_place named p s = do
   f ← field_in s named
   x ← place_in p s
   Ok (f.0, x.0, x.1)
 
 -- what a statement does, and the scope behind it
-abbrev pub act_in : RawActKind → Scope → Result (ActTree × Scope) Refusal
+abbrev pub act_in : RawAct → Scope → Result (ActTree × Scope) Refusal
 act_in (raw.Init named e) s = do
   x ← field_term named e s
   Ok (machines.Init x.0 x.1, s)
@@ -164,7 +164,7 @@ act_in (raw.Withdraw named p) s = do
   x ← field_place named p s
   Ok (machines.Withdraw x.0 x.1, x.2)
 
-unfoldable pub steps_from : List StepTree → Scope → List RawAct → Result (List StepTree × Scope) Refusal
+unfoldable pub steps_from : List StepTree → Scope → List RawStep → Result (List StepTree × Scope) Refusal
 steps_from held s [] = Ok (held, s)
 steps_from held s (a ∷ more) = do
   n ← within 64 (length held) a.line

@@ -7,9 +7,9 @@ use Rattle.sync_machine.specs.declared.fields.Field.{Field}
 use Rattle.sync_base.specs.declared.strategies.OpMode.{OpMode}
 use Rattle.sync_base.specs.declared.strategies.OpMode.TheVariants as mode
 use Rattle.sync_machine.specs.Machines.{OperationTree, InvariantTree, MachineTree}
-use Rattle.sync_parse.specs.declared.trees.RawActKind.{RawActKind}
-use Rattle.sync_parse.specs.declared.trees.RawActKind.TheVariants as raw
 use Rattle.sync_parse.specs.declared.trees.RawAct.{RawAct}
+use Rattle.sync_parse.specs.declared.trees.RawAct.TheVariants as raw
+use Rattle.sync_parse.specs.declared.trees.RawStep.{RawStep}
 use Rattle.sync_parse.specs.declared.trees.RawOperation.{RawOperation}
 use Rattle.sync_parse.specs.declared.trees.RawInvariant.{RawInvariant}
 use Rattle.sync_parse.specs.declared.trees.RawMachine.{RawMachine}
@@ -21,7 +21,7 @@ use Rattle.sync_read_names.specs.Exprs.{form_of}
 use Rattle.sync_read.specs.Acts.{within, fields_from, params_from, steps_from}
 
 -- a statement gives the field of this name its first value
-abbrev pub starts : ℕ → RawActKind → Bool
+abbrev pub starts : ℕ → RawAct → Bool
 starts name (raw.Init named e) = named.name == name
 starts name (raw.Require e) = false
 starts name (raw.Assert e) = false
@@ -35,23 +35,23 @@ starts name (raw.Remove named p) = false
 starts name (raw.Withdraw named p) = false
 
 -- how often statements do so, beyond those counted
-unfoldable pub start_count : ℕ → ℕ → List RawAct → ℕ
+unfoldable pub start_count : ℕ → ℕ → List RawStep → ℕ
 start_count name n [] = n
 start_count name n (a ∷ more) = start_count name (if starts name a.what then n + 1 else n) more
 
 -- statements give each field its first value exactly once
-unfoldable pub starts_once : List Field → List RawAct → Bool
+unfoldable pub starts_once : List Field → List RawStep → Bool
 starts_once [] acts = true
 starts_once (f ∷ fs) acts = if start_count f.name 0 acts == 1 then starts_once fs acts else false
 
-abbrev pub is_started : OpMode → List Field → List RawAct → Bool
+abbrev pub is_started : OpMode → List Field → List RawStep → Bool
 is_started mode.Init fs acts = starts_once fs acts
 is_started mode.Transition fs acts = true
 is_started mode.Property fs acts = true
 
 -- the scope of the operation with this number
 unfoldable pub begin_operation : ℕ → List Field → Scope → RawOperation → Result Scope Refusal
-begin_operation number fs s o = if is_started o.mode fs o.acts then (do
+begin_operation number fs s o = if is_started o.mode fs o.steps then (do
   n ← within 64 number o.line
   s2 ← declare s o.name (meaning.Operation number)
   Ok (record s2 { owner = owner.Operation number })) else refuse N4 o.line
@@ -60,7 +60,7 @@ unfoldable pub operation_in : ℕ → List Field → Scope → RawOperation → 
 operation_in number fs s o = do
   s2 ← begin_operation number fs s o
   ps ← params_from true [] s2 o.params
-  xs ← steps_from [] ps.1 o.acts
+  xs ← steps_from [] ps.1 o.steps
   Ok (record { name = o.name.name; mode = o.mode; params = ps.0; steps = xs.0; line = o.line }, xs.1)
 
 unfoldable pub operations_from : List Field → List OperationTree → Scope → List RawOperation → Result (List OperationTree × Scope) Refusal

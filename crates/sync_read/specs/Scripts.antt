@@ -13,15 +13,15 @@ use Rattle.sync_terms.specs.Plans.{Plan, Same, Sum, Inst, Parts, Split, Cut, Rea
 use Rattle.sync_terms.specs.declared.proofs.Claim.{Claim}
 use Rattle.sync_terms.specs.declared.proofs.Claim.TheVariants as claim
 use Rattle.sync_terms.specs.Proofs.{ProofTree}
-use Rattle.sync_parse_exprs.specs.declared.expressions.Expr.{Expr}
-use Rattle.sync_parse.specs.declared.scripts.RawHyp.{RawHyp}
-use Rattle.sync_parse.specs.declared.scripts.RawHyp.TheVariants as hyp
-use Rattle.sync_parse.specs.declared.scripts.Subject.{Subject}
-use Rattle.sync_parse.specs.declared.scripts.Subject.TheVariants as subject
+use Rattle.sync_parse_exprs.specs.declared.expressions.RawExpr.{RawExpr}
+use Rattle.sync_parse.specs.declared.scripts.RawHypName.{RawHypName}
+use Rattle.sync_parse.specs.declared.scripts.RawHypName.TheVariants as hyp
+use Rattle.sync_parse.specs.declared.scripts.RawSubject.{RawSubject}
+use Rattle.sync_parse.specs.declared.scripts.RawSubject.TheVariants as subject
 use Rattle.sync_parse.specs.declared.scripts.RawPart.{RawPart}
 use Rattle.sync_parse.specs.declared.scripts.RawBlock.{RawBlock, fold-RawBlock}
-use Rattle.sync_parse.specs.declared.scripts.RawStep.{RawStep, fold-RawStep}
-use Rattle.sync_parse.specs.declared.scripts.RawStepKind.TheOpen.{RawStepKind-F, RawBlock-F, RawStep-F}
+use Rattle.sync_parse.specs.declared.scripts.RawScriptStep.{RawScriptStep, fold-RawScriptStep}
+use Rattle.sync_parse.specs.declared.scripts.RawStepKind.TheOpen.{RawStepKind-F, RawBlock-F, RawScriptStep-F}
 use Rattle.sync_parse.specs.declared.trees.RawClaim.{RawClaim}
 use Rattle.sync_parse.specs.declared.trees.RawClaim.TheVariants as raw
 use Rattle.sync_parse.specs.declared.trees.RawProof.{RawProof}
@@ -35,12 +35,12 @@ use Rattle.sync_read_names.specs.Scopes.{refuse, meaning_of}
 use Rattle.sync_read_names.specs.Exprs.{term_of, form_of}
 use Rattle.sync_read.specs.Acts.{within}
 
-abbrev pub subject_line : Subject → ℕ
+abbrev pub subject_line : RawSubject → ℕ
 subject_line (subject.Name named) = named.line
 subject_line (subject.Special word line) = line
 
 -- a hypothesis of a machine's script: `low` and `high` speak of locals, which no machine has
-unfoldable pub hyp_in : RawHyp → Result HypName Refusal
+unfoldable pub hyp_in : RawHypName → Result HypName Refusal
 hyp_in hyp.Denied = Ok name.Denied
 hyp_in (hyp.Label named) = Ok (name.Label named.name)
 hyp_in (hyp.At n) = Ok (name.At n)
@@ -54,20 +54,20 @@ parts_from held (p ∷ ps) = do
   parts_from (held ++ record { times = p.times; hyp = h } ∷ []) ps
 
 -- terms that are numbers
-unfoldable pub numbers_from : List Tree → Scope → List Expr → Result (List Tree) Refusal
+unfoldable pub numbers_from : List Tree → Scope → List RawExpr → Result (List Tree) Refusal
 numbers_from held s [] = Ok held
 numbers_from held s (e ∷ es) = do
   t ← term_of sort.Number e s
   numbers_from (held ++ t ∷ []) s es
 
 -- a map and a key
-unfoldable pub map_and_number : Expr → Expr → Scope → Result (Tree × Tree) Refusal
+unfoldable pub map_and_number : RawExpr → RawExpr → Scope → Result (Tree × Tree) Refusal
 map_and_number m k s = do
   x ← term_of sort.Map m s
   y ← term_of sort.Number k s
   Ok (x, y)
 
-unfoldable pub map_and_numbers : Expr → Expr → Expr → Scope → Result (Tree × Tree × Tree) Refusal
+unfoldable pub map_and_numbers : RawExpr → RawExpr → RawExpr → Scope → Result (Tree × Tree × Tree) Refusal
 map_and_numbers m j k s = do
   p ← map_and_number m j s
   y ← term_of sort.Number k s
@@ -122,15 +122,15 @@ block_in b = do
   xs ← thens_from [] b.steps
   Ok (steps_before xs (End b.end_line))
 
-abbrev pub step_in : RawStep-F Kind (Result Plan Refusal) (Result Then Refusal) → Result Then Refusal
+abbrev pub step_in : RawScriptStep-F Kind (Result Plan Refusal) (Result Then Refusal) → Result Then Refusal
 step_in s = s.what s.line
 
 -- the block of a script in a scope
 abbrev pub block_of : Scope → RawBlock → Result Plan Refusal
 block_of s = fold-RawBlock Kind (Result Plan Refusal) (Result Then Refusal) (kind_in s) block_in step_in
 
-abbrev pub step_of : Scope → RawStep → Result Then Refusal
-step_of s = fold-RawStep Kind (Result Plan Refusal) (Result Then Refusal) (kind_in s) block_in step_in
+abbrev pub step_of : Scope → RawScriptStep → Result Then Refusal
+step_of s = fold-RawScriptStep Kind (Result Plan Refusal) (Result Then Refusal) (kind_in s) block_in step_in
 
 -- a step with its ids read in a store
 abbrev pub then_of : Stored → ScriptStep → Then

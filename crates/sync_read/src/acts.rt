@@ -11,10 +11,10 @@ ghost use Rattle.sync_read.specs.Acts.{strategy_sort, within, add_field, fields_
 use sqlite_items::Items;
 use std::alloc::Global;
 use sync_base::{Rule, Stop};
-use sync_parse_exprs::{Expr, Named};
+use sync_parse_exprs::{RawExpr, RawName};
 use sync_machine::{Act, Field, Pattern, Place, Step, Strategy};
 use sync_read_names::{Meaning, Scope, Sort, form_of, refused, symbol_of, term_of};
-use sync_parse::{RawAct, RawActKind, RawField, RawPattern, RawPlace};
+use sync_parse::{RawStep, RawAct, RawField, RawPattern, RawPlace};
 use sync_terms::{Sym, TermId, Terms};
 
 /// At most so many come before.
@@ -80,7 +80,7 @@ pub(crate) fn fields(
 }
 
 /// Makes a name the owner's parameter.
-fn add_param(limited: bool, before: usize, scope: &mut Scope, named: Named) -> Result<(), Stop>
+fn add_param(limited: bool, before: usize, scope: &mut Scope, named: RawName) -> Result<(), Stop>
     ensures { Gives (λ _. scope.new) result (add_param limited before scope.old named) }
 {
     scope.own(named)?;
@@ -96,7 +96,7 @@ pub(crate) fn params(
     alloc: Global,
     limited: bool,
     scope: &mut Scope,
-    raw: &[Named],
+    raw: &[RawName],
 ) -> Result<Items<Sym>, Stop>
     ensures { Gives (λ ps. (symbols_of ps, scope.new)) result (params_from limited [] scope.old raw.now) }
 {
@@ -109,7 +109,7 @@ pub(crate) fn params(
 }
 
 /// The number and the sort of a field.
-fn field_in(scope: &Scope, named: Named) -> Result<(u32, Sort), Stop>
+fn field_in(scope: &Scope, named: RawName) -> Result<(u32, Sort), Stop>
     ensures { Gives (λ f. (f.0, f.1)) result (field_in scope.now named) }
 {
     match scope.meaning(named.name) {
@@ -172,8 +172,8 @@ fn place(terms: &mut Terms, scope: &mut Scope, raw: &RawPlace) -> Result<Place, 
 fn field_term(
     terms: &mut Terms,
     scope: &Scope,
-    named: Named,
-    e: &Expr,
+    named: RawName,
+    e: &RawExpr,
 ) -> Result<(u32, TermId), Stop>
     ensures exact { Gives (λ p. (p.0, tree terms.new p.1)) result (field_term named e.now scope.now) }
     ensures id { IfOk result (λ p. IsTerm terms.new p.1) }
@@ -188,7 +188,7 @@ fn field_term(
 fn field_place(
     terms: &mut Terms,
     scope: &mut Scope,
-    named: Named,
+    named: RawName,
     raw: &RawPlace,
 ) -> Result<(u32, Place), Stop>
     ensures exact { Gives (λ p. (p.0, place_tree terms.new p.1, scope.new)) result (field_place named raw.now scope.old) }
@@ -201,47 +201,47 @@ fn field_place(
 }
 
 /// What a statement does.
-fn act(terms: &mut Terms, scope: &mut Scope, raw: &RawActKind) -> Result<Act, Stop>
+fn act(terms: &mut Terms, scope: &mut Scope, raw: &RawAct) -> Result<Act, Stop>
     ensures exact { Gives (λ a. (act_tree terms.new a, scope.new)) result (act_in raw.now scope.old) }
     ensures ids { IfOk result (HasActIds terms.new) }
     ensures keeps { Extends terms.old terms.new }
 {
     match raw {
-        RawActKind::Init(named, e) => {
+        RawAct::Init(named, e) => {
             let (field, t) = field_term(terms, scope, *named, e)?;
             Ok(Act::Init(field, t))
         }
-        RawActKind::Update(named, e) => {
+        RawAct::Update(named, e) => {
             let (field, t) = field_term(terms, scope, *named, e)?;
             Ok(Act::Update(field, t))
         }
-        RawActKind::Require(e) => Ok(Act::Require(form_of(terms, scope, e)?)),
-        RawActKind::Assert(e) => Ok(Act::Assert(form_of(terms, scope, e)?)),
-        RawActKind::HaveVariable(named) => {
+        RawAct::Require(e) => Ok(Act::Require(form_of(terms, scope, e)?)),
+        RawAct::Assert(e) => Ok(Act::Assert(form_of(terms, scope, e)?)),
+        RawAct::HaveVariable(named) => {
             let (field, _) = field_in(scope, *named)?;
             Ok(Act::HaveVariable(field))
         }
-        RawActKind::Have(named, p) => {
+        RawAct::Have(named, p) => {
             let (field, p) = field_place(terms, scope, *named, p)?;
             Ok(Act::Have(field, p))
         }
-        RawActKind::Guard(named, p) => {
+        RawAct::Guard(named, p) => {
             let (field, p) = field_place(terms, scope, *named, p)?;
             Ok(Act::Guard(field, p))
         }
-        RawActKind::Add(named, p) => {
+        RawAct::Add(named, p) => {
             let (field, p) = field_place(terms, scope, *named, p)?;
             Ok(Act::Add(field, p))
         }
-        RawActKind::Deposit(named, p) => {
+        RawAct::Deposit(named, p) => {
             let (field, p) = field_place(terms, scope, *named, p)?;
             Ok(Act::Deposit(field, p))
         }
-        RawActKind::Remove(named, p) => {
+        RawAct::Remove(named, p) => {
             let (field, p) = field_place(terms, scope, *named, p)?;
             Ok(Act::Remove(field, p))
         }
-        RawActKind::Withdraw(named, p) => {
+        RawAct::Withdraw(named, p) => {
             let (field, p) = field_place(terms, scope, *named, p)?;
             Ok(Act::Withdraw(field, p))
         }
@@ -254,7 +254,7 @@ pub(crate) fn steps(
     alloc: Global,
     terms: &mut Terms,
     scope: &mut Scope,
-    raw: &[RawAct],
+    raw: &[RawStep],
 ) -> Result<Items<Step>, Stop>
     ensures exact { Gives (λ xs. (steps_tree terms.new xs, scope.new)) result (steps_from [] scope.old raw.now) }
     ensures ids { IfOk result (λ xs. AllByRecursion (λ (x : Step). HasActIds terms.new x.act) xs) }

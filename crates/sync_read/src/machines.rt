@@ -16,31 +16,31 @@ use std::alloc::Global;
 use sync_base::{Rule, Stop};
 use sync_machine::{Field, Invariant, Machine, OpMode, Operation};
 use sync_read_names::{Meaning, Owner, Scope, form_of, refused};
-use sync_parse::{RawAct, RawActKind, RawInvariant, RawMachine, RawOperation};
+use sync_parse::{RawStep, RawAct, RawInvariant, RawMachine, RawOperation};
 use sync_terms::Terms;
 
 /// Whether a statement gives the field of this name its first value.
-fn starts(name: u32, raw: &RawActKind) -> bool
+fn starts(name: u32, raw: &RawAct) -> bool
     ensures { result ≡ starts name raw.now }
 {
     match raw {
-        RawActKind::Init(named, _) => named.name == name,
-        RawActKind::Require(_)
-        | RawActKind::Assert(_)
-        | RawActKind::Update(_, _)
-        | RawActKind::HaveVariable(_)
-        | RawActKind::Have(_, _)
-        | RawActKind::Guard(_, _)
-        | RawActKind::Add(_, _)
-        | RawActKind::Deposit(_, _)
-        | RawActKind::Remove(_, _)
-        | RawActKind::Withdraw(_, _) => false,
+        RawAct::Init(named, _) => named.name == name,
+        RawAct::Require(_)
+        | RawAct::Assert(_)
+        | RawAct::Update(_, _)
+        | RawAct::HaveVariable(_)
+        | RawAct::Have(_, _)
+        | RawAct::Guard(_, _)
+        | RawAct::Add(_, _)
+        | RawAct::Deposit(_, _)
+        | RawAct::Remove(_, _)
+        | RawAct::Withdraw(_, _) => false,
     }
 }
 
 /// How often statements give the field of this name its first value.
 #[tactic(auto, unfolding(crate::specs::Resolving::start_count))]
-fn start_count(name: u32, acts: &[RawAct]) -> usize
+fn start_count(name: u32, acts: &[RawStep]) -> usize
     ensures { result ≡ start_count name 0 acts.now }
 {
     let mut n = 0;
@@ -54,7 +54,7 @@ fn start_count(name: u32, acts: &[RawAct]) -> usize
 
 /// Whether statements give each field its first value exactly once.
 #[tactic(auto, unfolding(crate::specs::Resolving::starts_once))]
-fn starts_once(fields: &[Field], acts: &[RawAct]) -> bool
+fn starts_once(fields: &[Field], acts: &[RawStep]) -> bool
     ensures { result ≡ starts_once fields.now acts.now }
 {
     for field in fields {
@@ -77,7 +77,7 @@ fn begin_operation(
 {
     match raw.mode {
         OpMode::Init => {
-            if !starts_once(fields, raw.acts.as_slice()) {
+            if !starts_once(fields, raw.steps.as_slice()) {
                 return Err(refused(Rule::N4, raw.line));
             }
         }
@@ -105,7 +105,7 @@ fn operation(
 {
     begin_operation(number, fields, scope, raw)?;
     let params = params(alloc, true, scope, raw.params.as_slice())?;
-    let steps = steps(alloc, terms, scope, raw.acts.as_slice())?;
+    let steps = steps(alloc, terms, scope, raw.steps.as_slice())?;
     Ok(Operation {
         name: raw.name.name,
         mode: raw.mode,

@@ -11,23 +11,23 @@ use crate::acts::within;
 use sqlite_items::Items;
 use std::alloc::Global;
 use sync_base::{Rule, Stop};
-use sync_parse_exprs::{Expr, Named};
+use sync_parse_exprs::{RawExpr, RawName};
 use sync_read_names::{Meaning, Owner, Scope, Sort, form_of, refused, term_of};
-use sync_parse::{RawBlock, RawClaim, RawHyp, RawPart, RawProof, RawStep, RawStepKind, Subject};
+use sync_parse::{RawBlock, RawClaim, RawHypName, RawPart, RawProof, RawScriptStep, RawStepKind, RawSubject};
 use sync_terms::{Block, Claim, HypName, Part, Proof, Script, ScriptStep, StepKind, TermId, Terms};
 
 /// A hypothesis of a machine's script.
 #[tactic(auto, unfolding(crate::specs::Scripts::hyp_in))]
-fn hyp(raw: RawHyp) -> Result<HypName, Stop>
+fn hyp(raw: RawHypName) -> Result<HypName, Stop>
     ensures { Gives (λ h. h) result (hyp_in raw) }
 {
     match raw {
-        RawHyp::Denied => Ok(HypName::Denied),
-        RawHyp::Label(named) => Ok(HypName::Label(named.name)),
-        RawHyp::At(number) => Ok(HypName::At(number)),
-        RawHyp::Low(subject) | RawHyp::High(subject) => match subject {
-            Subject::Name(named) => Err(refused(Rule::N1, named.line)),
-            Subject::Special(_, line) => Err(refused(Rule::N1, line)),
+        RawHypName::Denied => Ok(HypName::Denied),
+        RawHypName::Label(named) => Ok(HypName::Label(named.name)),
+        RawHypName::At(number) => Ok(HypName::At(number)),
+        RawHypName::Low(subject) | RawHypName::High(subject) => match subject {
+            RawSubject::Name(named) => Err(refused(Rule::N1, named.line)),
+            RawSubject::Special(_, line) => Err(refused(Rule::N1, line)),
         },
     }
 }
@@ -54,7 +54,7 @@ fn numbers(
     alloc: Global,
     terms: &mut Terms,
     scope: &Scope,
-    es: &[Expr],
+    es: &[RawExpr],
 ) -> Result<Items<TermId>, Stop>
     ensures exact { (t : Stored) → Extends terms.new t → Gives (map (tree t)) result (numbers_from [] scope.now es.now) }
     ensures keeps { Extends terms.old terms.new }
@@ -72,8 +72,8 @@ fn numbers(
 fn map_and_number(
     terms: &mut Terms,
     scope: &Scope,
-    m: &Expr,
-    k: &Expr,
+    m: &RawExpr,
+    k: &RawExpr,
 ) -> Result<(TermId, TermId), Stop>
     ensures exact { (t : Stored) → Extends terms.new t → Gives (λ p. (tree t p.0, tree t p.1)) result (map_and_number m.now k.now scope.now) }
     ensures keeps { Extends terms.old terms.new }
@@ -88,9 +88,9 @@ fn map_and_number(
 fn map_and_numbers(
     terms: &mut Terms,
     scope: &Scope,
-    m: &Expr,
-    j: &Expr,
-    k: &Expr,
+    m: &RawExpr,
+    j: &RawExpr,
+    k: &RawExpr,
 ) -> Result<(TermId, TermId, TermId), Stop>
     ensures exact { (t : Stored) → Extends terms.new t → Gives (λ p. (tree t p.0, tree t p.1, tree t p.2)) result (map_and_numbers m.now j.now k.now scope.now) }
     ensures keeps { Extends terms.old terms.new }
@@ -132,7 +132,7 @@ fn step_of(
     alloc: Global,
     terms: &mut Terms,
     scope: &Scope,
-    raw: &RawStep,
+    raw: &RawScriptStep,
 ) -> Result<ScriptStep, Stop>
     ensures exact { (t : Stored) → Extends terms.new t → Gives (then_of t) result (step_of scope.now raw.now) }
     ensures keeps { Extends terms.old terms.new }
@@ -178,7 +178,7 @@ fn step_of(
 }
 
 /// The operation of a name.
-fn operation(scope: &Scope, named: Named) -> Result<u32, Stop>
+fn operation(scope: &Scope, named: RawName) -> Result<u32, Stop>
     ensures { Gives (λ n. n) result (operation_meaning (meaning_of scope.now named.name) named.line) }
 {
     match scope.meaning(named.name) {

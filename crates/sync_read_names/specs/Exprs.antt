@@ -9,8 +9,8 @@ use Rattle.sync_base.specs.declared.stops.Rule.TheVariants.{N1, N3, N5, N6}
 use Rattle.sync_base.specs.Outcome.{◌>>=◌, first}
 use Rattle.sync_terms.specs.Trees.{Tree, Formula}
 use Rattle.sync_terms.specs.Trees as trees
-use Rattle.sync_parse_exprs.specs.declared.expressions.Expr.{Expr, fold-Expr}
-use Rattle.sync_parse_exprs.specs.declared.expressions.ExprKind.TheOpen.{ExprKind-F, Expr-F}
+use Rattle.sync_parse_exprs.specs.declared.expressions.RawExpr.{RawExpr, fold-RawExpr}
+use Rattle.sync_parse_exprs.specs.declared.expressions.RawExprKind.TheOpen.{RawExprKind-F, RawExpr-F}
 use Rattle.sync_parse_exprs.specs.declared.expressions.Function.{Function}
 use Rattle.sync_parse_exprs.specs.declared.expressions.Function.TheVariants as function
 use Rattle.sync_parse_exprs.specs.declared.expressions.Operator.{Operator}
@@ -210,71 +210,71 @@ abbrev pub nodes_at : List Reading → ℕ → ℕ
 nodes_at rs at = or_none (slice_get rs at)
 
 -- the nodes of a kind as a tree; `-t` is `0 - t`
-abbrev pub nodes_in : ExprKind-F Kind Reading → ℕ
-nodes_in (ExprKind-F.Number n) = 1
-nodes_in (ExprKind-F.Name named) = 1
-nodes_in (ExprKind-F.Param line named) = 1
-nodes_in ExprKind-F.Nil = 1
-nodes_in (ExprKind-F.Bracketed e) = e.nodes
-nodes_in (ExprKind-F.Special word line) = 1
-nodes_in (ExprKind-F.Call f line args) = 1 + all_nodes args
-nodes_in (ExprKind-F.Not e) = 1 + e.nodes
-nodes_in (ExprKind-F.Minus e) = 2 + e.nodes
-nodes_in (ExprKind-F.Times n e) = 1 + e.nodes
-nodes_in (ExprKind-F.Two op a b) = operator_nodes op + a.nodes + b.nodes
+abbrev pub nodes_in : RawExprKind-F Kind Reading → ℕ
+nodes_in (RawExprKind-F.Number n) = 1
+nodes_in (RawExprKind-F.Name named) = 1
+nodes_in (RawExprKind-F.Param line named) = 1
+nodes_in RawExprKind-F.Nil = 1
+nodes_in (RawExprKind-F.Bracketed e) = e.nodes
+nodes_in (RawExprKind-F.Special word line) = 1
+nodes_in (RawExprKind-F.Call f line args) = 1 + all_nodes args
+nodes_in (RawExprKind-F.Not e) = 1 + e.nodes
+nodes_in (RawExprKind-F.Minus e) = 2 + e.nodes
+nodes_in (RawExprKind-F.Times n e) = 1 + e.nodes
+nodes_in (RawExprKind-F.Two op a b) = operator_nodes op + a.nodes + b.nodes
 
-abbrev pub sort_in : ExprKind-F Kind Reading → Scope → Option Sort
-sort_in (ExprKind-F.Number n) s = Some sort.Number
-sort_in (ExprKind-F.Name named) s = name_sort s named.name
-sort_in (ExprKind-F.Param line named) s = if knows_params s.claim then Some sort.Number else None
-sort_in ExprKind-F.Nil s = Some sort.Map
-sort_in (ExprKind-F.Bracketed e) s = e.sort s
-sort_in (ExprKind-F.Special word line) s = None
-sort_in (ExprKind-F.Call f line args) s = function_sort f
-sort_in (ExprKind-F.Not e) s = Some sort.Formula
-sort_in (ExprKind-F.Minus e) s = Some sort.Number
-sort_in (ExprKind-F.Times n e) s = Some sort.Number
-sort_in (ExprKind-F.Two op a b) s = Some (operator_sort op)
+abbrev pub sort_in : RawExprKind-F Kind Reading → Scope → Option Sort
+sort_in (RawExprKind-F.Number n) s = Some sort.Number
+sort_in (RawExprKind-F.Name named) s = name_sort s named.name
+sort_in (RawExprKind-F.Param line named) s = if knows_params s.claim then Some sort.Number else None
+sort_in RawExprKind-F.Nil s = Some sort.Map
+sort_in (RawExprKind-F.Bracketed e) s = e.sort s
+sort_in (RawExprKind-F.Special word line) s = None
+sort_in (RawExprKind-F.Call f line args) s = function_sort f
+sort_in (RawExprKind-F.Not e) s = Some sort.Formula
+sort_in (RawExprKind-F.Minus e) s = Some sort.Number
+sort_in (RawExprKind-F.Times n e) s = Some sort.Number
+sort_in (RawExprKind-F.Two op a b) s = Some (operator_sort op)
 
 abbrev pub if_unknown : Option Sort → ℕ → Option Refusal
 if_unknown None line = Some (record { line = line; rule = N1 })
 if_unknown (Some x) line = None
 
-abbrev pub opening_in : ExprKind-F Kind Reading → Scope → Option Refusal
-opening_in (ExprKind-F.Name named) s = if_unknown (name_sort s named.name) named.line
-opening_in (ExprKind-F.Param line named) s = if knows_params s.claim then None else Some (record { line = line; rule = N1 })
-opening_in (ExprKind-F.Special word line) s = Some (record { line = line; rule = N1 })
-opening_in (ExprKind-F.Call f line args) s = call_fault f line (length args)
-opening_in (ExprKind-F.Two op a b) s = a.opening s
-opening_in (ExprKind-F.Number n) s = None
-opening_in ExprKind-F.Nil s = None
-opening_in (ExprKind-F.Bracketed e) s = None
-opening_in (ExprKind-F.Not e) s = None
-opening_in (ExprKind-F.Minus e) s = None
-opening_in (ExprKind-F.Times n e) s = None
+abbrev pub opening_in : RawExprKind-F Kind Reading → Scope → Option Refusal
+opening_in (RawExprKind-F.Name named) s = if_unknown (name_sort s named.name) named.line
+opening_in (RawExprKind-F.Param line named) s = if knows_params s.claim then None else Some (record { line = line; rule = N1 })
+opening_in (RawExprKind-F.Special word line) s = Some (record { line = line; rule = N1 })
+opening_in (RawExprKind-F.Call f line args) s = call_fault f line (length args)
+opening_in (RawExprKind-F.Two op a b) s = a.opening s
+opening_in (RawExprKind-F.Number n) s = None
+opening_in RawExprKind-F.Nil s = None
+opening_in (RawExprKind-F.Bracketed e) s = None
+opening_in (RawExprKind-F.Not e) s = None
+opening_in (RawExprKind-F.Minus e) s = None
+opening_in (RawExprKind-F.Times n e) s = None
 
-abbrev pub term_in : ExprKind-F Kind Reading → ℕ → Scope → Result Tree Refusal
-term_in (ExprKind-F.Number n) at s = Ok (trees.Lit n)
-term_in (ExprKind-F.Name named) at s = do
+abbrev pub term_in : RawExprKind-F Kind Reading → ℕ → Scope → Result Tree Refusal
+term_in (RawExprKind-F.Number n) at s = Ok (trees.Lit n)
+term_in (RawExprKind-F.Name named) at s = do
   x ← name_symbol s named
   Ok (trees.Name x)
-term_in (ExprKind-F.Param line named) at s = do
+term_in (RawExprKind-F.Param line named) at s = do
   x ← param_symbol s line named
   Ok (trees.Name x)
-term_in ExprKind-F.Nil at s = Ok trees.Nil
-term_in (ExprKind-F.Bracketed e) at s = e.term s
-term_in (ExprKind-F.Special word line) at s = refuse N1 line
-term_in (ExprKind-F.Call f line args) at s = call_term f args line s
-term_in (ExprKind-F.Minus e) at s = do
+term_in RawExprKind-F.Nil at s = Ok trees.Nil
+term_in (RawExprKind-F.Bracketed e) at s = e.term s
+term_in (RawExprKind-F.Special word line) at s = refuse N1 line
+term_in (RawExprKind-F.Call f line args) at s = call_term f args line s
+term_in (RawExprKind-F.Minus e) at s = do
   x ← term_as sort.Number e s
   Ok (trees.Sub (trees.Lit (pos 0)) x)
-term_in (ExprKind-F.Times n e) at s = do
+term_in (RawExprKind-F.Times n e) at s = do
   x ← term_as sort.Number e s
   Ok (trees.Scale n x)
-term_in (ExprKind-F.Two op a b) at s = do
+term_in (RawExprKind-F.Two op a b) at s = do
   p ← pair_as sort.Number a sort.Number b s
   Ok (two_terms op p.0 p.1)
-term_in (ExprKind-F.Not e) at s = refuse N6 at
+term_in (RawExprKind-F.Not e) at s = refuse N6 at
 
 abbrev pub two_in : Bool → Operator → Reading → Reading → Scope → Result Formula Refusal
 two_in true op a b s = do
@@ -285,29 +285,29 @@ two_in false op a b s = do
   Ok (compared op p.0 p.1)
 
 -- a name or word is no formula, and comes here where it is unknown
-abbrev pub form_in : ExprKind-F Kind Reading → ℕ → Scope → Result Formula Refusal
-form_in (ExprKind-F.Not e) at s = do
+abbrev pub form_in : RawExprKind-F Kind Reading → ℕ → Scope → Result Formula Refusal
+form_in (RawExprKind-F.Not e) at s = do
   f ← form_as e s
   Ok (trees.Not f)
-form_in (ExprKind-F.Bracketed e) at s = e.form s
-form_in (ExprKind-F.Two op a b) at s = two_in (joins_forms op) op a b s
-form_in (ExprKind-F.Name named) at s = refuse N1 named.line
-form_in (ExprKind-F.Param line named) at s = refuse N1 line
-form_in (ExprKind-F.Special word line) at s = refuse N1 line
-form_in (ExprKind-F.Call f line args) at s = refuse N1 line
-form_in (ExprKind-F.Number n) at s = refuse N6 at
-form_in ExprKind-F.Nil at s = refuse N6 at
-form_in (ExprKind-F.Minus e) at s = refuse N6 at
-form_in (ExprKind-F.Times n e) at s = refuse N6 at
+form_in (RawExprKind-F.Bracketed e) at s = e.form s
+form_in (RawExprKind-F.Two op a b) at s = two_in (joins_forms op) op a b s
+form_in (RawExprKind-F.Name named) at s = refuse N1 named.line
+form_in (RawExprKind-F.Param line named) at s = refuse N1 line
+form_in (RawExprKind-F.Special word line) at s = refuse N1 line
+form_in (RawExprKind-F.Call f line args) at s = refuse N1 line
+form_in (RawExprKind-F.Number n) at s = refuse N6 at
+form_in RawExprKind-F.Nil at s = refuse N6 at
+form_in (RawExprKind-F.Minus e) at s = refuse N6 at
+form_in (RawExprKind-F.Times n e) at s = refuse N6 at
 
-abbrev pub kind_reading : ExprKind-F Kind Reading → Kind
+abbrev pub kind_reading : RawExprKind-F Kind Reading → Kind
 kind_reading k line = record { line = line; nodes = nodes_in k; sort = sort_in k; opening = opening_in k; term = term_in k line; form = form_in k line }
 
-abbrev pub expr_reading : Expr-F Kind Reading → Reading
+abbrev pub expr_reading : RawExpr-F Kind Reading → Reading
 expr_reading e = e.what e.line
 
-abbrev pub reading : Expr → Reading
-reading = fold-Expr Kind Reading kind_reading expr_reading
+abbrev pub reading : RawExpr → Reading
+reading = fold-RawExpr Kind Reading kind_reading expr_reading
 
 -- ---- expressions that stand by themselves
 
@@ -319,8 +319,8 @@ too_large r = if nat_lt 1000000 r.nodes then Some (record { line = r.line; rule 
 abbrev pub start_fault : Reading → Scope → Option Refusal
 start_fault r s = first (r.opening s) (too_large r)
 
-abbrev pub term_of : Sort → Expr → Scope → Result Tree Refusal
+abbrev pub term_of : Sort → RawExpr → Scope → Result Tree Refusal
 term_of wanted e s = unless (start_fault (reading e) s) (term_as wanted (reading e) s)
 
-abbrev pub form_of : Expr → Scope → Result Formula Refusal
+abbrev pub form_of : RawExpr → Scope → Result Formula Refusal
 form_of e s = unless (start_fault (reading e) s) (form_as (reading e) s)

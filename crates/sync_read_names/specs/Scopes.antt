@@ -4,7 +4,7 @@ use Rattle.std.specs.Int.{bit_at}
 use Rattle.sync_base.specs.declared.stops.Refusal.{Refusal}
 use Rattle.sync_base.specs.declared.stops.Rule.{Rule}
 use Rattle.sync_base.specs.declared.stops.Rule.TheVariants.{N1, N2}
-use Rattle.sync_parse_exprs.specs.declared.naming.Named.{Named}
+use Rattle.sync_parse_exprs.specs.declared.raw_names.RawName.{RawName}
 use Rattle.sync_read_names.specs.declared.scopes.Sort.{Sort}
 use Rattle.sync_read_names.specs.declared.scopes.Sort.TheVariants.{Number}
 use Rattle.sync_read_names.specs.declared.scopes.Meaning.{Meaning}
@@ -36,14 +36,14 @@ or_nothing None = Nothing
 abbrev pub meaning_of : Scope → ℕ → Meaning
 meaning_of s name = or_nothing (slice_get s.meanings name)
 
-abbrev pub if_new : Meaning → Named → Scope → Result Scope Refusal
+abbrev pub if_new : Meaning → RawName → Scope → Result Scope Refusal
 if_new Nothing named s = Ok s
 if_new (Field number sort) named s = refuse N2 named.line
 if_new (Operation number) named s = refuse N2 named.line
 if_new (Invariant number) named s = refuse N2 named.line
 
 -- a field, operation or invariant of a new name; a name that the text does not have is unknown
-abbrev pub declare : Scope → Named → Meaning → Result Scope Refusal
+abbrev pub declare : Scope → RawName → Meaning → Result Scope Refusal
 declare s named m = if nat_lt named.name (length s.meanings) then if_new (meaning_of s named.name) named (record s { meanings = slice_set s.meanings named.name m }) else refuse N1 named.line
 
 -- ---- whose parameter or bound name it is
@@ -87,12 +87,12 @@ is_field (Invariant number) = false
 abbrev pub is_taken : Scope → ℕ → Bool
 is_taken s name = is_field (meaning_of s name) || is_local s name
 
-abbrev pub own_more : Option Owners → Scope → Named → Result Scope Refusal
+abbrev pub own_more : Option Owners → Scope → RawName → Result Scope Refusal
 own_more None s named = refuse N1 named.line
 own_more (Some o) s named = if is_taken s named.name then refuse N2 named.line else Ok (record s { owners = slice_set s.owners named.name (with_owner o s.owner) })
 
 -- one more parameter or bound name of the owner
-abbrev pub own : Scope → Named → Result Scope Refusal
+abbrev pub own : Scope → RawName → Result Scope Refusal
 own s named = own_more (slice_get s.owners named.name) s named
 
 -- ---- names in terms
@@ -114,7 +114,7 @@ field_symbol (Operation number) line = refuse N1 line
 field_symbol (Invariant number) line = refuse N1 line
 
 -- the symbol of a name in a term
-abbrev pub name_symbol : Scope → Named → Result ℕ Refusal
+abbrev pub name_symbol : Scope → RawName → Result ℕ Refusal
 name_symbol s named = if is_local s named.name then Ok (symbol_of named.name) else field_symbol (meaning_of s named.name) named.line
 
 -- `$` is known behind a claim that has parameters
@@ -124,5 +124,5 @@ knows_params (owner.Operation number) = true
 knows_params (owner.Invariant number) = true
 
 -- the symbol of `$` before a name, which is a parameter of the claim's invariant; the line is that of `$`
-abbrev pub param_symbol : Scope → ℕ → Named → Result ℕ Refusal
+abbrev pub param_symbol : Scope → ℕ → RawName → Result ℕ Refusal
 param_symbol s line named = if knows_params s.claim then (if is_owned s s.claim named.name then Ok (param_symbol_of named.name) else refuse N1 named.line) else refuse N1 line

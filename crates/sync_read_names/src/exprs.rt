@@ -7,7 +7,7 @@ ghost use Rattle.sync_read_names.specs.Exprs.{Reading, reading, clashes, misfit,
 
 use crate::scopes::{Scope, Sort, broken, refused};
 use sync_base::{Refusal, Rule, Stop};
-use sync_parse_exprs::{Expr, ExprKind, Function, Operator};
+use sync_parse_exprs::{RawExpr, RawExprKind, Function, Operator};
 use sync_terms::{FormId, FormNode, Node, TermId, TermStop, Terms};
 
 /// The most nodes that a term or formula of a text has.
@@ -87,19 +87,19 @@ fn operator_sort(operator: Operator) -> Sort
 }
 
 /// The sort of an expression, where its name is known.
-fn sort_of(scope: &Scope, e: &Expr) -> Option<Sort>
+fn sort_of(scope: &Scope, e: &RawExpr) -> Option<Sort>
     ensures { result ≡ (reading e.now).sort scope.now }
 {
     match &e.what {
-        ExprKind::Number(_) | ExprKind::Minus(_) | ExprKind::Times(_, _) => Some(Sort::Number),
-        ExprKind::Name(named) => scope.name_sort(named.name),
-        ExprKind::Param(_, _) if scope.knows_params() => Some(Sort::Number),
-        ExprKind::Param(_, _) | ExprKind::Special(_, _) => None,
-        ExprKind::Nil => Some(Sort::Map),
-        ExprKind::Bracketed(a) => sort_of(scope, a.get()),
-        ExprKind::Call(function, _, _) => function_sort(*function),
-        ExprKind::Not(_) => Some(Sort::Formula),
-        ExprKind::Two(operator, _, _) => Some(operator_sort(*operator)),
+        RawExprKind::Number(_) | RawExprKind::Minus(_) | RawExprKind::Times(_, _) => Some(Sort::Number),
+        RawExprKind::Name(named) => scope.name_sort(named.name),
+        RawExprKind::Param(_, _) if scope.knows_params() => Some(Sort::Number),
+        RawExprKind::Param(_, _) | RawExprKind::Special(_, _) => None,
+        RawExprKind::Nil => Some(Sort::Map),
+        RawExprKind::Bracketed(a) => sort_of(scope, a.get()),
+        RawExprKind::Call(function, _, _) => function_sort(*function),
+        RawExprKind::Not(_) => Some(Sort::Formula),
+        RawExprKind::Two(operator, _, _) => Some(operator_sort(*operator)),
     }
 }
 
@@ -114,35 +114,35 @@ fn clashes(wanted: Sort, found: Option<Sort>) -> bool
 }
 
 /// The rule that the first lexeme of an expression breaks as a name, or as the name of a function.
-fn opening(scope: &Scope, e: &Expr) -> Option<Refusal>
+fn opening(scope: &Scope, e: &RawExpr) -> Option<Refusal>
     ensures { result ≡ (reading e.now).opening scope.now }
 {
     match &e.what {
-        ExprKind::Name(named) => match scope.name_sort(named.name) {
+        RawExprKind::Name(named) => match scope.name_sort(named.name) {
             Some(_) => None,
             None => Some(broken(Rule::N1, named.line)),
         },
-        ExprKind::Param(line, _) => {
+        RawExprKind::Param(line, _) => {
             if scope.knows_params() {
                 None
             } else {
                 Some(broken(Rule::N1, *line))
             }
         }
-        ExprKind::Special(_, line) => Some(broken(Rule::N1, *line)),
-        ExprKind::Call(function, line, args) => call_fault(*function, *line, args.len()),
-        ExprKind::Bracketed(_) => None,
-        ExprKind::Two(_, a, _) => opening(scope, a.get()),
-        ExprKind::Number(_)
-        | ExprKind::Nil
-        | ExprKind::Not(_)
-        | ExprKind::Minus(_)
-        | ExprKind::Times(_, _) => None,
+        RawExprKind::Special(_, line) => Some(broken(Rule::N1, *line)),
+        RawExprKind::Call(function, line, args) => call_fault(*function, *line, args.len()),
+        RawExprKind::Bracketed(_) => None,
+        RawExprKind::Two(_, a, _) => opening(scope, a.get()),
+        RawExprKind::Number(_)
+        | RawExprKind::Nil
+        | RawExprKind::Not(_)
+        | RawExprKind::Minus(_)
+        | RawExprKind::Times(_, _) => None,
     }
 }
 
 /// The refusal of an expression of another sort than is wanted.
-fn misfit(scope: &Scope, e: &Expr) -> Stop
+fn misfit(scope: &Scope, e: &RawExpr) -> Stop
     ensures { result ≡ Stop.Refused (misfit (reading e.now) scope.now) }
 {
     match opening(scope, e) {
@@ -176,21 +176,21 @@ fn capped(count: u64) -> u64
 
 /// The nodes of an expression as a tree, or one more than a term may have.
 #[cycle(counting)]
-fn nodes(e: &Expr) -> u64
+fn nodes(e: &RawExpr) -> u64
     ensures { result ≡ min (reading e.now).nodes 1000001 }
 {
     match &e.what {
-        ExprKind::Number(_)
-        | ExprKind::Name(_)
-        | ExprKind::Param(_, _)
-        | ExprKind::Nil
-        | ExprKind::Special(_, _) => 1,
-        ExprKind::Call(_, _, args) => capped(1 + nodes_of(args.as_slice())),
-        ExprKind::Bracketed(a) => nodes(a.get()),
-        ExprKind::Not(a) => capped(1 + nodes(a.get())),
-        ExprKind::Minus(a) => capped(2 + nodes(a.get())),
-        ExprKind::Times(_, a) => capped(1 + nodes(a.get())),
-        ExprKind::Two(operator, a, b) => {
+        RawExprKind::Number(_)
+        | RawExprKind::Name(_)
+        | RawExprKind::Param(_, _)
+        | RawExprKind::Nil
+        | RawExprKind::Special(_, _) => 1,
+        RawExprKind::Call(_, _, args) => capped(1 + nodes_of(args.as_slice())),
+        RawExprKind::Bracketed(a) => nodes(a.get()),
+        RawExprKind::Not(a) => capped(1 + nodes(a.get())),
+        RawExprKind::Minus(a) => capped(2 + nodes(a.get())),
+        RawExprKind::Times(_, a) => capped(1 + nodes(a.get())),
+        RawExprKind::Two(operator, a, b) => {
             capped(operator_nodes(*operator) + nodes(a.get()) + nodes(b.get()))
         }
     }
@@ -199,7 +199,7 @@ fn nodes(e: &Expr) -> u64
 /// The nodes of expressions, or one more than a term may have.
 #[cycle(counting)]
 #[tactic(auto, unfolding(crate::specs::Exprs::all_nodes))]
-fn nodes_of(es: &[Expr]) -> u64
+fn nodes_of(es: &[RawExpr]) -> u64
     ensures { result ≡ min (all_nodes (map reading es.now)) 1000001 }
 {
     let mut count = 0;
@@ -210,7 +210,7 @@ fn nodes_of(es: &[Expr]) -> u64
 }
 
 /// The rule that the first lexeme of an expression that stands by itself breaks, but for its sort.
-fn start_fault(scope: &Scope, e: &Expr) -> Option<Refusal>
+fn start_fault(scope: &Scope, e: &RawExpr) -> Option<Refusal>
     ensures { result ≡ start_fault (reading e.now) scope.now }
 {
     if let Some(refusal) = opening(scope, e) {
@@ -260,7 +260,7 @@ fn counted(terms: &mut Terms, operator: Operator, x: TermId, y: TermId) -> Resul
 
 /// The argument at a place.
 #[tactic(auto, using(crate::proofs::Nodes::one_small, crate::proofs::Nodes::one_at))]
-fn place(args: &[Expr], at: usize) -> Option<&Expr>
+fn place(args: &[RawExpr], at: usize) -> Option<&RawExpr>
     requires small { all_nodes (map reading args.now) ≤ 1000000 }
     ensures item { MatchOption result (length args.now ≤ at) (λ e. (at < length args.now) × (e.now ≡ get_or args.now at e.now)) }
     ensures nodes { IfSome result (λ e. (reading e.now).nodes ≡ nodes_at (map reading args.now) at) }
@@ -275,7 +275,7 @@ fn place(args: &[Expr], at: usize) -> Option<&Expr>
 fn argument(
     terms: &mut Terms,
     scope: &Scope,
-    args: &[Expr],
+    args: &[RawExpr],
     at: usize,
     line: u32,
     wanted: Sort,
@@ -298,7 +298,7 @@ fn argument(
 fn map_and_key(
     terms: &mut Terms,
     scope: &Scope,
-    args: &[Expr],
+    args: &[RawExpr],
     line: u32,
 ) -> Result<(TermId, TermId), Stop>
     requires small { all_nodes (map reading args.now) ≤ 1000000 }
@@ -318,7 +318,7 @@ fn map_and_key(
 fn map_and_two(
     terms: &mut Terms,
     scope: &Scope,
-    args: &[Expr],
+    args: &[RawExpr],
     line: u32,
 ) -> Result<(TermId, TermId, TermId), Stop>
     requires small { all_nodes (map reading args.now) ≤ 1000000 }
@@ -339,7 +339,7 @@ fn applied(
     terms: &mut Terms,
     scope: &Scope,
     function: Function,
-    args: &[Expr],
+    args: &[RawExpr],
     line: u32,
 ) -> Result<TermId, Stop>
     requires small { 1 + all_nodes (map reading args.now) ≤ 1000000 }
@@ -388,7 +388,7 @@ fn call(
     terms: &mut Terms,
     scope: &Scope,
     function: Function,
-    args: &[Expr],
+    args: &[RawExpr],
     line: u32,
 ) -> Result<TermId, Stop>
     requires small { 1 + all_nodes (map reading args.now) ≤ 1000000 }
@@ -406,7 +406,7 @@ fn call(
 /// An expression as a term of a sort.
 #[cycle(terms)]
 #[tactic(auto, using(crate::proofs::Kept::kept_tree, crate::proofs::Kept::kept_term, crate::proofs::Kept::along, crate::proofs::Kept::stays), unfolding(sync_terms::specs::Stored::shape, sync_terms::specs::Stored::tree, sync_terms::specs::Trees::tree_size))]
-fn term(terms: &mut Terms, scope: &Scope, e: &Expr, wanted: Sort) -> Result<TermId, Stop>
+fn term(terms: &mut Terms, scope: &Scope, e: &RawExpr, wanted: Sort) -> Result<TermId, Stop>
     requires small { (reading e.now).nodes ≤ 1000000 }
     ensures exact { Gives (tree terms.new) result (term_as wanted (reading e.now) scope.now) }
     ensures id { IfOk result (IsTerm terms.new) }
@@ -417,35 +417,35 @@ fn term(terms: &mut Terms, scope: &Scope, e: &Expr, wanted: Sort) -> Result<Term
         return Err(misfit(scope, e));
     }
     match &e.what {
-        ExprKind::Number(n) => added(terms, Node::Lit(*n)),
-        ExprKind::Name(named) => {
+        RawExprKind::Number(n) => added(terms, Node::Lit(*n)),
+        RawExprKind::Name(named) => {
             let symbol = scope.name_symbol(*named)?;
             added(terms, Node::Name(symbol))
         }
-        ExprKind::Param(line, named) => {
+        RawExprKind::Param(line, named) => {
             let symbol = scope.param_symbol(*line, *named)?;
             added(terms, Node::Name(symbol))
         }
-        ExprKind::Nil => added(terms, Node::Nil),
-        ExprKind::Bracketed(a) => term(terms, scope, a.get(), wanted),
-        ExprKind::Special(_, line) => Err(refused(Rule::N1, *line)),
-        ExprKind::Call(function, line, args) => {
+        RawExprKind::Nil => added(terms, Node::Nil),
+        RawExprKind::Bracketed(a) => term(terms, scope, a.get(), wanted),
+        RawExprKind::Special(_, line) => Err(refused(Rule::N1, *line)),
+        RawExprKind::Call(function, line, args) => {
             call(terms, scope, *function, args.as_slice(), *line)
         }
-        ExprKind::Minus(a) => {
+        RawExprKind::Minus(a) => {
             let x = term(terms, scope, a.get(), Sort::Number)?;
             negated(terms, x)
         }
-        ExprKind::Times(n, a) => {
+        RawExprKind::Times(n, a) => {
             let x = term(terms, scope, a.get(), Sort::Number)?;
             added(terms, Node::Scale(*n, x))
         }
-        ExprKind::Two(operator, a, b) => {
+        RawExprKind::Two(operator, a, b) => {
             let x = term(terms, scope, a.get(), Sort::Number)?;
             let y = term(terms, scope, b.get(), Sort::Number)?;
             counted(terms, *operator, x, y)
         }
-        ExprKind::Not(_) => Err(refused(Rule::N6, e.line)),
+        RawExprKind::Not(_) => Err(refused(Rule::N6, e.line)),
     }
 }
 
@@ -514,7 +514,7 @@ fn joins_forms(operator: Operator) -> bool
 
 /// An expression as a formula.
 #[tactic(auto, using(crate::proofs::Kept::kept_tree, crate::proofs::Kept::kept_term, crate::proofs::Kept::kept_formula, crate::proofs::Kept::kept_form, crate::proofs::Kept::along, crate::proofs::Kept::stays), unfolding(sync_terms::specs::Stored::form_shape, sync_terms::specs::Stored::tree, sync_terms::specs::Stored::formula, sync_terms::specs::Trees::tree_size, sync_terms::specs::Trees::formula_size))]
-fn form(terms: &mut Terms, scope: &Scope, e: &Expr) -> Result<FormId, Stop>
+fn form(terms: &mut Terms, scope: &Scope, e: &RawExpr) -> Result<FormId, Stop>
     requires small { (reading e.now).nodes ≤ 1000000 }
     ensures exact { Gives (formula terms.new) result (form_as (reading e.now) scope.now) }
     ensures id { IfOk result (IsForm terms.new) }
@@ -525,12 +525,12 @@ fn form(terms: &mut Terms, scope: &Scope, e: &Expr) -> Result<FormId, Stop>
         return Err(misfit(scope, e));
     }
     match &e.what {
-        ExprKind::Not(a) => {
+        RawExprKind::Not(a) => {
             let f = form(terms, scope, a.get())?;
             added_form(terms, FormNode::Not(f))
         }
-        ExprKind::Bracketed(a) => form(terms, scope, a.get()),
-        ExprKind::Two(operator, a, b) => {
+        RawExprKind::Bracketed(a) => form(terms, scope, a.get()),
+        RawExprKind::Two(operator, a, b) => {
             if joins_forms(*operator) {
                 let f = form(terms, scope, a.get())?;
                 let g = form(terms, scope, b.get())?;
@@ -541,11 +541,11 @@ fn form(terms: &mut Terms, scope: &Scope, e: &Expr) -> Result<FormId, Stop>
                 compared(terms, *operator, x, y)
             }
         }
-        ExprKind::Name(named) => Err(refused(Rule::N1, named.line)),
-        ExprKind::Param(line, _) | ExprKind::Special(_, line) | ExprKind::Call(_, line, _) => {
+        RawExprKind::Name(named) => Err(refused(Rule::N1, named.line)),
+        RawExprKind::Param(line, _) | RawExprKind::Special(_, line) | RawExprKind::Call(_, line, _) => {
             Err(refused(Rule::N1, *line))
         }
-        ExprKind::Number(_) | ExprKind::Nil | ExprKind::Minus(_) | ExprKind::Times(_, _) => {
+        RawExprKind::Number(_) | RawExprKind::Nil | RawExprKind::Minus(_) | RawExprKind::Times(_, _) => {
             Err(refused(Rule::N6, e.line))
         }
     }
@@ -553,7 +553,7 @@ fn form(terms: &mut Terms, scope: &Scope, e: &Expr) -> Result<FormId, Stop>
 
 /// An expression that stands by itself, as a term of a sort.
 #[tactic(auto, using(crate::proofs::Kept::stays))]
-pub fn term_of(terms: &mut Terms, scope: &Scope, e: &Expr, wanted: Sort) -> Result<TermId, Stop>
+pub fn term_of(terms: &mut Terms, scope: &Scope, e: &RawExpr, wanted: Sort) -> Result<TermId, Stop>
     ensures exact { Gives (tree terms.new) result (term_of wanted e.now scope.now) }
     ensures id { IfOk result (IsTerm terms.new) }
     ensures keeps { Extends terms.old terms.new }
@@ -566,7 +566,7 @@ pub fn term_of(terms: &mut Terms, scope: &Scope, e: &Expr, wanted: Sort) -> Resu
 
 /// An expression that stands by itself, as a formula.
 #[tactic(auto, using(crate::proofs::Kept::stays))]
-pub fn form_of(terms: &mut Terms, scope: &Scope, e: &Expr) -> Result<FormId, Stop>
+pub fn form_of(terms: &mut Terms, scope: &Scope, e: &RawExpr) -> Result<FormId, Stop>
     ensures exact { Gives (formula terms.new) result (form_of e.now scope.now) }
     ensures id { IfOk result (IsForm terms.new) }
     ensures keeps { Extends terms.old terms.new }

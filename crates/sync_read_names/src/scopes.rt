@@ -5,7 +5,7 @@ ghost use Rattle.sync_read_names.specs.Scopes.{symbol_of, param_symbol_of, flag,
 
 use sqlite_items::{Items, at};
 use sync_base::{Refusal, Rule, Stop};
-use sync_parse_exprs::Named;
+use sync_parse_exprs::RawName;
 use sync_terms::Sym;
 
 /// The sort of an expression.
@@ -141,7 +141,7 @@ impl Scope {
     }
 
     /// Declares a name, which is new.
-    pub fn declare(&mut self, named: Named, meaning: Meaning) -> Result<(), Stop>
+    pub fn declare(&mut self, named: RawName, meaning: Meaning) -> Result<(), Stop>
         ensures { Gives (λ _. self.new) result (declare self.old named meaning) }
     {
         if named.name as usize >= self.meanings.len() {
@@ -186,7 +186,7 @@ impl Scope {
     }
 
     /// Makes a new name a parameter or bound name of the owner.
-    pub fn own(&mut self, named: Named) -> Result<(), Stop>
+    pub fn own(&mut self, named: RawName) -> Result<(), Stop>
         ensures { Gives (λ _. self.new) result (own self.old named) }
     {
         let owners = match self.owners.get(named.name as usize) {
@@ -215,7 +215,7 @@ impl Scope {
     }
 
     /// The symbol of a name in a term.
-    pub fn name_symbol(&self, named: Named) -> Result<Sym, Stop>
+    pub fn name_symbol(&self, named: RawName) -> Result<Sym, Stop>
         ensures { Gives (λ x. x.0) result (name_symbol self.now named) }
     {
         if self.is_local(named.name) {
@@ -240,7 +240,7 @@ impl Scope {
     }
 
     /// The symbol of `$`, which stands at a line, before a name.
-    pub fn param_symbol(&self, line: u32, named: Named) -> Result<Sym, Stop>
+    pub fn param_symbol(&self, line: u32, named: RawName) -> Result<Sym, Stop>
         ensures { Gives (λ x. x.0) result (param_symbol self.now line named) }
     {
         if !self.knows_params() {

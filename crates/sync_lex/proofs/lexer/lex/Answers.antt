@@ -6,7 +6,7 @@ use Rattle.sync_lex.proofs.Held.{goes_on, gap_begins, word_begins, is_broken, is
 use Rattle.sync_lex.proofs.Places.{lies}
 use Rattle.sync_lex.proofs.Within.{gap_fits, word_fits}
 use Rattle.sync_lex.proofs.lexer.lex.Goals as goal
-use Rattle.sync_lex.proofs.lexer.lex.Goals.{then-skip-eq0+in-Gap, then-skip-eq0+in-Word+in_ok-push-in-Word, else-skip-eq0, then-byte-eq10, else-byte-eq10}
+use Rattle.sync_lex.proofs.lexer.lex.Goals.{then-skip-eq0+in-Gap, then-skip-eq0+in-Match+in_ok-push-in-Match, else-skip-eq0, then-byte-eq10, else-byte-eq10}
 
 is_read : goal.returns-clause-exact
 is_read c =
@@ -17,13 +17,13 @@ pub overflow_add-at : goal.overflow_add-at
 overflow_add-at c =
     let l = c.loop-at in
     let text = c.args.text.now in
-    omega (arith, length-drop l.at text, word_fits (drop l.at text) c.in-Word.kind c.in-Word.len (read_here text l.at _ c.in-Word.ensures))
+    omega (arith, length-drop l.at text, word_fits (drop l.at text) c.in-Match.kind c.in-Match.len (read_here text l.at _ c.in-Match.ensures))
 
-pub overflow_cast-at-in-Word : goal.overflow_cast-at-in-Word
-overflow_cast-at-in-Word c =
+pub overflow_cast-at-in-Match : goal.overflow_cast-at-in-Match
+overflow_cast-at-in-Match c =
     let l = c.loop-at in
     let text = c.args.text.now in
-    omega (arith, length-drop l.at text, word_fits (drop l.at text) c.in-Word.kind c.in-Word.len (read_here text l.at _ c.in-Word.ensures))
+    omega (arith, length-drop l.at text, word_fits (drop l.at text) c.in-Match.kind c.in-Match.len (read_here text l.at _ c.in-Match.ensures))
 
 pub overflow_sub-skip : goal.overflow_sub-skip
 overflow_sub-skip c =
@@ -31,7 +31,7 @@ overflow_sub-skip c =
     let text = c.args.text.now in
     elim c.if-skip-eq0.branch [
       | then-skip-eq0+in-Gap w ↦ omega (arith, gap_fits (drop l.at text) w.in-Gap.len (read_here text l.at _ w.in-Gap.ensures))
-      | then-skip-eq0+in-Word+in_ok-push-in-Word w ↦ omega (arith, word_fits (drop l.at text) w.in-Word.kind w.in-Word.len (read_here text l.at _ w.in-Word.ensures))
+      | then-skip-eq0+in-Match+in_ok-push-in-Match w ↦ omega (arith, word_fits (drop l.at text) w.in-Match.kind w.in-Match.len (read_here text l.at _ w.in-Match.ensures))
       | else-skip-eq0 w ↦ omega arith
     ]
 
@@ -63,12 +63,12 @@ loop-at-preserved c =
             lines = lines;
             within = omega (arith, length-drop l.at text);
           }
-      | then-skip-eq0+in-Word+in_ok-push-in-Word w ↦
-          let here = read_here text l.at _ w.in-Word.ensures in
-          let fits = word_fits (drop l.at text) w.in-Word.kind w.in-Word.len here in
+      | then-skip-eq0+in-Match+in_ok-push-in-Match w ↦
+          let here = read_here text l.at _ w.in-Match.ensures in
+          let fits = word_fits (drop l.at text) w.in-Match.kind w.in-Match.len here in
           let so_far = rw w.if-skip-eq0.true at l.invariant.so_far in
           record {
-            so_far = rw (w.list-is, w.skip-is, line_is, w.in_ok-push-in-Word.ensures.ok) (word_begins text l.list l.at l.line _ w.in-Word.kind w.in-Word.len (omega arith) here so_far);
+            so_far = rw (w.list-is, w.skip-is, line_is, w.in_ok-push-in-Match.ensures.ok) (word_begins text l.list l.at l.line _ w.in-Match.kind w.in-Match.len (omega arith) here so_far);
             lines = lines;
             within = omega (arith, length-drop l.at text);
           }
@@ -91,3 +91,6 @@ returns-clause-apart c = (lies c.args.text.now _ (is_read c)).apart
 
 pub returns-clause-last : goal.returns-clause-last
 returns-clause-last c = (lies c.args.text.now _ (is_read c)).last
+
+pub returns-clause-parted : goal.returns-clause-parted
+returns-clause-parted c = (lies c.args.text.now _ (is_read c)).parted

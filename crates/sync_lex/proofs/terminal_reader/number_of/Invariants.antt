@@ -1,5 +1,6 @@
 use Rattle.std.proofs.Common.{◌≡◌, min, drop}
-use Rattle.sync_lex.specs.Terminals.{largest, decimal_after}
+use Rattle.sync_lex.specs.Terminals.{decimal_after}
+use Rattle.sync_base.specs.Limits.{largest}
 use Rattle.sync_lex.proofs.terminal_reader.number_of.Given as goal
 
 abbrev pub invariant-loop-digit : goal.invariant-loop-digit

@@ -1,5 +1,5 @@
 use Rattle.std.proofs.Common.{◌≡◌, ◌-◌}
-use Rattle.sync_parse_exprs.specs.Lexemes.{row, goes_on}
+use Rattle.sync_parse_exprs.specs.Terminals.{row, goes_on}
 use Rattle.sync_parse.specs.Machines.{act_at, acts}
 use Rattle.sync_parse.proofs.act_reader.acts.Given as goal
 

@@ -1,7 +1,7 @@
 use Rattle.std.proofs.Common.{sym, ◌∙◌, arith}
 use Rattle.std.proofs.lemmas.Result.{err_from_is_err_and}
 use Rattle.sync_lex.specs.declared.signs.Sign.TheVariants as sign
-use Rattle.sync_parse_exprs.specs.Lexemes.{begins_with}
+use Rattle.sync_parse_exprs.specs.Terminals.{begins_with}
 use Rattle.sync_parse.specs.Machines.{field_at}
 use Rattle.sync_parse_exprs.proofs.Rows.{row_goes, row_ends, row_stops}
 use Rattle.sync_parse.proofs.machine_reader.fields.Goals as goal

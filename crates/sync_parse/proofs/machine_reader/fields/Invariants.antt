@@ -1,6 +1,6 @@
 use Rattle.std.proofs.Common.{◌≡◌, ◌-◌}
 use Rattle.sync_lex.specs.declared.signs.Sign.TheVariants as sign
-use Rattle.sync_parse_exprs.specs.Lexemes.{row, begins_with}
+use Rattle.sync_parse_exprs.specs.Terminals.{row, begins_with}
 use Rattle.sync_parse.specs.Machines.{field_at, fields}
 use Rattle.sync_parse.proofs.machine_reader.fields.Given as goal
 

@@ -1,6 +1,6 @@
 use Rattle.std.proofs.Common.{◌≡◌, ◌-◌}
 use Rattle.sync_lex.specs.declared.signs.Sign.TheVariants as sign
-use Rattle.sync_parse_exprs.specs.Lexemes.{row, begins_with}
+use Rattle.sync_parse_exprs.specs.Terminals.{row, begins_with}
 use Rattle.sync_parse.specs.Machines.{invariant_at, invariants}
 use Rattle.sync_parse.proofs.machine_reader.invariants.Given as goal
 

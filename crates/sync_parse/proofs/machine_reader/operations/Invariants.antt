@@ -1,5 +1,5 @@
 use Rattle.std.proofs.Common.{◌≡◌, ◌-◌}
-use Rattle.sync_parse_exprs.specs.Lexemes.{row}
+use Rattle.sync_parse_exprs.specs.Terminals.{row}
 use Rattle.sync_parse.specs.Machines.{begins_operation, operation_at, operations}
 use Rattle.sync_parse.proofs.machine_reader.operations.Given as goal
 

@@ -1,6 +1,6 @@
 use Rattle.std.proofs.Common.{sym, ◌∙◌, arith}
 use Rattle.std.proofs.lemmas.Result.{err_from_is_err_and}
-use Rattle.sync_parse_exprs.specs.Lexemes.{goes_on}
+use Rattle.sync_parse_exprs.specs.Terminals.{goes_on}
 use Rattle.sync_parse.specs.Machines.{proof_at}
 use Rattle.sync_parse_exprs.proofs.Rows.{row_goes, row_ends, row_stops}
 use Rattle.sync_parse.proofs.machine_reader.proof_row.Goals as goal

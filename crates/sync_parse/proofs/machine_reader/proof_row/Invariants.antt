@@ -1,5 +1,5 @@
 use Rattle.std.proofs.Common.{◌≡◌, ◌-◌}
-use Rattle.sync_parse_exprs.specs.Lexemes.{row, goes_on}
+use Rattle.sync_parse_exprs.specs.Terminals.{row, goes_on}
 use Rattle.sync_parse.specs.Machines.{proof_at, proof_row}
 use Rattle.sync_parse.proofs.machine_reader.proof_row.Given as goal
 

@@ -1,5 +1,5 @@
 use Rattle.std.proofs.Common.{◌≡◌, ◌+◌, ◌-◌, ◌*◌}
-use Rattle.sync_parse_exprs.specs.Lexemes.{row, goes_on}
+use Rattle.sync_parse_exprs.specs.Terminals.{row, goes_on}
 use Rattle.sync_parse.specs.Scripts.{step_at, nested, steps}
 use Rattle.sync_parse.proofs.script_reader.+script.Given as goal
 

@@ -1,6 +1,6 @@
 use Rattle.std.proofs.Common.{◌≡◌, ◌+◌, ◌-◌, ◌*◌}
 use Rattle.sync_lex.specs.declared.signs.Sign.TheVariants as sign
-use Rattle.sync_parse_exprs.specs.Lexemes.{behind_commas, series}
+use Rattle.sync_parse_exprs.specs.Terminals.{behind_commas, series}
 use Rattle.sync_parse_exprs.specs.Expressions.{chain, sum_of, and_of, or_of, whole, product, sums, relation, ands, ors, inside}
 use Rattle.sync_parse_exprs.proofs.expr_reader.+expr.Given as goal
 

@@ -1,14 +1,14 @@
 //! Reading one lexeme. `left` is 65 less the number of brackets that are open before it: at 0 it is too deep.
 ghost use Rattle.std.specs.Prelude.{◌≡◌, ◌<◌, [], ◌∷◌, IfOk, MatchOption};
 ghost use Rattle.sync_parse_exprs.specs.Faults.{Reads};
-ghost use Rattle.sync_parse_exprs.specs.Lexemes.{first_line, begins_with, goes_on, sign_at, name_at, number_at, strategy_at, series, names_at};
+ghost use Rattle.sync_parse_exprs.specs.Terminals.{first_line, begins_with, goes_on, sign_at, name_at, number_at, strategy_at, series, names_at};
 
 use crate::faults::{Fault, Halt};
-use crate::naming::Named;
+use crate::raw_names::RawName;
 use sqlite_items::Items;
 use std::alloc::Global;
 use sync_base::Strategy;
-use sync_lex::{Sign, TerminalKind, Terminal};
+use sync_lex::{Sign, Terminal, TerminalKind};
 
 /// A value and the terminals behind it.
 pub type Read<'a, T> = Result<(T, &'a [Terminal]), Halt>;
@@ -63,7 +63,7 @@ pub fn deep(line: u32) -> Halt
 }
 
 /// A sign or a reserved word; its line.
-#[tactic(auto, unfolding(crate::specs::Lexemes::sign_at))]
+#[tactic(auto, unfolding(crate::specs::Terminals::sign_at))]
 pub fn sign(terminals: &[Terminal], left: u32, sign: Sign) -> Read<'_, u32>
     ensures reads { Reads (λ x. (x.0, x.1.now)) result (sign_at left sign terminals.now) }
     ensures shallow { IfOk result (λ x. 0 < left) }
@@ -78,15 +78,15 @@ pub fn sign(terminals: &[Terminal], left: u32, sign: Sign) -> Read<'_, u32>
     Ok((terminal.line, rest))
 }
 
-#[tactic(auto, unfolding(crate::specs::Lexemes::name_at))]
-pub fn name(terminals: &[Terminal], left: u32) -> Read<'_, Named>
+#[tactic(auto, unfolding(crate::specs::Terminals::name_at))]
+pub fn name(terminals: &[Terminal], left: u32) -> Read<'_, RawName>
     ensures { Reads (λ x. (x.0, x.1.now)) result (name_at left terminals.now) }
 {
     let (terminal, rest) = next(terminals).ok_or(Halt::Fault(Fault::Ended))?;
     match terminal.what {
         TerminalKind::Name(_, _) if left == 0 => Err(deep(terminal.line)),
         TerminalKind::Name(name, _) => Ok((
-            Named {
+            RawName {
                 name,
                 line: terminal.line,
             },
@@ -96,7 +96,7 @@ pub fn name(terminals: &[Terminal], left: u32) -> Read<'_, Named>
     }
 }
 
-#[tactic(auto, unfolding(crate::specs::Lexemes::number_at))]
+#[tactic(auto, unfolding(crate::specs::Terminals::number_at))]
 pub fn number(terminals: &[Terminal], left: u32) -> Read<'_, u128>
     ensures { Reads (λ x. (x.0, x.1.now)) result (number_at left terminals.now) }
 {
@@ -109,7 +109,7 @@ pub fn number(terminals: &[Terminal], left: u32) -> Read<'_, u128>
 }
 
 /// A name that is the name of a strategy.
-#[tactic(auto, unfolding(crate::specs::Lexemes::strategy_at))]
+#[tactic(auto, unfolding(crate::specs::Terminals::strategy_at))]
 pub fn strategy(terminals: &[Terminal], left: u32) -> Read<'_, Strategy>
     ensures { Reads (λ x. (x.0, x.1.now)) result (strategy_at left terminals.now) }
 {
@@ -117,13 +117,15 @@ pub fn strategy(terminals: &[Terminal], left: u32) -> Read<'_, Strategy>
     match terminal.what {
         TerminalKind::Name(_, Some(_)) if left == 0 => Err(deep(terminal.line)),
         TerminalKind::Name(_, Some(strategy)) => Ok((strategy, rest)),
-        TerminalKind::Name(_, None) | TerminalKind::Number(_) | TerminalKind::Sign(_) => Err(wanted(terminal.line)),
+        TerminalKind::Name(_, None) | TerminalKind::Number(_) | TerminalKind::Sign(_) => Err(wanted(
+            terminal.line,
+        )),
     }
 }
 
 /// Names with commas between, at least one.
-#[tactic(auto, unfolding(crate::specs::Lexemes::series, crate::specs::Lexemes::behind_commas))]
-fn name_series(alloc: Global, terminals: &[Terminal], left: u32) -> Read<'_, Items<Named>>
+#[tactic(auto, unfolding(crate::specs::Terminals::series, crate::specs::Terminals::behind_commas))]
+fn name_series(alloc: Global, terminals: &[Terminal], left: u32) -> Read<'_, Items<RawName>>
     ensures { Reads (λ x. (x.0, x.1.now)) result (series (name_at left) terminals.now) }
 {
     let (first, mut rest) = name(terminals, left)?;
@@ -143,8 +145,8 @@ fn name_series(alloc: Global, terminals: &[Terminal], left: u32) -> Read<'_, Ite
 }
 
 /// Names with commas between, in round brackets.
-#[tactic(auto, unfolding(crate::specs::Lexemes::names_at, crate::specs::Lexemes::in_round, crate::specs::Lexemes::listed))]
-pub fn names(alloc: Global, terminals: &[Terminal], left: u32) -> Read<'_, Items<Named>>
+#[tactic(auto, unfolding(crate::specs::Terminals::names_at, crate::specs::Terminals::in_round, crate::specs::Terminals::listed))]
+pub fn names(alloc: Global, terminals: &[Terminal], left: u32) -> Read<'_, Items<RawName>>
     ensures { Reads (λ x. (x.0, x.1.now)) result (names_at left terminals.now) }
 {
     let (_, rest) = sign(terminals, left, Sign::OpenRound)?;

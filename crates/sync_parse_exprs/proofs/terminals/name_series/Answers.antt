@@ -1,7 +1,7 @@
 use Rattle.std.proofs.Common.{sym, ◌∙◌, arith}
-use Rattle.sync_parse_exprs.specs.Lexemes.{name_at}
+use Rattle.sync_parse_exprs.specs.Terminals.{name_at}
 use Rattle.sync_parse_exprs.proofs.Rows.{commas_go}
-use Rattle.sync_parse_exprs.proofs.lexemes.name_series.Goals as goal
+use Rattle.sync_parse_exprs.proofs.terminals.name_series.Goals as goal
 
 pub loop-preserved : goal.loop-preserved
 loop-preserved c =

@@ -11,7 +11,15 @@ use Rattle.sync_lex.specs.declared.terminals.Terminal.{Terminal}
 use Rattle.sync_lex.specs.Terminals.{is_sign}
 use Rattle.sync_parse_exprs.specs.declared.faults.Fault.{Fault}
 use Rattle.sync_parse_exprs.specs.declared.faults.Fault.TheVariants.{Ended, Wanted, Deep}
-use Rattle.sync_parse_exprs.specs.declared.naming.Named.{Named}
+use Rattle.sync_parse_exprs.specs.declared.raw_names.RawName.{RawName}
+
+-- the levels of a text: 64 brackets may be open before a lexeme
+abbrev pub levels : ℕ
+levels = 65
+
+-- so many operators of a chain, or prefix signs of a run, may stand at one level
+abbrev pub longest_chain : ℕ
+longest_chain = 64
 
 -- a value and the terminals behind it, or the first fault
 abbrev pub Read : Type 0 → Type 0
@@ -21,8 +29,8 @@ abbrev pub Reader : Type 0 → Type 0
 Reader A = List Terminal → Read A
 
 -- a lexeme that is wanted, with what is read from it on
-abbrev pub within : {A : Type 0} → ℕ → ℕ → Read A → Read A
-within left line go = if left == 0 then Err (Deep line) else go
+abbrev pub unless_deep : {A : Type 0} → ℕ → ℕ → Read A → Read A
+unless_deep left line go = if left == 0 then Err (Deep line) else go
 
 abbrev pub first_line : List Terminal → ℕ
 first_line [] = 0
@@ -36,19 +44,19 @@ begins_with s (w ∷ ws) = is_sign w s
 -- a sign or a reserved word; its line
 unfoldable pub sign_at : ℕ → Sign → Reader ℕ
 sign_at left s [] = Err Ended
-sign_at left s (w ∷ ws) = if is_sign w s then within left w.line (Ok (w.line, ws)) else Err (Wanted w.line)
+sign_at left s (w ∷ ws) = if is_sign w s then unless_deep left w.line (Ok (w.line, ws)) else Err (Wanted w.line)
 
-abbrev pub name_said : ℕ → ℕ → List Terminal → TerminalKind → Read Named
-name_said left line ws (what.Name n strategy) = within left line (Ok (record { name = n; line = line }, ws))
+abbrev pub name_said : ℕ → ℕ → List Terminal → TerminalKind → Read RawName
+name_said left line ws (what.Name n strategy) = unless_deep left line (Ok (record { name = n; line = line }, ws))
 name_said left line ws (what.Number n) = Err (Wanted line)
 name_said left line ws (what.Sign s) = Err (Wanted line)
 
-unfoldable pub name_at : ℕ → Reader Named
+unfoldable pub name_at : ℕ → Reader RawName
 name_at left [] = Err Ended
 name_at left (w ∷ ws) = name_said left w.line ws w.what
 
 abbrev pub number_said : ℕ → ℕ → List Terminal → TerminalKind → Read ℕ
-number_said left line ws (what.Number n) = within left line (Ok (n, ws))
+number_said left line ws (what.Number n) = unless_deep left line (Ok (n, ws))
 number_said left line ws (what.Name n strategy) = Err (Wanted line)
 number_said left line ws (what.Sign s) = Err (Wanted line)
 
@@ -57,7 +65,7 @@ number_at left [] = Err Ended
 number_at left (w ∷ ws) = number_said left w.line ws w.what
 
 abbrev pub strategy_said : ℕ → ℕ → List Terminal → TerminalKind → Read Strategy
-strategy_said left line ws (what.Name n (Some strategy)) = within left line (Ok (strategy, ws))
+strategy_said left line ws (what.Name n (Some strategy)) = unless_deep left line (Ok (strategy, ws))
 strategy_said left line ws (what.Name n None) = Err (Wanted line)
 strategy_said left line ws (what.Number n) = Err (Wanted line)
 strategy_said left line ws (what.Sign s) = Err (Wanted line)
@@ -106,5 +114,5 @@ in_round left item ts = do
   Ok (x.0, e.1)
 
 -- names with commas between, in round brackets
-unfoldable pub names_at : ℕ → Reader (List Named)
+unfoldable pub names_at : ℕ → Reader (List RawName)
 names_at left ts = in_round left (listed (name_at (left - 1)) sign.CloseRound) ts

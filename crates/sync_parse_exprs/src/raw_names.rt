@@ -2,7 +2,7 @@
 
 /// A name, by its number in the text's list of names, and the line where it stands.
 #[derive(Clone, Copy, PartialEq, Eq, Debug)]
-pub struct Named {
+pub struct RawName {
     pub name: u32,
     pub line: u32,
 }
