@@ -5,6 +5,7 @@ use Rattle.std.specs.Str.{bytes_eq}
 use Rattle.std.proofs.lemmas.List.Folds.{list_any-append}
 use Rattle.std.proofs.lemmas.Cmp.{nat_list_eq_equiv}
 use Rattle.std.proofs.lemmas.Slice.Eq.{bytes_eq-Decides}
+use Rattle.sync_base.proofs.Basics.{neither, or_true}
 use Rattle.sync_base.specs.declared.names.Name.{Name}
 use Rattle.sync_lex.specs.declared.lexemes.Kind.{Kind}
 use Rattle.sync_lex.specs.declared.lexemes.Kind.TheVariants as kind
@@ -16,10 +17,6 @@ use Rattle.sync_lex.specs.declared.terminals.TerminalKind.TheVariants as what
 use Rattle.sync_lex.specs.Signs.{sign_of}
 use Rattle.sync_lex.specs.Strategies.{strategy_of}
 use Rattle.sync_lex.specs.Terminals.{name_of, spells, number_in, names_with, named, said, Recalls}
-
-neither : (a b : Bool) → (a || b) ≡ false → (a ≡ false) × (b ≡ false)
-neither true b e = absurd cc
-neither false b e = (refl, e)
 
 module _ (p : Name → Bool) where
   -- the place behind a list that does not have it, also where it is put there
@@ -42,10 +39,6 @@ module _ (p : Name → Bool) where
 
 itself : (bytes : List ℕ) → bytes_eq bytes bytes ≡ true
 itself bytes = nat_list_eq_equiv.refl bytes
-
-or_true : (a : Bool) → (a || true) ≡ true
-or_true true = refl
-or_true false = refl
 
 -- names that have a spelling keep its number and themselves
 module _ (bytes : List ℕ) (names : List Name) where

@@ -7,6 +7,7 @@ use Rattle.std.proofs.Math.Numerals.{one-add}
 use Rattle.std.proofs.lemmas.Bool.{cases_lt, false≢true}
 use Rattle.std.proofs.lemmas.Bool.Decides.{nat_tests}
 use Rattle.std.proofs.lemmas.List.Folds.{length-prefix_len}
+use Rattle.sync_base.proofs.Basics.{both}
 use lib.Pointwise.{bytes_decides}
 use Rattle.sync_lex.specs.declared.pieces.Piece.{Piece}
 use Rattle.sync_lex.specs.declared.pieces.Piece.TheVariants.{Gap, Match, Broken}
@@ -19,7 +20,6 @@ use Rattle.sync_lex.specs.Punctuation.{punctuation, longest, sign_len}
 use Rattle.sync_lex.specs.Pieces.{name_piece, number_piece, sign_piece, piece}
 use Rattle.sync_base.specs.Limits.{largest, longest_name}
 use Rattle.sync_lex.specs.Spelling.{IsSpelled}
-use Rattle.sync_lex.proofs.SignLen.{both}
 use Rattle.sync_lex.proofs.Numbers.{digit_bounds}
 use Rattle.sync_lex.proofs.Within.{by_test, continues}
 

@@ -7,14 +7,14 @@ use Rattle.std.proofs.lemmas.Int.Digits.{digits_value_more}
 use Rattle.std.proofs.lemmas.List.Sums.{prefix_len-drop_yes}
 use Rattle.std.proofs.lemmas.Bool.Decides.{nat_tests}
 use Rattle.std.proofs.lemmas.Bool.{leb-true, lt-ltb}
+use Rattle.sync_base.proofs.Basics.{both}
 use Rattle.sync_base.specs.declared.stops.Rule.TheVariants.{L3}
 use Rattle.sync_lex.specs.declared.pieces.Piece.TheVariants.{Broken}
 use Rattle.sync_lex.specs.Pieces.{number_piece}
 use Rattle.sync_base.specs.Limits.{largest}
-use Rattle.sync_lex.proofs.SignLen.{both}
 use Rattle.sync_lex.specs.Bytes.{number_value}
 
-digit_is : (c : ℕ) → 48 ≤ c → c ≤ 57 → digit_value c ≡ c - 48
+pub digit_is : (c : ℕ) → 48 ≤ c → c ≤ 57 → digit_value c ≡ c - 48
 digit_is c low high = grind (arith, nat_tests)
 
 after_ge : (n : ℕ) (xs : List ℕ) → n ≤ digits_value_after 10 n xs

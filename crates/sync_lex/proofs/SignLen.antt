@@ -3,14 +3,10 @@ use Rattle.std.proofs.Common.{◌≡◌, ℕ, Bool, true, false, cond, max, eqb,
 use Rattle.std.specs.Prelude.{codes, nat_eq, ◌&&◌, ◌||◌}
 use Rattle.std.specs.List.{starts_with, list_all}
 use Rattle.std.proofs.lemmas.Bool.{eqb-true}
+use Rattle.sync_base.proofs.Basics.{both}
 use Rattle.sync_lex.specs.declared.signs.Sign.TheVariants as sign
 use Rattle.sync_lex.specs.Signs.{singles, doubles, spelling_of}
 use Rattle.sync_lex.specs.Punctuation.{begins_any, longest, sign_len}
-
-pub both : (a b : Bool) → (a && b) ≡ true → (a ≡ true) × (b ≡ true)
-both true true e = (refl, refl)
-both true false e = absurd cc
-both false b e = absurd cc
 
 -- words of one length
 abbrev HaveLen : ℕ → List (List ℕ) → Type 0

@@ -7,6 +7,7 @@ use Rattle.std.specs.List.{starts_with, prefix_len, take_while}
 use Rattle.std.proofs.lemmas.Bool.{eqb-true}
 use Rattle.std.proofs.lemmas.List.Sums.{prefix_len-le-length}
 use Rattle.std.proofs.lemmas.List.Folds.{length-prefix_len}
+use Rattle.sync_base.proofs.Basics.{both}
 use lib.Pointwise.{pointwise, pointwise_long}
 use Rattle.sync_lex.specs.declared.pieces.Piece.{Piece}
 use Rattle.sync_lex.specs.declared.pieces.Piece.TheVariants.{Gap, Match, Broken}
@@ -17,7 +18,6 @@ use Rattle.sync_base.specs.declared.stops.Rule.TheVariants.{L3, L4}
 use Rattle.sync_lex.specs.Bytes.{is_blank, begins_name, continues_name, number_value}
 use Rattle.sync_lex.specs.Punctuation.{punctuation, longest, sign_len}
 use Rattle.sync_lex.specs.Pieces.{name_piece, number_piece, sign_piece, piece}
-use Rattle.sync_lex.proofs.SignLen.{both}
 
 -- the piece is not empty and lies within so many bytes
 abbrev pub IsIn : ℕ → Piece → Type 0

@@ -2,6 +2,9 @@
 ghost use Rattle.std.specs.Prelude.{◌≡◌};
 ghost use Rattle.sync_lex.specs.declared.signs.Sign.TheVariants as sign;
 ghost use Rattle.sync_parse.specs.declared.trees.RawAct.TheVariants as act;
+ghost use Rattle.sync_parse.specs.declared.trees.RawAct.{RawAct};
+ghost use Rattle.sync_parse_exprs.specs.declared.expressions.RawExpr.{RawExpr};
+ghost use Rattle.sync_parse_exprs.specs.declared.raw_names.RawName.{RawName};
 ghost use Rattle.sync_parse_exprs.specs.Faults.{Reads};
 ghost use Rattle.sync_parse.specs.Machines.{pattern_at, keyed, place_at, closed_expr, closed_place, formula_act, value_act, field_place, place_act, have_act, act_kind, act_at, acts};
 
@@ -86,43 +89,62 @@ fn closed_place<'a>(alloc: Global, terminals: &'a [Terminal], left: u32) -> Read
     Ok((place, rest))
 }
 
+/// `require` or `assert`, a formula and `;`, whatever is made of the formula.
 #[tactic(auto, unfolding(crate::specs::Machines::formula_act))]
+fn formula<'a>(
+    alloc: Global,
+    terminals: &'a [Terminal],
+    left: u32,
+    opening: Sign,
+) -> Read<'a, RawExpr>
+    ensures { (made : RawExpr → RawAct) → Reads (λ x. (made x.0, x.1.now)) result (formula_act opening made left terminals.now) }
+{
+    let (_, rest) = sign(terminals, left, opening)?;
+    closed_expr(alloc, rest, left)
+}
+
+/// `init` or `update`, the name of a field and a value, whatever is made of them.
+#[tactic(auto, unfolding(crate::specs::Machines::value_act))]
+fn field_and_value<'a>(
+    alloc: Global,
+    terminals: &'a [Terminal],
+    left: u32,
+    opening: Sign,
+) -> Read<'a, (RawName, RawExpr)>
+    ensures { (made : RawName → RawExpr → RawAct) → Reads (λ x. (made x.0.0 x.0.1, x.1.now)) result (value_act opening made left terminals.now) }
+{
+    let (_, rest) = sign(terminals, left, opening)?;
+    let (field, rest) = name(rest, left)?;
+    let (_, rest) = sign(rest, left, Sign::Equal)?;
+    let (value, rest) = closed_expr(alloc, rest, left)?;
+    Ok(((field, value), rest))
+}
+
 fn require_act<'a>(alloc: Global, terminals: &'a [Terminal], left: u32) -> Read<'a, RawAct>
     ensures { Reads (λ x. (x.0, x.1.now)) result (formula_act sign.Require act.Require left terminals.now) }
 {
-    let (_, rest) = sign(terminals, left, Sign::Require)?;
-    let (form, rest) = closed_expr(alloc, rest, left)?;
+    let (form, rest) = formula(alloc, terminals, left, Sign::Require)?;
     Ok((RawAct::Require(form), rest))
 }
 
-#[tactic(auto, unfolding(crate::specs::Machines::formula_act))]
 fn assert_act<'a>(alloc: Global, terminals: &'a [Terminal], left: u32) -> Read<'a, RawAct>
     ensures { Reads (λ x. (x.0, x.1.now)) result (formula_act sign.Assert act.Assert left terminals.now) }
 {
-    let (_, rest) = sign(terminals, left, Sign::Assert)?;
-    let (form, rest) = closed_expr(alloc, rest, left)?;
+    let (form, rest) = formula(alloc, terminals, left, Sign::Assert)?;
     Ok((RawAct::Assert(form), rest))
 }
 
-#[tactic(auto, unfolding(crate::specs::Machines::value_act))]
 fn init_act<'a>(alloc: Global, terminals: &'a [Terminal], left: u32) -> Read<'a, RawAct>
     ensures { Reads (λ x. (x.0, x.1.now)) result (value_act sign.Init act.Init left terminals.now) }
 {
-    let (_, rest) = sign(terminals, left, Sign::Init)?;
-    let (field, rest) = name(rest, left)?;
-    let (_, rest) = sign(rest, left, Sign::Equal)?;
-    let (value, rest) = closed_expr(alloc, rest, left)?;
+    let ((field, value), rest) = field_and_value(alloc, terminals, left, Sign::Init)?;
     Ok((RawAct::Init(field, value), rest))
 }
 
-#[tactic(auto, unfolding(crate::specs::Machines::value_act))]
 fn update_act<'a>(alloc: Global, terminals: &'a [Terminal], left: u32) -> Read<'a, RawAct>
     ensures { Reads (λ x. (x.0, x.1.now)) result (value_act sign.Update act.Update left terminals.now) }
 {
-    let (_, rest) = sign(terminals, left, Sign::Update)?;
-    let (field, rest) = name(rest, left)?;
-    let (_, rest) = sign(rest, left, Sign::Equal)?;
-    let (value, rest) = closed_expr(alloc, rest, left)?;
+    let ((field, value), rest) = field_and_value(alloc, terminals, left, Sign::Update)?;
     Ok((RawAct::Update(field, value), rest))
 }
 

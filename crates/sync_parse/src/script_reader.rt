@@ -2,6 +2,9 @@
 ghost use Rattle.std.specs.Prelude.{◌≡◌, ◌-◌, ◌<◌};
 ghost use Rattle.sync_lex.specs.declared.signs.Sign.TheVariants as sign;
 ghost use Rattle.sync_parse.specs.declared.scripts.RawStepKind.TheVariants as step;
+ghost use Rattle.sync_parse.specs.declared.scripts.RawStepKind.{RawStepKind};
+ghost use Rattle.sync_parse_exprs.specs.declared.expressions.RawExpr.{RawExpr};
+ghost use Rattle.sync_parse_exprs.specs.declared.raw_names.RawName.{RawName};
 ghost use Rattle.sync_parse_exprs.specs.Faults.{Reads};
 ghost use Rattle.sync_parse_exprs.specs.Terminals.{series};
 ghost use Rattle.sync_parse.specs.Scripts.{statement_number, times_of, bounded_of, subject_at, hyp_at, as_name, scaled, part_at, same_step, sum_step, inst_step, parts_step, lookup_step, cong_step, blockless_step, split_step, cut_step, step_at, steps, nested, block_at, script_at};
@@ -13,8 +16,8 @@ use sqlite_items::Items;
 use std::alloc::Global;
 use sync_lex::{Sign, Terminal, TerminalKind};
 use sync_parse_exprs::{
-    Fault, Halt, RawName, Read, Special, begins_with, deep, expr, exprs, first_line, goes_on, name,
-    next, number, sign, signed, wanted,
+    Fault, Halt, RawExpr, RawName, Read, Special, begins_with, deep, expr, exprs, first_line,
+    goes_on, name, next, number, sign, signed, wanted,
 };
 
 /// The number of a statement as it is kept.
@@ -193,42 +196,43 @@ fn parts_step<'a>(terminals: &'a [Terminal], left: u32) -> Read<'a, RawStepKind>
     Ok((RawStepKind::Parts(hyp, first, second), rest))
 }
 
+/// `read`, `size` or `total`, a map, a key and the name that is given, whatever is made of them.
 #[tactic(auto, unfolding(crate::specs::Scripts::lookup_step))]
+fn lookup<'a>(
+    alloc: Global,
+    terminals: &'a [Terminal],
+    left: u32,
+    opening: Sign,
+) -> Read<'a, (RawExpr, RawExpr, RawName)>
+    ensures { (made : RawExpr → RawExpr → RawName → RawStepKind) → Reads (λ x. (made x.0.0 x.0.1 x.0.2, x.1.now)) result (lookup_step opening made left terminals.now) }
+{
+    let (_, rest) = sign(terminals, left, opening)?;
+    let (map, rest) = expr(alloc, rest, left)?;
+    let (_, rest) = sign(rest, left, Sign::Comma)?;
+    let (key, rest) = expr(alloc, rest, left)?;
+    let (given, rest) = as_name(rest, left)?;
+    let (_, rest) = sign(rest, left, Sign::Semicolon)?;
+    Ok(((map, key, given), rest))
+}
+
 fn read_step<'a>(alloc: Global, terminals: &'a [Terminal], left: u32) -> Read<'a, RawStepKind>
     ensures { Reads (λ x. (x.0, x.1.now)) result (lookup_step sign.Read step.Read left terminals.now) }
 {
-    let (_, rest) = sign(terminals, left, Sign::Read)?;
-    let (map, rest) = expr(alloc, rest, left)?;
-    let (_, rest) = sign(rest, left, Sign::Comma)?;
-    let (key, rest) = expr(alloc, rest, left)?;
-    let (given, rest) = as_name(rest, left)?;
-    let (_, rest) = sign(rest, left, Sign::Semicolon)?;
+    let ((map, key, given), rest) = lookup(alloc, terminals, left, Sign::Read)?;
     Ok((RawStepKind::Read(map, key, given), rest))
 }
 
-#[tactic(auto, unfolding(crate::specs::Scripts::lookup_step))]
 fn size_step<'a>(alloc: Global, terminals: &'a [Terminal], left: u32) -> Read<'a, RawStepKind>
     ensures { Reads (λ x. (x.0, x.1.now)) result (lookup_step sign.Size step.Size left terminals.now) }
 {
-    let (_, rest) = sign(terminals, left, Sign::Size)?;
-    let (map, rest) = expr(alloc, rest, left)?;
-    let (_, rest) = sign(rest, left, Sign::Comma)?;
-    let (key, rest) = expr(alloc, rest, left)?;
-    let (given, rest) = as_name(rest, left)?;
-    let (_, rest) = sign(rest, left, Sign::Semicolon)?;
+    let ((map, key, given), rest) = lookup(alloc, terminals, left, Sign::Size)?;
     Ok((RawStepKind::Size(map, key, given), rest))
 }
 
-#[tactic(auto, unfolding(crate::specs::Scripts::lookup_step))]
 fn total_step<'a>(alloc: Global, terminals: &'a [Terminal], left: u32) -> Read<'a, RawStepKind>
     ensures { Reads (λ x. (x.0, x.1.now)) result (lookup_step sign.Total step.Total left terminals.now) }
 {
-    let (_, rest) = sign(terminals, left, Sign::Total)?;
-    let (map, rest) = expr(alloc, rest, left)?;
-    let (_, rest) = sign(rest, left, Sign::Comma)?;
-    let (key, rest) = expr(alloc, rest, left)?;
-    let (given, rest) = as_name(rest, left)?;
-    let (_, rest) = sign(rest, left, Sign::Semicolon)?;
+    let ((map, key, given), rest) = lookup(alloc, terminals, left, Sign::Total)?;
     Ok((RawStepKind::Total(map, key, given), rest))
 }
 

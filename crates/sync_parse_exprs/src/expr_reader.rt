@@ -10,7 +10,8 @@ use crate::raw_names::RawName;
 use crate::terminals::{Read, begins_with, deep, first_line, name, next, number, sign, wanted};
 use sqlite_items::{Boxed, Items};
 use std::alloc::{AllocError, Global};
-use sync_lex::{LARGEST, Sign, Terminal, TerminalKind};
+use sync_base::LARGEST;
+use sync_lex::{Sign, Terminal, TerminalKind};
 
 /// So many operators of a chain, or prefix signs of a run, may stand at one level.
 const CHAIN: u32 = 64;

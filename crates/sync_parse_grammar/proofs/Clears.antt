@@ -2,6 +2,7 @@
 -- follows it decides; so a production is clear if no lexeme follows that could continue it.
 use Rattle.std.proofs.Common.{◌≡◌, ℕ, suc, eqb, Bool, true, false, not, ◌&&◌, ◌||◌, List, [], ◌∷◌, Option, Some, refl, sym, ap, ◌∙◌, subst}
 use Rattle.std.proofs.lemmas.Bool.{eqb-true, eq-eqb}
+use Rattle.sync_base.proofs.Basics.{and_left, and_right, or_left, or_right, some_is}
 use Rattle.sync_base.specs.declared.strategies.Strategy.{Strategy}
 use Rattle.sync_lex.specs.declared.signs.Sign.{Sign}
 use Rattle.sync_lex.specs.declared.signs.Sign.TheVariants as sign
@@ -61,14 +62,6 @@ or_in : (a b c : Bool) → (a ≡ true → c ≡ true) → (b ≡ true → c ≡
 or_in true b c f g e = f refl
 or_in false b c f g e = g e
 
-and_left : (a b : Bool) → (a && b) ≡ true → a ≡ true
-and_left true b e = refl
-and_left false b e = absurd cc
-
-and_right : (a b : Bool) → (a && b) ≡ true → b ≡ true
-and_right true b e = e
-and_right false b e = absurd cc
-
 among_case : (ks : List ℕ) (q : Set) → all_of q ks ≡ true → (c : ℕ) → among ks c ≡ true → q c ≡ true
 among_case [] q e c h = absurd cc
 among_case (k ∷ ks) q e c h = or_in (eqb c k) (among ks c) (q c) (λ f. (only_in {q = q} k (and_left (q k) (all_of q ks) e)).at c f) (among_case ks q (and_right (q k) (all_of q ks) e) c) h
@@ -127,14 +120,6 @@ starts_then s = record { at = λ ts rest y d. s.at ts d.middle d.value d.one }
 pub starts_here : {B : Type 0} {g : List Terminal → Spelled B} {p : Set} → ((start : List Terminal) → Starts (g start) p) → Starts (Then Here g) p
 starts_here {p = p} s = record { at = λ ts rest y d. subst (λ us. p (front us) ≡ true) (sym d.one.none) ((s d.value).at d.middle rest y d.next) }
 
-or_left : (a b : Bool) → a ≡ true → (a || b) ≡ true
-or_left true b e = refl
-or_left false b e = absurd cc
-
-or_right : (a b : Bool) → b ≡ true → (a || b) ≡ true
-or_right true b e = refl
-or_right false b e = e
-
 starts_case : {A : Type 0} {m n : Spelled A} {p q : Set} → Starts m p → Starts n q → (ts rest : List Terminal) (x : A) → Either m n ts rest x → both p q (front ts) ≡ true
 starts_case {p = p} {q = q} s t ts rest x (the_one d) = or_left (p (front ts)) (q (front ts)) (s.at ts rest x d)
 starts_case {p = p} {q = q} s t ts rest x (the_other d) = or_right (p (front ts)) (q (front ts)) (t.at ts rest x d)
@@ -187,10 +172,10 @@ follows_many s i j = record { at = follows_many_case s i j }
 
 -- ---- single lexemes
 
-tail_is : (w v : Terminal) (ws vs : List Terminal) → ◌≡◌ {A = List Terminal} (w ∷ ws) (v ∷ vs) → ws ≡ vs
+pub tail_is : (w v : Terminal) (ws vs : List Terminal) → ◌≡◌ {A = List Terminal} (w ∷ ws) (v ∷ vs) → ws ≡ vs
 tail_is w v ws vs e = cc
 
-head_is : (w v : Terminal) (ws vs : List Terminal) → ◌≡◌ {A = List Terminal} (w ∷ ws) (v ∷ vs) → w ≡ v
+pub head_is : (w v : Terminal) (ws vs : List Terminal) → ◌≡◌ {A = List Terminal} (w ∷ ws) (v ∷ vs) → w ≡ v
 head_is w v ws vs e = cc
 
 pub clear_the : {q : Set} {s : Sign} → Clear q (The s) (The s)
@@ -235,9 +220,6 @@ clear_strategy = record {
       let both = sym d.stands ∙ same ∙ e.stands in
       (tail_is d.terminal e.terminal rest vs both, strategy_is d.number e.number x y (sym d.is ∙ ap (λ (w : Terminal). w.what) (head_is d.terminal e.terminal rest vs both) ∙ e.is));
 }
-
-some_is : {A : Type 0} {x y : A} → ◌≡◌ {A = Option A} (Some x) (Some y) → x ≡ y
-some_is e = cc
 
 pub clear_one_of : {A : Type 0} {q : Set} {table : Sign → Option A} → Clear q (OneOf table) (OneOf table)
 clear_one_of {table = table} = record {

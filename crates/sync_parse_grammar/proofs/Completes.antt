@@ -1,6 +1,7 @@
 -- What is spelled is read, where it is not too deep: the law for each way to put productions together.
 use Rattle.std.proofs.Common.{◌≡◌, ℕ, zero, suc, ◌-◌, ◌<◌, ◌≤◌, ◌==◌, eqb, Bool, true, false, not, ◌||◌, if◌then◌else◌, List, [], ◌∷◌, ◌++◌, length, Result, Ok, Err, Some, refl, sym, ap, ◌∙◌, subst, arith, append_assoc, append-nil}
 use Rattle.std.proofs.lemmas.Bool.{eqb-true}
+use Rattle.sync_base.proofs.Basics.{not_true}
 use Rattle.sync_base.specs.Outcome as outcome
 use Rattle.sync_base.specs.declared.strategies.Strategy.{Strategy}
 use Rattle.sync_lex.specs.declared.signs.Sign.{Sign}
@@ -15,7 +16,7 @@ use Rattle.sync_parse_exprs.specs.declared.faults.Fault.TheVariants as fault
 use Rattle.sync_parse_exprs.specs.declared.raw_names.RawName.{RawName}
 use Rattle.sync_parse_exprs.specs.Terminals.{Read, Reader, unless_deep, begins_with, goes_on, sign_at, name_at, name_said, number_at, number_said, strategy_at, strategy_said, row, behind_commas, series, listed, in_round, names_at}
 use Rattle.sync_parse_grammar.specs.Relations.{Spelled, The, AName, ANumber, AStrategy, Yields, Here, Then, ◌>>◌, Either, the_one, the_other, Many, nothing, more, Series, Listed, InRound, Names}
-use Rattle.sync_parse_grammar.proofs.Clears.{code, front, front_of, Set, any, only, both, others, In, only_in, same_in, Starts, Follows, starts_then, starts_the, starts_name, follows_starts, follows_then, follows_many, follows_yields}
+use Rattle.sync_parse_grammar.proofs.Clears.{code, front, front_of, Set, any, only, both, others, In, only_in, same_in, Starts, Follows, starts_then, starts_the, starts_name, follows_starts, follows_then, follows_many, follows_yields, head_is, tail_is}
 use Rattle.sync_parse_grammar.proofs.Counting.{one_shorter}
 use denote.Enum.Bare.{true_same}
 use denote.Enum.Declared.{tag_of}
@@ -105,12 +106,6 @@ met_within {go = go} {x = x} (suc below) line h = go_case (suc below == 0) (eqb_
 
 -- ---- single lexemes
 
-pub tail_is : (w v : Terminal) (ws vs : List Terminal) → ◌≡◌ {A = List Terminal} (w ∷ ws) (v ∷ vs) → ws ≡ vs
-tail_is w v ws vs e = cc
-
-pub head_is : (w v : Terminal) (ws vs : List Terminal) → ◌≡◌ {A = List Terminal} (w ∷ ws) (v ∷ vs) → w ≡ v
-head_is w v ws vs e = cc
-
 -- the terminal at the front says what the derivation's terminal says
 pub says : (w v : Terminal) (ws vs : List Terminal) (x : TerminalKind) → ◌≡◌ {A = List Terminal} (w ∷ ws) (v ∷ vs) → v.what ≡ x → w.what ≡ x
 says w v ws vs x e is = ap (λ (z : Terminal). z.what) (head_is w v ws vs e) ∙ is
@@ -186,12 +181,8 @@ pub begins_is : (s : Sign) (ts : List Terminal) → begins_with s ts ≡ only (c
 begins_is s [] = sym (eqb-zero-suc (suc (suc (tag_of the_type s))))
 begins_is s (w ∷ ws) = front_case s w.what
 
-pub is_not : (b : Bool) → not b ≡ true → b ≡ false
-is_not true e = absurd cc
-is_not false e = refl
-
 pub begins_not : (s : Sign) (ts : List Terminal) → others (only (code s)) (front ts) ≡ true → begins_with s ts ≡ false
-begins_not s ts e = begins_is s ts ∙ is_not (only (code s) (front ts)) e
+begins_not s ts e = begins_is s ts ∙ not_true (only (code s) (front ts)) e
 
 if_case : {A : Type 0} {q r : Set} {m n : Spelled A} {ts : List Terminal} {a b : Read A} (s : Sign) → Starts m (only (code s)) → Starts n r → In r (others (only (code s)))
     → Complete q m ts a → Complete q n ts b → (x : A) (rest : List Terminal) → Either m n ts rest x → q (front rest) ≡ true → Met (if begins_with s ts then a else b) (x, rest)
@@ -322,7 +313,7 @@ commas_case item known zero held ts xs rest small e (more {us = us} d ds) = let 
 commas_case item known (suc count) held [] xs rest small e nothing = gives (sym (append-nil held)) refl
 commas_case item known (suc count) held [] xs rest small e (more d ds) = let h : ◌≡◌ {A = List Terminal} [] (d.one.terminal ∷ d.middle) = d.one.stands in absurd cc
 commas_case item known (suc count) held (w ∷ ws) xs rest small e nothing =
-    met_else _ (is_sign w sign.Comma) (front_case sign.Comma w.what ∙ is_not (only (code sign.Comma) (front_of w.what)) (known.apart.at (front_of w.what) e)) (gives (sym (append-nil held)) refl)
+    met_else _ (is_sign w sign.Comma) (front_case sign.Comma w.what ∙ not_true (only (code sign.Comma) (front_of w.what)) (known.apart.at (front_of w.what) e)) (gives (sym (append-nil held)) refl)
 commas_case item known (suc count) held (w ∷ ws) xs rest small e (more {us = us} {x = x} {xs = ys} d ds) =
     let h : ◌≡◌ {A = List Terminal} (w ∷ ws) (d.one.terminal ∷ d.middle) = d.one.stands in
     let tail = tail_is w d.one.terminal ws d.middle h in

@@ -1,5 +1,6 @@
 -- What is spelled as an expression is read, where it is not too deep.
 use Rattle.std.proofs.Common.{◌≡◌, ℕ, zero, suc, ◌-◌, ◌<◌, ◌==◌, ◌||◌, Bool, true, false, if◌then◌else◌, List, [], ◌∷◌, Ok, Err, Option, Some, None, is_some, refl, sym, ap, ◌∙◌, subst, arith}
+use Rattle.sync_base.proofs.Basics.{some_is, not_true}
 use Rattle.sync_base.specs.Outcome as outcome
 use Rattle.sync_lex.specs.declared.signs.Sign.{Sign}
 use Rattle.sync_lex.specs.declared.signs.Sign.TheVariants as sign
@@ -24,14 +25,11 @@ use Rattle.sync_parse_exprs.specs.Terminals.{Read, Reader, first_line, listed, i
 use Rattle.sync_parse_exprs.specs.Expressions.{placed, whole, special_of, function_of, relation_of, sum_of, and_of, or_of, factor_of, factor_said, begins_operand, sign_operand, operand_said, operand, prefixed, unary_with, unary, times, product, chain, chained, sums, related, relation, ands, ors, implied, implies, inside, expr_at, exprs_at}
 use Rattle.sync_parse_grammar.specs.Relations.{Spelled, The, AName, ANumber, Yields, ◌>>=◌, Either, the_one, the_other, InRound}
 use Rattle.sync_parse_grammar.specs.Expressions.{placed_at, Whole, NoNumber, Operand, Unary, Product, Chain, Chained, Joins, SumSign, Sum, RelationSign, Relation, And, Or, Implied, Nested, AnExpr, Args}
-use Rattle.sync_parse_grammar.proofs.Clears.{code, front, front_of, Set, any, only, both, others, In, only_in, among_in, both_in, others_in, others_first, not_both, Starts, starts_then, starts_the, follows_starts, follows_yields, follows_or}
+use Rattle.sync_parse_grammar.proofs.Clears.{code, front, front_of, Set, any, only, both, others, In, only_in, among_in, both_in, others_in, others_first, not_both, Starts, starts_then, starts_the, follows_starts, follows_yields, follows_or, head_is, tail_is}
 use Rattle.sync_parse_grammar.proofs.ExpressionsSound.{Table, whole_is, or_table, and_table, sum_table, relation_table}
 use Rattle.sync_parse_grammar.proofs.ExpressionsClear.{Inner, operands, begins, times_sign, sum_signs, relation_signs, and_signs, or_signs, operators, relations, relations_in, starts_operand, starts_whole, number_alone, nested_inner, starts_nested, sum_fork, relation_fork, joins_fork, no_operator, implies_follows, follows_chain_case}
 use Rattle.sync_parse_grammar.proofs.Counting.{silent_nested, silent_expr}
-use Rattle.sync_parse_grammar.proofs.Completes.{Met, gives, Complete, Shrinks, complete_yields, complete_then, complete_next, complete_here, met_if, met_else, met_within, tail_is, head_is, says, is_it, complete_the, complete_name, complete_number, front_case, is_not, pair_is, complete_round}
-
-some_is : {A : Type 0} {x y : A} → ◌≡◌ {A = Option A} (Some x) (Some y) → x ≡ y
-some_is e = cc
+use Rattle.sync_parse_grammar.proofs.Completes.{Met, gives, Complete, Shrinks, complete_yields, complete_then, complete_next, complete_here, met_if, met_else, met_within, says, is_it, complete_the, complete_name, complete_number, front_case, pair_is, complete_round}
 
 -- ---- whole expressions
 
@@ -213,7 +211,7 @@ complete_operand left inner i ts = record { at = λ x rest d e. complete_operand
 -- ---- prefix signs
 
 sign_no : (w : Terminal) (s : Sign) → others (only (code s)) (front_of w.what) ≡ true → is_sign w s ≡ false
-sign_no w s e = front_case s w.what ∙ is_not (only (code s) (front_of w.what)) e
+sign_no w s e = front_case s w.what ∙ not_true (only (code s) (front_of w.what)) e
 
 prefix_read : (left : ℕ) (many : Bool) (again : Reader RawExprKind) (make : RawExpr → RawExprKind) (line : ℕ) (us : List Terminal) (x : RawExprKind) (rest : List Terminal) → (many ≡ false → Met (again us) (x, rest))
     → Met (prefixed left many again make line us) (make (placed_at x us), rest)

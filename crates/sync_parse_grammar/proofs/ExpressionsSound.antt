@@ -1,5 +1,6 @@
 -- What is read as an expression is spelled.
 use Rattle.std.proofs.Common.{◌≡◌, ℕ, zero, suc, ◌-◌, ◌==◌, ◌||◌, Bool, true, false, if◌then◌else◌, List, [], ◌∷◌, Ok, Err, Option, Some, None, is_some, refl, sym, ap, ◌∙◌, subst}
+use Rattle.sync_base.proofs.Basics.{some_is}
 use Rattle.sync_lex.specs.declared.signs.Sign.{Sign}
 use Rattle.sync_lex.specs.declared.signs.Sign.TheVariants as sign
 use Rattle.sync_lex.specs.contracts.signs.Sign.{the_type}
@@ -163,9 +164,6 @@ unfolding Chained
 chained_sound op table item sound ts = here (then_sound (sound ts) λ v. chain_sound op table item sound ts 64 v.0 v.1)
 
 -- ---- operators
-
-some_is : {A : Type 0} {x y : A} → ◌≡◌ {A = Option A} (Some x) (Some y) → x ≡ y
-some_is e = cc
 
 joins : (w : Terminal) (ws : List Terminal) (s : Sign) (o p : Operator) → is_sign w s ≡ true → o ≡ p → Joins s o (w ∷ ws) ws p
 joins w ws s o p is e = record { value = w.line; middle = ws; one = the_sign w ws s (is_the w s is); next = record { none = refl; is = sym e } }

@@ -141,7 +141,7 @@ invariants_clear c s = clear_then (only (code sign.CloseBrace))
     (clear_many {p = any} invariant_fork.clear (invariant_fork {q = any}).left (invariant_fork {q = any}).left any_in any_in (only_in _ refl)) c
     (λ xs. follows_starts (s xs) same_in) (λ xs. follows_starts (s xs) same_in)
 
-weaker : {A : Type 0} {m : Spelled A} {q p : Set} → Follows any p m → Follows q p m
+pub weaker : {A : Type 0} {m : Spelled A} {q p : Set} → Follows any p m → Follows q p m
 weaker f = record { at = λ ts rest x d e. f.at ts rest x d refl }
 
 pub clear_machine : {q : Set} → Clear q Machine Machine

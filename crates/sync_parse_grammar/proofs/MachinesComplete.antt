@@ -1,6 +1,7 @@
 -- What is spelled as a machine, as proofs and as a whole text is read, where it is not too deep.
 use Rattle.std.proofs.Common.{◌≡◌, ℕ, ◌-◌, ◌<◌, ◌==◌, Bool, true, false, ◌||◌, if◌then◌else◌, List, [], ◌∷◌, length, Result, Ok, Err, Some, None, is_some, ◌⊎◌, inl, inr, IfErr, refl, sym, ap, ◌∙◌, subst, arith}
 use Rattle.std.proofs.lemmas.Bool.{eqb-true}
+use Rattle.sync_base.proofs.Basics.{not_true}
 use Rattle.sync_base.specs.Outcome as outcome
 use Rattle.sync_base.specs.Outcome.{Gives}
 use Rattle.sync_base.specs.declared.stops.Refusal.{Refusal}
@@ -33,12 +34,12 @@ use Rattle.sync_parse_grammar.specs.Relations.{Spelled, The, ANumber, Yields, Th
 use Rattle.sync_parse_grammar.specs.Expressions.{AnExpr}
 use Rattle.sync_parse_grammar.specs.Scripts.{Script}
 use Rattle.sync_parse_grammar.specs.Machines.{Pattern, Place, FormulaAct, ValueAct, FieldPlace, PlaceAct, HaveAct, ActKind, Act, Field, Mode, Operation, Invariant, Machine, Claim, Proof, Proofs}
-use Rattle.sync_parse_grammar.specs.Texts.{Version, Text, IsVersionOne, Spells, MayRefuse}
-use Rattle.sync_parse_grammar.proofs.Clears.{code, front, Set, any, only, among, others, In, only_in, among_in, same_in, Starts, Follows, starts_then, starts_or, starts_the, follows_starts, follows_then, follows_yields, follows_or}
+use Rattle.sync_parse_grammar.specs.Texts.{Version, Text, IsVersionOne, Spells, MayRefuse, IsOfVersionOne, MayRefuseVersionOne}
+use Rattle.sync_parse_grammar.proofs.Clears.{code, front, Set, any, only, among, others, In, only_in, among_in, same_in, Starts, Follows, starts_then, starts_or, starts_the, follows_starts, follows_then, follows_yields, follows_or, tail_is, follows_any}
 use Rattle.sync_parse_grammar.proofs.ExpressionsClear.{operators, operands, starts_expr}
-use Rattle.sync_parse_grammar.proofs.MachinesClear.{formula_fork, value_fork, place_fork, have_fork, starts_act, field_fork, modes, operation_fork, invariant_fork, proof_fork, behind_operations, behind_fields, invariants_follow, operations_follow, terminals_are}
+use Rattle.sync_parse_grammar.proofs.MachinesClear.{formula_fork, value_fork, place_fork, have_fork, starts_act, field_fork, modes, operation_fork, invariant_fork, proof_fork, behind_operations, behind_fields, invariants_follow, operations_follow, terminals_are, weaker}
 use Rattle.sync_parse_grammar.proofs.Counting.{silent_act, silent_field, silent_operation, silent_invariant, silent_claim, silent_block, one_shorter}
-use Rattle.sync_parse_grammar.proofs.Completes.{Excused, Met, gives, Complete, Shrinks, Row, braced, complete_yields, complete_then, complete_next, complete_here, complete_if, complete_last, complete_optional, complete_row, met_if, met_within, tail_is, says, begins_is, begins_not, front_case, is_not, complete_the, complete_name, complete_number, complete_strategy, complete_names}
+use Rattle.sync_parse_grammar.proofs.Completes.{Excused, Met, gives, Complete, Shrinks, Row, braced, complete_yields, complete_then, complete_next, complete_here, complete_if, complete_last, complete_optional, complete_row, met_if, met_within, says, begins_is, begins_not, front_case, complete_the, complete_name, complete_number, complete_strategy, complete_names}
 use Rattle.sync_parse_grammar.proofs.ExpressionsComplete.{complete_expr, if_yes, if_no, sign_yes, sign_not}
 use Rattle.sync_parse_grammar.proofs.ScriptsComplete.{union_in, expr_next, complete_script}
 
@@ -201,9 +202,6 @@ unfolding invariant_at Invariant
 complete_invariant left ts = complete_next (complete_the left sign.Invariant ts) λ i. complete_next (complete_name left i.1) λ n. complete_next (complete_names left n.1) λ ps.
     complete_next (complete_the left sign.Colon ps.1) λ c. complete_next (complete_closed_expr left c.1) λ e. complete_yields
 
-weaker : {A : Type 0} {m : Spelled A} {q p : Set} → Follows any p m → Follows q p m
-weaker f = record { at = λ ts rest x d e. f.at ts rest x d refl }
-
 pub complete_machine : {q : Set} (left : ℕ) (ts : List Terminal) → Complete q Machine ts (machine_at left ts)
 unfolding machine_at Machine fields operations invariants
 complete_machine left ts =
@@ -215,7 +213,7 @@ complete_machine left ts =
       complete = complete_operation (left - 1);
       shrinks = record { at = λ ts rest x d. (silent_operation.at ts rest x d).shorter };
       begin = λ ts rest x d. modes_are ts ∙ (operation_fork {q = any}).left.at ts rest x d;
-      stop = λ ts e. modes_are ts ∙ is_not (modes (front ts)) ((among_in {q = others modes} behind_operations refl).at (front ts) e);
+      stop = λ ts e. modes_are ts ∙ not_true (modes (front ts)) ((among_in {q = others modes} behind_operations refl).at (front ts) e);
       follows = record { at = λ ts rest xs d e. refl };
     }) fs.1)
     (λ ops. complete_then (only (code sign.CloseBrace))
@@ -296,9 +294,6 @@ ends_then : {A B : Type 0} {m : Spelled A} {ts : List Terminal} {r : Read A} {g 
     → Complete p m ts r → ((v : A × List Terminal) → Ends (g v.0) v.1 (f v)) → ((x : A) → Follows (only 0) p (g x)) → Ends (Then m g) ts (outcome.◌>>=◌ r f)
 ends_then {r = r} p one next follows = record { at = ends_case r one next follows }
 
-anything : {A : Type 0} {m : Spelled A} {q : Set} → Follows q any m
-anything = record { at = λ ts rest x d e. refl }
-
 ends_all : {A : Type 0} (x : A) (ts : List Terminal) → Ends (Yields x) ts (at_end x ts)
 ends_all x [] = record { at = λ y d. record { is = sym d.is } }
 ends_all x (w ∷ ws) = record { at = λ y d. let e : ◌≡◌ {A = List Terminal} (w ∷ ws) [] = d.none in absurd cc }
@@ -307,7 +302,7 @@ text_ends : (ts : List Terminal) → Ends TextOfOne ts (text_of ts)
 unfolding text_of
 text_ends ts =
     ends_then any (complete_version 65 ts) (λ v. ends_then any (complete_the 65 sign.Semicolon v.1) (λ s. ends_then any (complete_machine 65 s.1) (λ m.
-    ends_then (only 0) (complete_proofs 65 m.1) (λ ps. ends_all (m.0, ps.0) ps.1) (λ ps. follows_yields same_in)) (λ m. anything)) (λ s. anything)) (λ v. anything)
+    ends_then (only 0) (complete_proofs 65 m.1) (λ ps. ends_all (m.0, ps.0) ps.1) (λ ps. follows_yields same_in)) (λ m. follows_any)) (λ s. follows_any)) (λ v. follows_any)
 
 -- the number that a version spells is 1, where the second terminal says 1
 version_one : (ts rest : List Terminal) (x : ℕ) → (d : The sign.Version ts rest x) → (us : List Terminal) (n : ℕ) → ANumber rest us n → IsVersionOne ts → n ≡ 1
@@ -461,3 +456,10 @@ pub answer_refuses : (text : List ℕ) (r : Result RawText Stop) → Gives (λ t
 answer_refuses text (Ok t) e = tt
 answer_refuses text (Err stop.Memory) e = λ tree d. tt
 answer_refuses text (Err (stop.Refused r)) e = λ tree d. refused_is text tree r d e
+
+-- a text of version 1 that is spelled by a tree is refused for depth alone
+pub answer_deep : (text : List ℕ) (r : Result RawText Stop) → Gives (λ t. t) r (parsed text)
+    → IfErr r (λ s. IsOfVersionOne text → (tree : RawText) → Spells text tree → MayRefuseVersionOne s)
+answer_deep text (Ok t) e = tt
+answer_deep text (Err stop.Memory) e = λ one tree d. tt
+answer_deep text (Err (stop.Refused r)) e = λ one tree d. refused_deep text one.0 tree r one.1 one.2 d e

@@ -1,5 +1,6 @@
 -- What is spelled as a script is read, where it is not too deep.
 use Rattle.std.proofs.Common.{◌≡◌, ℕ, zero, suc, ◌-◌, ◌<◌, Bool, true, false, ◌&&◌, List, [], ◌∷◌, refl, sym, ap, ◌∙◌, subst, arith}
+use Rattle.sync_base.proofs.Basics.{and_left, and_right}
 use Rattle.sync_base.specs.Outcome as outcome
 use Rattle.sync_lex.specs.declared.signs.Sign.{Sign}
 use Rattle.sync_lex.specs.declared.signs.Sign.TheVariants as sign
@@ -35,14 +36,6 @@ abbrev pub union : List ℕ → Set
 union [] = never
 union (k ∷ []) = only k
 union (k ∷ j ∷ ks) = both (only k) (union (j ∷ ks))
-
-and_left : (a b : Bool) → (a && b) ≡ true → a ≡ true
-and_left true b e = refl
-and_left false b e = absurd cc
-
-and_right : (a b : Bool) → (a && b) ≡ true → b ≡ true
-and_right true b e = e
-and_right false b e = absurd cc
 
 never_in : {q : Set} → In never q
 never_in = record { at = λ c e. absurd cc }

@@ -54,3 +54,12 @@ HasScripts text n = (ws : Terminals) × (terminals_in text ≡ Ok ws) × (times_
 abbrev pub MayRefuse : Stop → Type 0
 MayRefuse Memory = Unit {0}
 MayRefuse (Refused r) = (r.rule ≡ rule.G3) ⊎ (r.rule ≡ rule.G4)
+
+-- the text says that it is of version 1
+abbrev pub IsOfVersionOne : List ℕ → Type 0
+IsOfVersionOne text = (ws : Terminals) × (terminals_in text ≡ Ok ws) × IsVersionOne ws.list
+
+-- why such a text may be refused that a tree is spelled by: for want of memory, or too deep
+abbrev pub MayRefuseVersionOne : Stop → Type 0
+MayRefuseVersionOne Memory = Unit {0}
+MayRefuseVersionOne (Refused r) = r.rule ≡ rule.G3

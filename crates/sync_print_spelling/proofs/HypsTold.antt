@@ -1,6 +1,7 @@
 -- What is read as a hypothesis or a part of a sum is within the limits, and its terminals name what is shown of it.
 use Rattle.std.proofs.Common.{◌≡◌, ◌≤◌, ℕ, zero, suc, ℤ, pos, neg_ℤ, unsigned_abs, Bool, true, false, List, ◌++◌, min, Option, Some, None, if◌then◌else◌, subst, arith}
 use Rattle.std.specs.Int.{is_negative}
+use Rattle.sync_base.proofs.Basics.{some_is}
 use Rattle.sync_base.specs.declared.names.NameList.{NameList}
 use Rattle.sync_lex.specs.declared.signs.Sign.{Sign}
 use Rattle.sync_lex.specs.declared.signs.Sign.TheVariants as sign
@@ -23,9 +24,6 @@ use Rattle.sync_print.specs.ShowScripts.{show_subject, show_hyp, show_times, sho
 use Rattle.sync_print_spelling.specs.Limits.{last_place, IsBounded, SubjectFits, HypFits, PartFits}
 use Rattle.sync_print_spelling.proofs.Told.{Tells, both, silent, number_shown, sign_read, sign_told, one_of_read, number_read, number_told, name_told}
 use Rattle.sync_print_spelling.proofs.ListsTold.{Read, Reads, ended}
-
-some_is : {A : Type 0} {x y : A} → ◌≡◌ {A = Option A} (Some x) (Some y) → x ≡ y
-some_is e = cc
 
 -- the terminals that a bound may stand on are bounded
 bounded_case : (a b c : Bool) (w : Special) → (if a then Some terminal.Old else if b then Some terminal.New else if c then Some terminal.Wrap else None) ≡ Some w → IsBounded w

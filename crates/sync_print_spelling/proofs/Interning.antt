@@ -7,6 +7,7 @@ use Rattle.std.proofs.lemmas.Slice.Eq.{bytes_eq-Decides}
 use Rattle.std.proofs.lemmas.List.Sums.{position_or_len_is}
 use Rattle.std.proofs.lemmas.List.Folds.{list_any-append}
 use Rattle.std.proofs.lemmas.List.{length-append}
+use Rattle.sync_base.proofs.Basics.{or_true}
 use Rattle.sync_base.specs.declared.names.Name.{Name}
 use Rattle.sync_lex.specs.Terminals.{name_of, spells, number_in, names_with}
 use Rattle.sync_print_spelling.specs.Namings.{in_order}
@@ -90,10 +91,6 @@ put_case false names bytes = number_at_end bytes names
 pub number_with : (bytes : List ℕ) (names : List Name) → number_in (names_with names bytes) bytes ≡ number_in names bytes
 unfolding names_with
 number_with bytes names = put_case (list_any (spells bytes) names) names bytes
-
-or_true : (c : Bool) → (c || true) ≡ true
-or_true true = refl
-or_true false = refl
 
 has_case : (c : Bool) (names : List Name) (bytes : List ℕ) → list_any (spells bytes) names ≡ c → list_any (spells bytes) (if c then names else names ++ name_of bytes ∷ []) ≡ true
 has_case true names bytes e = e

@@ -1,3 +1,4 @@
+pub mod TrueNames
 mod Terminals
 mod Levels
 mod Operands

@@ -6,6 +6,7 @@ use Rattle.std.specs.Str.Parse.{AllDigits}
 use Rattle.std.proofs.lemmas.Bool.Decides.{nat_tests}
 use Rattle.std.proofs.lemmas.Str.Parse.{digit_from_value}
 use Rattle.std.proofs.lemmas.Fmt.{decimal_is_IsNumeral_wide}
+use Rattle.sync_base.proofs.Basics.{both}
 use Rattle.sync_base.specs.declared.names.Name.{Name}
 use Rattle.sync_base.specs.declared.names.NameList.{NameList}
 use Rattle.sync_lex.specs.declared.lexemes.Kind.{Kind}
@@ -26,7 +27,7 @@ use Rattle.sync_lex.specs.Terminals.{number_in, names_with, named, said}
 use Rattle.sync_base.specs.Limits.{largest}
 use Rattle.sync_print.specs.Lexemes.{Lexeme, a_sign, a_number, a_name, a_strategy, spelling, lexeme_bytes, behind_sign, separator}
 use Rattle.sync_print_spelling.specs.Namings.{LexemeFits}
-use Rattle.sync_print_spelling.specs.Printed.{IsName, AreNames}
+use Rattle.sync_print_spelling.proofs.TrueNames.{IsName, AreNames}
 use Rattle.sync_print_spelling.proofs.Lexing.{Begins, one_line, IsGap, space_gap, feed_gap, passes, one_sign}
 use Rattle.sync_print_spelling.proofs.LexingNumbers.{decimal_begins}
 use Rattle.sync_print_spelling.proofs.LexingNames.{letters_begin}
@@ -73,14 +74,10 @@ no_feed_in_name : (c : ℕ) → continues_name c ≡ true → (c == 10) ≡ fals
 unfolding continues_name
 no_feed_in_name c is = grind (arith, nat_tests)
 
-first_case : (c d : Bool) → (c && d) ≡ true → (c ≡ true) × (d ≡ true)
-first_case true d e = (refl, e)
-first_case false d e = absurd cc
-
 name_line : (bytes : List ℕ) → list_all continues_name bytes ≡ true → one_line bytes ≡ true
 name_line [] all = refl
 name_line (c ∷ bytes) all =
-    let parts = first_case (continues_name c) (list_all continues_name bytes) all in
+    let parts = both (continues_name c) (list_all continues_name bytes) all in
     rw (no_feed_in_name c parts.0) (name_line bytes parts.1)
 
 space_ends : continues_name 32 ≡ false

@@ -25,7 +25,7 @@ use Rattle.sync_print_spelling.specs.Says.{Says, one_more}
 use Rattle.sync_print_spelling.specs.Limits.{TextFits}
 use Rattle.sync_print_spelling.specs.Laws.{SaysText}
 use Rattle.sync_print_spelling.specs.Namings.{names_said, in_order, LexemeFits}
-use Rattle.sync_print_spelling.specs.Printed.{AreNames}
+use Rattle.sync_print_spelling.proofs.TrueNames.{AreNames}
 use Rattle.sync_print_spelling.specs.Rereading.{Rereads, ReadsBack}
 use Rattle.sync_print_spelling.proofs.Texts.{texts}
 use Rattle.sync_print_spelling.proofs.TextsTold.{spelled_fits}

@@ -6,6 +6,7 @@ use Rattle.std.specs.Str.Parse.{AllDigits, digits_value_after}
 use Rattle.std.proofs.lemmas.Bool.Decides.{nat_tests}
 use Rattle.std.proofs.lemmas.Str.Parse.{digit_from_value}
 use Rattle.std.proofs.lemmas.Fmt.{decimal_is_IsNumeral_wide}
+use Rattle.sync_lex.proofs.Numbers.{digit_is}
 use Rattle.sync_base.specs.declared.strategies.Strategy.{Strategy}
 use Rattle.sync_base.specs.declared.strategies.Strategy.TheVariants as strategy
 use Rattle.sync_lex.specs.declared.signs.Sign.{Sign}
@@ -18,9 +19,6 @@ use Rattle.sync_lex.specs.Terminals.{decimal_after, number_of}
 use Rattle.sync_base.specs.Limits.{largest}
 
 -- ---- numbers
-
-digit_is : (c : ℕ) → 48 ≤ c → c ≤ 57 → digit_value c ≡ c - 48
-digit_is c low high = grind (arith, nat_tests)
 
 after_is : (n : ℕ) (ds : List ℕ) → AllDigits 10 ds → decimal_after n ds ≡ digits_value_after 10 n ds
 after_is n [] all = refl

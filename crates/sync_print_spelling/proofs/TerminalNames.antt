@@ -21,7 +21,8 @@ use Rattle.sync_lex.specs.Strategies.{strategy_of}
 use Rattle.sync_lex.specs.Terminals.{decimal_after, number_of, number_in, names_with, named, said, bytes_at, terminals_after, terminals_of, terminals_in}
 use Rattle.sync_base.specs.Limits.{largest}
 use Rattle.sync_print.specs.Lexemes.{spelling}
-use Rattle.sync_print_spelling.specs.Namings.{what_name, terminal_names, in_order, SaysTrue, IsTrue, AreTrue}
+use Rattle.sync_print_spelling.specs.Namings.{what_name, terminal_names, in_order}
+use Rattle.sync_print_spelling.proofs.TrueNames.{KindIsTrue, TerminalIsTrue, TerminalsAreTrue}
 use Rattle.sync_print_spelling.proofs.Interning.{spelled_at, spelled_last, number_last_below}
 
 -- ---- what a lexeme says, by cases
@@ -84,17 +85,17 @@ all_in_order text names before (x ∷ xs) last =
 
 -- ---- the terminals are true to the names
 
-first_true : (names : NameList) (before : List Name) (k : Kind) (bytes : List ℕ) (spellings : List (List ℕ)) → in_order (said before k bytes).1 spellings ≡ names.list → SaysTrue names (said before k bytes).0
+first_true : (names : NameList) (before : List Name) (k : Kind) (bytes : List ℕ) (spellings : List (List ℕ)) → in_order (said before k bytes).1 spellings ≡ names.list → KindIsTrue names (said before k bytes).0
 first_true names before k bytes spellings =
-    by_said (λ s. in_order s.1 spellings ≡ names.list → SaysTrue names s.0) before bytes
+    by_said (λ s. in_order s.1 spellings ≡ names.list → KindIsTrue names s.0) before bytes
     (λ s e. tt) k (λ n fits e. fits)
     (λ _ _ e. (subst (λ (ns : List Name). number_in before bytes < length ns) e (number_last_below before bytes spellings), ap strategy_of (sym (terminal_spelled names before bytes spellings e))))
 
-pub all_true : (text : List ℕ) (names : NameList) (before : List Name) (xs : List lexed.Lexeme) → names.list ≡ named_after text before xs → AreTrue names (spoken text before xs)
-all_true text names before [] last = All-nil (IsTrue names)
+pub all_true : (text : List ℕ) (names : NameList) (before : List Name) (xs : List lexed.Lexeme) → names.list ≡ named_after text before xs → TerminalsAreTrue names (spoken text before xs)
+all_true text names before [] last = All-nil (TerminalIsTrue names)
 all_true text names before (x ∷ xs) last =
     let s = said before x.kind (bytes_at text x) in
-    All-cons (IsTrue names) (record { what = s.0; line = x.line }) (spoken text s.1 xs)
+    All-cons (TerminalIsTrue names) (record { what = s.0; line = x.line }) (spoken text s.1 xs)
     (first_true names before x.kind (bytes_at text x) (terminal_names names (spoken text s.1 xs)) (all_in_order text names s.1 xs last))
     (all_true text names s.1 xs last)
 

@@ -8,6 +8,7 @@ use Rattle.std.proofs.lemmas.Slice.Eq.{bytes_eq-Decides}
 use Rattle.std.proofs.lemmas.List.Folds.{list_any_at}
 use Rattle.std.proofs.lemmas.List.Elements.{All-nil, All-push, All-contains, All-from_recursion}
 use Rattle.std.proofs.lemmas.List.Quantifiers.{all_pairs_push}
+use Rattle.sync_base.proofs.Basics.{both}
 use Rattle.sync_base.specs.declared.names.Name.{Name}
 use Rattle.sync_lex.specs.declared.lexemes.Kind.{Kind}
 use Rattle.sync_lex.specs.declared.lexemes.Kind.TheVariants as kind
@@ -25,8 +26,7 @@ use Rattle.sync_lex.specs.declared.terminals.Terminals.{Terminals}
 use Rattle.sync_lex.specs.Signs as terminals
 use Rattle.sync_lex.specs.Signs.{sign_of}
 use Rattle.sync_lex.specs.Terminals.{name_of, spells, names_with, said, bytes_at, terminals_in}
-use Rattle.sync_print_spelling.specs.Namings.{AreTrue}
-use Rattle.sync_print_spelling.specs.Printed.{IsName, AreNames, AreNamed}
+use Rattle.sync_print_spelling.proofs.TrueNames.{IsName, AreNames, AreNamed, TerminalsAreTrue}
 use Rattle.sync_print_spelling.proofs.TerminalNames.{by_said, named_after, all_true, of_terminals_in}
 
 -- ---- names are short
@@ -123,13 +123,9 @@ sign_known : list_all (λ bytes. is_some (sign_of bytes)) punctuation ≡ true
 unfolding sign_of terminals.spelling_of
 sign_known = refl
 
-both_true : (c d : Bool) → (c && d) ≡ true → (c ≡ true) × (d ≡ true)
-both_true true d e = (refl, e)
-both_true false d e = absurd cc
-
 all_pass : (p : List ℕ → Bool) (xs : List (List ℕ)) → list_all p xs ≡ true → AllByRecursion (λ x. p x ≡ true) xs
 all_pass p [] e = tt
-all_pass p (x ∷ xs) e = let both = both_true (p x) (list_all p xs) e in (both.0, all_pass p xs both.1)
+all_pass p (x ∷ xs) e = let parts = both (p x) (list_all p xs) e in (parts.0, all_pass p xs parts.1)
 
 sign_is_known : (bytes : List ℕ) → Contains punctuation bytes → is_some (sign_of bytes) ≡ true
 sign_is_known bytes has =
@@ -182,5 +178,5 @@ terminals_are_names text ws e =
     let found = are_found text of.lexemes each (all_short text (of.lexemes, of.last) of.lexed) in
     record {
       names = subst AreNames (sym of.listed) (all_names text [] of.lexemes found no_names);
-      terminals = subst (AreTrue ws.names) (sym of.list) (all_true text ws.names [] of.lexemes of.listed);
+      terminals = subst (TerminalsAreTrue ws.names) (sym of.list) (all_true text ws.names [] of.lexemes of.listed);
     }

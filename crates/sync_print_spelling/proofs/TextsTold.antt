@@ -17,7 +17,8 @@ use Rattle.sync_print.specs.Texts.{PlainText, plain_machine, plain_proof, plain_
 use Rattle.sync_print.specs.ShowTexts.{show}
 use Rattle.sync_print_spelling.specs.Limits.{TextFits}
 use Rattle.sync_print_spelling.specs.Laws.{SpelledFits}
-use Rattle.sync_print_spelling.specs.Namings.{names_said, terminal_names, in_order, AreTrue, LexemeFits}
+use Rattle.sync_print_spelling.specs.Namings.{names_said, terminal_names, in_order, LexemeFits}
+use Rattle.sync_print_spelling.proofs.TrueNames.{TerminalsAreTrue}
 use Rattle.sync_print_spelling.proofs.Told.{both, behind, sign_told, number_told, none_read}
 use Rattle.sync_print_spelling.proofs.ListsTold.{Read, ended}
 use Rattle.sync_print_spelling.proofs.MachinesTold.{machines_told, proofs_told}
@@ -48,7 +49,7 @@ text_told {names = names} ts rest x d =
     ended (OfText names) ps.next (record { fits = (y.fits, z.fits); tells = both (both version y.tells) z.tells })
 
 -- all terminals of a text
-whole_text : (names : NameList) (ws : List Terminal) (x : RawMachine × List RawProof) → Text ws [] x → AreTrue names ws
+whole_text : (names : NameList) (ws : List Terminal) (x : RawMachine × List RawProof) → Text ws [] x → TerminalsAreTrue names ws
     → TextFits (says x) × (terminal_names names ws ≡ names_said names (show (says x))) × All (LexemeFits names) (show (says x))
 unfolding terminal_names
 whole_text names ws x d are_true =
@@ -59,8 +60,8 @@ whole_text names ws x d are_true =
 -- ---- what a text spells
 
 module _ (text : List ℕ) (raw : RawText) (d : Spells text raw) where
-  terminals_true : AreTrue raw.names d.0.list
-  terminals_true = subst (λ (n : NameList). AreTrue n d.0.list) (sym d.3) (terminals_are_names text d.0 d.1).terminals
+  terminals_true : TerminalsAreTrue raw.names d.0.list
+  terminals_true = subst (λ (n : NameList). TerminalsAreTrue n d.0.list) (sym d.3) (terminals_are_names text d.0 d.1).terminals
 
   tree_fits : TextFits (plain_text raw) × (terminal_names raw.names d.0.list ≡ names_said raw.names (show (plain_text raw))) × All (LexemeFits raw.names) (show (plain_text raw))
   tree_fits = whole_text raw.names d.0.list (raw.machine, raw.proofs) d.2 terminals_true

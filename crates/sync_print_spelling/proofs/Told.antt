@@ -13,17 +13,18 @@ use Rattle.sync_base.specs.Limits.{largest}
 use Rattle.sync_parse_exprs.specs.declared.raw_names.RawName.{RawName}
 use Rattle.sync_parse_grammar.specs.Relations.{The, AName, ANumber, AStrategy, OneOf, Yields}
 use Rattle.sync_print.specs.Lexemes.{Lexeme, a_sign, a_number, a_name, a_strategy, one, one_name, one_number, one_strategy, needed, spelling}
-use Rattle.sync_print_spelling.specs.Namings.{names_said, what_name, terminal_names, SaysTrue, IsTrue, AreTrue, LexemeFits}
+use Rattle.sync_print_spelling.specs.Namings.{names_said, what_name, terminal_names, LexemeFits}
+use Rattle.sync_print_spelling.proofs.TrueNames.{KindIsTrue, TerminalIsTrue, TerminalsAreTrue}
 
 -- between two places terminals name what these lexemes name, which fit the names; true terminals follow
 pub record Told (names : NameList) (xs : List Lexeme) (ts rest : List Terminal) : Type 0 where
   pub said : terminal_names names ts ≡ names_said names xs ++ terminal_names names rest
   pub fit : All (LexemeFits names) xs
-  pub true_rest : AreTrue names rest
+  pub true_rest : TerminalsAreTrue names rest
 
 -- the same, where the terminals are true
 pub record Tells (names : NameList) (xs : List Lexeme) (ts rest : List Terminal) : Type 0 where
-  pub told : AreTrue names ts → Told names xs ts rest
+  pub told : TerminalsAreTrue names ts → Told names xs ts rest
 
 -- ---- one after another
 
@@ -60,7 +61,7 @@ behind {names = names} {xs = xs} p q = record {
 
 pub nothing : {names : NameList} {ts rest : List Terminal} → ts ≡ rest → Tells names [] ts rest
 unfolding names_said
-nothing {names = names} e = record { told = λ t. record { said = ap (terminal_names names) e; fit = All-nil (LexemeFits names); true_rest = subst (AreTrue names) e t } }
+nothing {names = names} e = record { told = λ t. record { said = ap (terminal_names names) e; fit = All-nil (LexemeFits names); true_rest = subst (TerminalsAreTrue names) e t } }
 
 -- a sign that is shown
 pub silent : {names : NameList} {ts : List Terminal} (s : Sign) → Tells names (one s) ts ts
@@ -86,22 +87,22 @@ skipped {names = names} {rest = rest} w e is = record {
   told = λ t. record {
     said = ap (terminal_names names) e ∙ ap (λ (x : Option (List ℕ)). cons_option x (terminal_names names rest)) is;
     fit = All-nil (LexemeFits names);
-    true_rest = All-tail (IsTrue names) w rest (subst (AreTrue names) e t);
+    true_rest = All-tail (TerminalIsTrue names) w rest (subst (TerminalsAreTrue names) e t);
   };
 }
 
 -- a terminal that is a name, and a lexeme of this spelling
 one_told : {names : NameList} {ts rest : List Terminal} (w : Terminal) (x : Lexeme) (bytes : List ℕ) → ts ≡ w ∷ rest → what_name names w.what ≡ Some bytes
-    → names_said names (x ∷ []) ≡ bytes ∷ [] → LexemeFits names x → AreTrue names ts → Told names (x ∷ []) ts rest
+    → names_said names (x ∷ []) ≡ bytes ∷ [] → LexemeFits names x → TerminalsAreTrue names ts → Told names (x ∷ []) ts rest
 unfolding terminal_names
 one_told {names = names} {rest = rest} w x bytes e is said fits t = record {
   said = ap (terminal_names names) e ∙ (ap (λ (y : Option (List ℕ)). cons_option y (terminal_names names rest)) is ∙ ap (λ (z : List (List ℕ)). z ++ terminal_names names rest) (sym said));
   fit = All-cons (LexemeFits names) x [] fits (All-nil (LexemeFits names));
-  true_rest = All-tail (IsTrue names) w rest (subst (AreTrue names) e t);
+  true_rest = All-tail (TerminalIsTrue names) w rest (subst (TerminalsAreTrue names) e t);
 }
 
-first_is : (names : NameList) {ts : List Terminal} (w : Terminal) (rest : List Terminal) → ts ≡ w ∷ rest → AreTrue names ts → IsTrue names w
-first_is names w rest e t = All-head (IsTrue names) w rest (subst (AreTrue names) e t)
+first_is : (names : NameList) {ts : List Terminal} (w : Terminal) (rest : List Terminal) → ts ≡ w ∷ rest → TerminalsAreTrue names ts → TerminalIsTrue names w
+first_is names w rest e t = All-head (TerminalIsTrue names) w rest (subst (TerminalsAreTrue names) e t)
 
 pub sign_read : {names : NameList} {s : Sign} {ts rest : List Terminal} {line : ℕ} → The s ts rest line → Tells names [] ts rest
 sign_read {names = names} d = skipped d.terminal d.stands (ap (what_name names) d.is)
@@ -127,7 +128,7 @@ name_told {names = names} {x = x} d =
     record {
       told = λ t.
           one_told d.terminal (a_name x.name) (spelling names x.name) d.stands (ap (what_name names) d.is ∙ ap (λ (y : ℕ). Some (spelling names y)) (sym same)) refl
-          (subst (λ (y : ℕ). y < length names.list) (sym same) (subst (SaysTrue names) d.is (first_is names d.terminal _ d.stands t)).0) t;
+          (subst (λ (y : ℕ). y < length names.list) (sym same) (subst (KindIsTrue names) d.is (first_is names d.terminal _ d.stands t)).0) t;
     }
 
 -- what is found passes
@@ -147,7 +148,7 @@ pub strategy_told : {names : NameList} {ts rest : List Terminal} {s : Strategy} 
 unfolding names_said one_strategy
 strategy_told {names = names} {s = s} d = record {
   told = λ t.
-      let same = strategy_spelled (spelling names d.number) s (subst (SaysTrue names) d.is (first_is names d.terminal _ d.stands t)).1 in
+      let same = strategy_spelled (spelling names d.number) s (subst (KindIsTrue names) d.is (first_is names d.terminal _ d.stands t)).1 in
       one_told d.terminal (a_strategy s) (spelling_of s) d.stands (ap (what_name names) d.is ∙ ap (λ (z : List ℕ). Some z) (sym same)) refl tt t;
 }
 

@@ -2,5 +2,4 @@ pub mod Says
 pub mod Limits
 pub mod Laws
 pub mod Namings
-pub mod Printed
 pub mod Rereading

@@ -1,6 +1,6 @@
--- What terminals and lexemes name, in their order, and which of them fit a list of names.
-use Rattle.std.specs.Prelude.{◌≡◌, ℕ, ◌≤◌, ◌<◌, List, length, Option, Some, None}
-use Rattle.std.specs.List.{All, filter_map, fold}
+-- What terminals and lexemes name, in their order, and which lexemes fit a list of names.
+use Rattle.std.specs.Prelude.{ℕ, ◌≤◌, ◌<◌, List, length, Option, Some, None}
+use Rattle.std.specs.List.{filter_map, fold}
 use Rattle.sync_base.specs.declared.names.Name.{Name}
 use Rattle.sync_base.specs.declared.names.NameList.{NameList}
 use Rattle.sync_lex.specs.declared.terminals.TerminalKind.{TerminalKind}
@@ -40,19 +40,7 @@ terminal_names names ws = filter_map (terminal_name names) ws
 unfoldable pub in_order : List Name → List (List ℕ) → List Name
 in_order names spellings = fold names_with names spellings
 
--- ---- terminals and lexemes that fit a list of names
-
--- a name is one of the list, with the strategy that it names there, and a number is one that a text can hold
-abbrev pub SaysTrue : NameList → TerminalKind → Type 0
-SaysTrue names (what.Sign s) = Unit {0}
-SaysTrue names (what.Number n) = n ≤ largest
-SaysTrue names (what.Name x s) = (x < length names.list) × (s ≡ strategies.strategy_of (spelling names x))
-
-abbrev pub IsTrue : NameList → Terminal → Type 0
-IsTrue names w = SaysTrue names w.what
-
-abbrev pub AreTrue : NameList → List Terminal → Type 0
-AreTrue names ws = All (IsTrue names) ws
+-- ---- lexemes that fit a list of names
 
 -- a name is one of the list, and a number is one that a text can hold
 abbrev pub LexemeFits : NameList → Lexeme → Type 0
