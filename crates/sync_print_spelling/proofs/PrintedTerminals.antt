@@ -11,7 +11,8 @@ use Rattle.sync_base.specs.declared.names.Name.{Name}
 use Rattle.sync_lex.specs.Terminals.{terminals_of, terminals_in}
 use Rattle.sync_print.specs.Lexemes.{Lexeme, printed}
 use Rattle.sync_print_spelling.specs.Namings.{names_said, in_order, LexemeFits}
-use Rattle.sync_print_spelling.proofs.TrueNames.{AreNames, ArePrinted}
+use Rattle.sync_print_spelling.specs.Names.{AreNames}
+use Rattle.sync_print_spelling.proofs.TrueNames.{ArePrinted}
 use Rattle.sync_print_spelling.proofs.ReadRuns.{runs}
 
 within : (text : List ℕ) → length text ≤ longest_text → lexemes_of text ≡ lexemes_from 0 1 0 text

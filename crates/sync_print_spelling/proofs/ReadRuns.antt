@@ -15,7 +15,7 @@ use Rattle.sync_lex.specs.Terminals.{number_in, said, bytes_at, terminals_after}
 use Rattle.sync_print.specs.Lexemes.{Lexeme, a_sign, a_number, a_name, a_strategy, spelling, lexeme_bytes, separator, printed}
 use Rattle.sync_print_spelling.specs.Says.{SaysOne, Says, no_more, one_more}
 use Rattle.sync_print_spelling.specs.Namings.{names_said, in_order, LexemeFits}
-use Rattle.sync_print_spelling.proofs.TrueNames.{AreNames}
+use Rattle.sync_print_spelling.specs.Names.{AreNames}
 use Rattle.sync_print_spelling.proofs.Interning.{number_last, own_number}
 use Rattle.sync_print_spelling.proofs.Readings.{token_read, says_now, IsRead, reads}
 

@@ -27,7 +27,7 @@ use Rattle.sync_lex.specs.Terminals.{number_in, names_with, named, said}
 use Rattle.sync_base.specs.Limits.{largest}
 use Rattle.sync_print.specs.Lexemes.{Lexeme, a_sign, a_number, a_name, a_strategy, spelling, lexeme_bytes, behind_sign, separator}
 use Rattle.sync_print_spelling.specs.Namings.{LexemeFits}
-use Rattle.sync_print_spelling.proofs.TrueNames.{IsName, AreNames}
+use Rattle.sync_print_spelling.specs.Names.{IsName, AreNames}
 use Rattle.sync_print_spelling.proofs.Lexing.{Begins, one_line, IsGap, space_gap, feed_gap, passes, one_sign}
 use Rattle.sync_print_spelling.proofs.LexingNumbers.{decimal_begins}
 use Rattle.sync_print_spelling.proofs.LexingNames.{letters_begin}

@@ -1,4 +1,4 @@
--- What is printed of a text that is spelled is read again as a tree that says the same.
+-- What is printed of a text that is spelled is read again as a tree that says the same; each tree that a text can hold is spelled.
 use Rattle.std.proofs.Common.{◌≡◌, ◌<◌, ◌≤◌, ℕ, All, Bool, true, false, List, [], length, Result, Ok, Err, IfOk, inl, inr, refl, sym, ap, ◌∙◌, subst, arith}
 use Rattle.std.specs.Prelude.{nat_lt}
 use Rattle.std.proofs.lemmas.Bool.Decides.{nat_tests}
@@ -23,9 +23,9 @@ use Rattle.sync_print.specs.Lexemes.{one, one_number, printed}
 use Rattle.sync_print.specs.ShowTexts.{show}
 use Rattle.sync_print_spelling.specs.Says.{Says, one_more}
 use Rattle.sync_print_spelling.specs.Limits.{TextFits}
-use Rattle.sync_print_spelling.specs.Laws.{SaysText}
+use Rattle.sync_print_spelling.specs.Laws.{SaysText, canonical, CanBeWritten, SpellAgain}
 use Rattle.sync_print_spelling.specs.Namings.{names_said, in_order, LexemeFits}
-use Rattle.sync_print_spelling.proofs.TrueNames.{AreNames}
+use Rattle.sync_print_spelling.specs.Names.{AreNames}
 use Rattle.sync_print_spelling.specs.Rereading.{Rereads, ReadsBack}
 use Rattle.sync_print_spelling.proofs.Texts.{texts}
 use Rattle.sync_print_spelling.proofs.TextsTold.{spelled_fits}
@@ -65,6 +65,20 @@ module _ (raw : RawText) (fits : TextFits (plain_text raw)) (are : AreNames raw.
       let names : p.0.names ≡ raw.names = ap (λ (list : List Name). record { list = list }) (p.1.named ∙ named) in
       read_case p.0 p.1.terminals_in names says canonical (parsed printed_text) refl
 
+  spelled_again : length printed_text ≤ longest_text → SpellAgain raw printed_text
+  spelled_again short =
+      let p = printed_terminals_in raw.names are (show (plain_text raw)) each short in
+      let says = p.1.says named in
+      let written = texts (plain_text raw) fits printed_text p.0 p.1.terminals_in says in
+      let same : written.spelled.0 ≡ p.0 = terminals_are (sym written.spelled.1 ∙ p.1.terminals_in) in
+      let names : p.0.names ≡ raw.names = ap (λ (list : List Name). record { list = list }) (p.1.named ∙ named) in
+      record {
+        tree = written.tree;
+        spelled = written.spelled;
+        is = written.is;
+        same_names = written.spelled.3 ∙ ap (λ (z : Terminals). z.names) same ∙ names;
+      }
+
   long_read : longest_text < length printed_text → ReadsBack raw printed_text
   long_read over = subst (Rereads raw) (sym (not_terminals_in printed_text (record { line = 1; rule = L1 }) (too_long printed_text over))) (inl refl)
 
@@ -80,6 +94,10 @@ pub reads_back : (text : List ℕ) (raw : RawText) → Spells text raw → Reads
 reads_back text raw d =
     let names = subst (λ (n : NameList). AreNames n.list) (sym d.3) (terminals_are_names text d.0 d.1).names in
     read_back raw (spelled_fits.limits text raw d) names (spelled_fits.lexemes text raw d) (sym (spelled_fits.names text raw d))
+
+-- a tree that a text can hold is spelled by its canonical bytes
+pub each_spelled : (raw : RawText) → CanBeWritten raw → SpellAgain raw (canonical raw)
+each_spelled raw p = spelled_again raw p.limits p.names p.lexemes (sym p.order) p.short
 
 -- the same of an answer
 pub printed_reads_back : {E : Type 0} (raw : RawText) (r : Result (List ℕ) E) → IfOk r (λ (bytes : List ℕ). bytes ≡ printed raw.names (show (plain_text raw)))

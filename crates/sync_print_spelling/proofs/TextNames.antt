@@ -26,7 +26,8 @@ use Rattle.sync_lex.specs.declared.terminals.Terminals.{Terminals}
 use Rattle.sync_lex.specs.Signs as terminals
 use Rattle.sync_lex.specs.Signs.{sign_of}
 use Rattle.sync_lex.specs.Terminals.{name_of, spells, names_with, said, bytes_at, terminals_in}
-use Rattle.sync_print_spelling.proofs.TrueNames.{IsName, AreNames, AreNamed, TerminalsAreTrue}
+use Rattle.sync_print_spelling.specs.Names.{IsName, AreNames}
+use Rattle.sync_print_spelling.proofs.TrueNames.{AreNamed, TerminalsAreTrue}
 use Rattle.sync_print_spelling.proofs.TerminalNames.{by_said, named_after, all_true, of_terminals_in}
 
 -- ---- names are short

@@ -1,31 +1,17 @@
--- Names and lexemes that a text can hold: what is printed of them is lexed again as the same.
-use Rattle.std.specs.Prelude.{◌≡◌, ℕ, ◌≤◌, ◌<◌, ◌≢◌, List, [], length, None, Ok, All, AllPairs}
-use Rattle.sync_base.specs.Limits.{largest, longest_name}
-use Rattle.sync_base.specs.declared.names.Name.{Name}
+-- What is printed of lexemes, and terminals that are true to a list of names.
+use Rattle.std.specs.Prelude.{◌≡◌, ℕ, ◌≤◌, ◌<◌, List, [], length, Ok, All}
+use Rattle.sync_base.specs.Limits.{largest}
 use Rattle.sync_base.specs.declared.names.NameList.{NameList}
-use Rattle.sync_lex.specs.declared.lexemes.Kind.TheVariants as kind
-use Rattle.sync_lex.specs.Spelling.{IsSpelled}
 use Rattle.sync_lex.specs.declared.terminals.Terminals.{Terminals}
 use Rattle.sync_lex.specs.declared.terminals.Terminal.{Terminal}
 use Rattle.sync_lex.specs.declared.terminals.TerminalKind.{TerminalKind}
 use Rattle.sync_lex.specs.declared.terminals.TerminalKind.TheVariants as what
 use Rattle.sync_lex.specs.Strategies as strategies
-use Rattle.sync_lex.specs.Signs.{sign_of}
 use Rattle.sync_lex.specs.Terminals.{terminals_in}
 use Rattle.sync_print.specs.Lexemes.{Lexeme, printed, spelling}
+use Rattle.sync_print_spelling.specs.Names.{AreNames}
 use Rattle.sync_print_spelling.specs.Says.{Says}
 use Rattle.sync_print_spelling.specs.Namings.{names_said, in_order}
-
--- the bytes of a name: a letter or `_`, then letters, digits and `_`, at most 64 bytes, and no reserved word
-pub record IsName (bytes : List ℕ) : Type 0 where
-  pub spelled : IsSpelled kind.Name bytes
-  pub short : length bytes ≤ longest_name
-  pub free : sign_of bytes ≡ None
-
--- each is a name, and no two are spelled alike
-pub record AreNames (names : List Name) : Type 0 where
-  pub each : All (λ (n : Name). IsName n.bytes) names
-  pub apart : AllPairs (λ (a b : Name). a.bytes ≢ b.bytes) names
 
 -- these are the terminals of what is printed of lexemes: their names are those that the lexemes say, in order, and where these are
 -- all the names, the terminals say the lexemes

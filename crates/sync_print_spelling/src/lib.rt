@@ -1,7 +1,7 @@
 //! The canonical form and its laws: what it spells by the productions of the grammar, and what reading it gives.
 #![tactic(auto)]
 
-ghost use Rattle.sync_print_spelling.specs.Laws.{OneTree, ReadIsSpelled, ShowSpells, SpelledFits};
+ghost use Rattle.sync_print_spelling.specs.Laws.{OneTree, ReadIsSpelled, ShowSpells, SpelledFits, EachTreeIsSpelled};
 
 mod printing;
 
@@ -26,4 +26,9 @@ pub fn no_bytes_spell_two_trees()
 /// A text that is read spells the tree that is read, and by the law before it no other.
 pub fn what_is_read_is_spelled()
     ensures { ReadIsSpelled }
+{}
+
+/// Each tree that a text can hold is spelled: its canonical bytes spell a tree that says the same, with the same names.
+pub fn each_tree_is_spelled()
+    ensures { EachTreeIsSpelled }
 {}

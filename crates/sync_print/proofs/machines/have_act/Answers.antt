@@ -1,0 +1,6 @@
+use Rattle.sync_print.proofs.Steps.{more}
+use Rattle.sync_print.proofs.machines.have_act.Goals as goal
+
+pub returns : goal.returns
+returns c =
+    more _ _ _ _ _ _ (more _ _ _ _ _ _ c.in_ok-sign.ensures c.in_ok-name.ensures) c.in_ok-sign-2.ensures
