@@ -19,11 +19,11 @@ use Rattle.sync_parse.specs.Scripts.{subject_terminal, subject_said, subject_at,
 use Rattle.sync_parse_grammar.specs.Relations.{Spelled, Then, the_one, the_other}
 use Rattle.sync_parse_grammar.specs.Expressions.{AnExpr}
 use Rattle.sync_parse_grammar.specs.Scripts.{ASubject, Hyp, Scaled, Part, As, Same, Sum, Inst, Parts, Lookup, Cong, Split, Cut, StepKind, Step, BlockOf, Nested, Block, Script}
-use Rattle.sync_parse_grammar.proofs.Clears.{code, front, Set, any, only, both, others, all_of, In, only_in, both_in, same_in, any_in, Starts, Clear, starts_then, starts_or, starts_the, starts_name, follows_starts}
+use Rattle.sync_parse_grammar.proofs.Clears.{code, front, Set, any, only, both, others, all_of, In, only_in, both_in, same_in, any_in, Starts, Clear, starts_then, starts_or, starts_the, starts_name, follows_starts, tail_is, head_is}
 use Rattle.sync_parse_grammar.proofs.ExpressionsClear.{operators}
 use Rattle.sync_parse_grammar.proofs.ScriptsClear.{starts_as, scaled_fork, same_fork, sum_fork, inst_fork, parts_fork, lookup_fork, cong_fork, split_fork, cut_fork, starts_step, clear_nested}
 use Rattle.sync_parse_grammar.proofs.Counting.{Silent, silent_part, silent_step, silent_nested_block}
-use Rattle.sync_parse_grammar.proofs.Completes.{Met, gives, Complete, braced, complete_yields, complete_then, complete_next, complete_here, complete_if, complete_last, complete_row, complete_series, met_within, no_room, tail_is, head_is, says, complete_the, complete_name, complete_number}
+use Rattle.sync_parse_grammar.proofs.Completes.{Met, gives, Complete, braced, complete_yields, complete_then, complete_next, complete_here, complete_if, complete_last, complete_row, complete_series, met_within, no_room, says, complete_the, complete_name, complete_number}
 use Rattle.sync_parse_grammar.proofs.ExpressionsComplete.{complete_expr, complete_args}
 
 -- ---- alternatives by their first sign
