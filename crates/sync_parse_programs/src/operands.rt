@@ -1,4 +1,4 @@
-//! Operands, conditions, calculations and word operations of programs, with names as numbers and lines where a rule may want one.
+//! Operands, conditions, calculations and word operations of programs; lines where a rule may want one.
 use sqlite_items::Items;
 use sync_parse::RawScript;
 use sync_parse_exprs::RawName;
