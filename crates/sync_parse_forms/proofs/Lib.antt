@@ -1,0 +1,13 @@
+pub mod Commas
+pub mod Counting
+pub mod Sounds
+pub mod Clears
+pub mod Completes
+pub mod Forms
+pub mod Bundle
+pub mod Coded
+pub mod Nesting
+pub mod Levels
+pub mod Respelled
+pub mod Shown
+pub mod Traced

@@ -1,0 +1,9 @@
+pub mod Relations
+pub mod Fronts
+pub mod Codes
+pub mod Readings
+pub mod Spellings
+pub mod Deciding
+pub mod Lexemes
+pub mod Shows
+pub mod Traces

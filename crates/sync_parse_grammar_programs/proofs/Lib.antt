@@ -1,0 +1,3 @@
+mod Leaves
+mod Statements
+pub mod Programs
