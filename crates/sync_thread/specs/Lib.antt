@@ -6,3 +6,4 @@ pub mod Code
 pub mod Views
 pub mod Scripts
 pub mod Resting
+pub mod Reports

@@ -21,6 +21,7 @@ use Rattle.sync_thread.specs.declared.program.ProofKind.{ProofKind}
 use Rattle.sync_thread.specs.declared.program.ProofKind.TheVariants as proof
 use Rattle.sync_thread.specs.declared.program.ProofStmt.{ProofStmt}
 use Rattle.sync_thread.specs.declared.program.List.{List as ListNode, fold-List}
+use Rattle.sync_thread.specs.declared.program.Stmt.{Stmt as StmtNode, fold-Stmt}
 use Rattle.sync_thread.specs.declared.program.StmtKind.TheOpen.{StmtKind-F, Tail-F, Atomic-F, List-F, Stmt-F, When-F}
 use Rattle.sync_thread.specs.declared.program.Thread.{Thread}
 use Rattle.sync_thread.specs.declared.program.Start.{Start}
@@ -186,6 +187,11 @@ list_tree s l =
     fold-List (ℕ → Then) TailThen (ℕ → Then) ListTree Then TailThen
     (kind_then s) (tail_then s) (atomic_then s) list_then stmt_then (when_then s) l
 
+abbrev pub stmt_tree : Stored → StmtNode → Then
+stmt_tree s x =
+    fold-Stmt (ℕ → Then) TailThen (ℕ → Then) ListTree Then TailThen
+      (kind_then s) (tail_then s) (atomic_then s) list_then stmt_then (when_then s) x
+
 -- ---- programs
 
 abbrev pub thread_tree : Stored → Thread → ThreadTree
@@ -217,9 +223,9 @@ IsProgramOf s p = (t : Stored) → Extends s t → program_tree t p ≡ program_
 abbrev pub CodeThen : Type 0
 CodeThen = CodeList → CodeList
 
-abbrev pub code_before : List CodeThen → CodeList
-code_before [] = Brace 0
-code_before (s ∷ ss) = s (code_before ss)
+abbrev pub code_before : List CodeThen → CodeList → CodeList
+code_before [] rest = rest
+code_before (s ∷ ss) rest = s (code_before ss rest)
 
 abbrev pub code_then : CodeStmt-F CodeThen → CodeThen
 code_then (CodeStmt-F.Set x c) rest = Do (record { local = x; calc = c }) 0 rest
@@ -228,18 +234,25 @@ code_then (CodeStmt-F.Write c i o) rest = On (code.Write c i o) 0 rest
 code_then (CodeStmt-F.Peek x c i) rest = On (code.Peek x c i) 0 rest
 code_then (CodeStmt-F.Word x op w i) rest = On (code.Operate x op w i) 0 rest
 code_then (CodeStmt-F.Print l o) rest = On (code.Print l o) 0 rest
-code_then (CodeStmt-F.If c p q) rest = If c 0 (code_before p) (code_before q) None rest
-code_then (CodeStmt-F.Loop body) rest = Loop tt tt 0 (code_before body) (Some tt) rest
+code_then (CodeStmt-F.If c p q) rest = If c 0 (code_before p (Brace 0)) (code_before q (Brace 0)) None rest
+code_then (CodeStmt-F.Loop body) rest = Loop tt tt 0 (code_before body (Brace 0)) (Some tt) rest
 code_then CodeStmt-F.Next rest = Next tt 0 rest
 code_then CodeStmt-F.Break rest = Break tt 0 rest
 code_then CodeStmt-F.End rest = End tt 0 rest
 
+-- a statement, as what it puts before the rest of its list
+abbrev pub code_stmt_tree : CodeStmt → CodeThen
+code_stmt_tree = fold-CodeStmt CodeThen code_then
+
 abbrev pub code_list_tree : List CodeStmt → CodeList
-code_list_tree ss = code_before (map (fold-CodeStmt CodeThen code_then) ss)
+code_list_tree ss = code_before (map code_stmt_tree ss) (Brace 0)
+
+abbrev pub code_thread_tree : CodeThread → code.CodeThread
+code_thread_tree t = record { name = t.name; body = code_list_tree t.body }
 
 abbrev pub code_tree : Code → CodeTree
 code_tree c = record {
   decls = c.decls;
-  threads = map (λ (t : CodeThread). record { name = t.name; body = code_list_tree t.body }) c.threads;
+  threads = map code_thread_tree c.threads;
   last = option_map code_list_tree c.last;
 }

@@ -1,0 +1,2 @@
+-- The code of a program, and its text.
+pub mod Erasing
