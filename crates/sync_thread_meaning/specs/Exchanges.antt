@@ -7,8 +7,8 @@ use Rattle.sync_terms.specs.Trees.{Tree, Formula, Get}
 use Rattle.sync_terms.specs.Maps as maps
 use Rattle.sync_terms.specs.Values.{Valuation, num, truth, with_value}
 use Rattle.sync_machine.specs.declared.fields.Field.{Field}
-use Rattle.sync_machine.specs.declared.fields.Strategy.{Strategy}
-use Rattle.sync_machine.specs.declared.fields.Strategy.TheVariants.{Count}
+use Rattle.sync_base.specs.declared.strategies.Strategy.{Strategy}
+use Rattle.sync_base.specs.declared.strategies.Strategy.TheVariants.{Count}
 use Rattle.sync_join.specs.declared.tokens.Token.{Token}
 use Rattle.sync_exchange.specs.declared.hands.Held.{Held}
 use Rattle.sync_exchange.specs.declared.hands.XStop.{XStop}
@@ -26,7 +26,7 @@ use Rattle.sync_machine.specs.Statements.{key_of, binds, safety}
 use Rattle.sync_machine.specs.States.{Value, Number, Mapped, State, strategy_at, strategy_of, current_of, advanced, first_values}
 use Rattle.sync_join.specs.Shards.{perm}
 use Rattle.sync_join.specs.Join.{join_of, number_of, entries_of}
-use Rattle.sync_eval.specs.Fitting.{values_fit}
+use Rattle.sync_exchange_values.specs.Fitting.{values_fit}
 use Rattle.sync_exchange.specs.Exchange.{held_as, argument, exchange_in, Exchanged, revalued, tokens_in}
 use Rattle.sync_exchange.specs.Plain.{is_plain}
 use Rattle.sync_exchange.specs.Splitting.{dropped, replaced, held, split_of, merged_of, copied_of, is_persistent}
@@ -95,12 +95,12 @@ guarded_key fs v cur (s ∷ ss) =
     key_or v (guarded_place s.act) (guarded_key fs (with_bound (current_of cur s.act) (binding_place s.act) v) (advanced fs cur s.act) ss)
 
 -- the numbers of a state are within the bound
-abbrev pub value_fits : (ℤ → Bool) → Value → Bool
-value_fits fits (Number n) = fits n
-value_fits fits (Mapped m) = values_fit fits m
+abbrev pub number_or_map_fits : (ℤ → Bool) → Value → Bool
+number_or_map_fits fits (Number n) = fits n
+number_or_map_fits fits (Mapped m) = values_fit fits m
 
 abbrev pub state_fits : (ℤ → Bool) → State → Bool
-state_fits fits s = list_all (value_fits fits) s
+state_fits fits s = list_all (number_or_map_fits fits) s
 
 -- ---- exchanges
 

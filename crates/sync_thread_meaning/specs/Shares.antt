@@ -13,10 +13,10 @@ use Rattle.sync_exchange.specs.declared.hands.Held.{Held}
 use Rattle.sync_join.specs.Shards.{Kept}
 use Rattle.sync_join.specs.Join.{record_at, number_of}
 use Rattle.sync_rules.specs.Locality.{names_only, form_names_only}
-use Rattle.sync_eval.specs.Fitting.{number_fits}
+use Rattle.sync_exchange_values.specs.Fitting.{number_fits}
 use Rattle.sync_exchange.specs.Exchange.{held_as, tokens_in}
 use Rattle.sync_exchange.specs.Splitting.{dropped}
-use Rattle.sync_holders.specs.Moves.{bag_of}
+use Rattle.sync_exchange.specs.Moves.{bag_of}
 use Rattle.sync_thread.specs.Control.{Halt, Broken, Wide}
 use Rattle.sync_thread.specs.Programs.{ShapeTree, WordTree, DeclTree, Word, Cell, KeepLineTree, KeepFactTree}
 use Rattle.sync_thread_meaning.specs.MachineWithProgram.{field_of}

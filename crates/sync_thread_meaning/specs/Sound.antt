@@ -13,7 +13,7 @@ use Rattle.sync_thread.specs.declared.operands.Moved.TheVariants.{Stepped, Nothi
 use Rattle.sync_machine.specs.States.{Value, Number, Mapped, State, Sort, Numbers, Maps, sort_of, IsReached, MeetsInvariants, HoldsAlways}
 use Rattle.sync_join.specs.Shards.{Kept, perm}
 use Rattle.sync_join.specs.Join.{join_of}
-use Rattle.sync_eval.specs.Narrow.{is_narrow}
+use Rattle.sync_exchange_values.specs.Narrow.{is_narrow}
 use Rattle.sync_exchange.specs.Exchange.{permission}
 use Rattle.sync_thread.specs.Control.{Halt, Broken, Wide, Language, On, Paused, ProgramMeaning, Running, event, events, start_from, AllMove, waits_at}
 use Rattle.sync_thread.specs.Programs.{ClauseTree, StartTree, is_empty, ListTree, SharedTree, Read, Write, Peek, Operate, Print}

@@ -7,8 +7,8 @@ use Rattle.sync_terms.specs.Trees.{Tree, Formula, Get}
 use Rattle.sync_terms.specs.Maps as maps
 use Rattle.sync_terms.specs.Values.{Valuation, num, truth, with_value}
 use Rattle.sync_machine.specs.declared.fields.Field.{Field}
-use Rattle.sync_machine.specs.declared.fields.Strategy.{Strategy}
-use Rattle.sync_machine.specs.declared.fields.Strategy.TheVariants.{Count}
+use Rattle.sync_base.specs.declared.strategies.Strategy.{Strategy}
+use Rattle.sync_base.specs.declared.strategies.Strategy.TheVariants.{Count}
 use Rattle.sync_join.specs.declared.tokens.Token.{Token}
 use Rattle.sync_exchange.specs.declared.hands.Held.{Held}
 use Rattle.sync_exchange.specs.declared.hands.XStop.{XStop}
@@ -26,7 +26,7 @@ use Rattle.sync_machine.specs.Statements.{key_of, binds, safety}
 use Rattle.sync_machine.specs.States.{Value, Number, Mapped, State, strategy_at, strategy_of, current_of, advanced, first_values}
 use Rattle.sync_join.specs.Shards.{perm}
 use Rattle.sync_join.specs.Join.{join_of, number_of, entries_of}
-use Rattle.sync_eval.specs.Fitting.{values_fit}
+use Rattle.sync_exchange_values.specs.Fitting.{values_fit}
 use Rattle.sync_exchange.specs.Exchange.{held_as, argument, exchange_in, Exchanged, revalued, tokens_in}
 use Rattle.sync_exchange.specs.Plain.{is_plain}
 use Rattle.sync_exchange.specs.Splitting.{dropped, replaced, held, split_of, merged_of, copied_of, is_persistent}
@@ -36,7 +36,7 @@ use Rattle.sync_thread.specs.Arrays.{words_named, token_number, token_numbers}
 use Rattle.sync_thread_meaning.specs.MachineWithProgram.{MachineWithProgram, fields_of, decls_of}
 use Rattle.sync_thread.specs.Code.{Memory, code_word, code_shared, code_local, code_step, satisfies, operand_value, word_number, word_at, cell_number, number_in, locals_of}
 use Rattle.sync_thread_meaning.specs.Shares.{Owned, Shares, hand_of, proofs_of, wrap_of, with_hand, with_proofs, with_wrap, all_tokens, only_if, bounded, found, Around, nowhere_near, named_value, symbol_value, Sight, sight_of, term_value, term_values, is_true, is_of_form, differ, are_new, WordAt, array_words, given_to, word_sight, guard_truth, fact_is_true, Parted, keep_lines, keep_facts_hold, overlaid}
-use Rattle.sync_thread_meaning.specs.Exchanges.{state_number, operation_names, binding_place, bound_at, with_bound, is_met, are_safe, guarded_place, key_or, guarded_key, value_fits, state_fits, exchange_left, exchanged, op_is_plain, exchanged_at_join, guards_cell}
+use Rattle.sync_thread_meaning.specs.Exchanges.{state_number, operation_names, binding_place, bound_at, with_bound, is_met, are_safe, guarded_place, key_or, guarded_key, number_or_map_fits, state_fits, exchange_left, exchanged, op_is_plain, exchanged_at_join, guards_cell}
 
 -- ---- words: opened, decided, closed
 
