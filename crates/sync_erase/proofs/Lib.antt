@@ -1,1 +1,2 @@
 mod Statements
+mod Lines

@@ -51,7 +51,8 @@ fn declarations(alloc: Global, decls: &[Decl]) -> Result<Items<CodeDecl>, AllocE
 
 /// The threads.
 fn threads(alloc: Global, threads: &[Thread]) -> Result<Items<CodeThread>, AllocError>
-    ensures { IfOk result (λ code. (s : Stored) → map code_thread_tree code ≡ map (λ t. code_thread (thread_tree s t)) threads.now) }
+    ensures { IfOk result (λ code. (s : Stored) → map code_thread_tree code ≡
+        map (λ t. code_thread (thread_tree s t)) threads.now) }
 {
     let mut code = Items::new(alloc);
     for thread in threads {
@@ -66,7 +67,8 @@ fn threads(alloc: Global, threads: &[Thread]) -> Result<Items<CodeThread>, Alloc
 
 /// The final block, if there is one.
 fn last(alloc: Global, last: &Option<List>) -> Result<Option<Items<CodeStmt>>, AllocError>
-    ensures { IfOk result (λ code. (s : Stored) → option_map code_list_tree code ≡ option_map code_list (option_map (list_tree s) last.now)) }
+    ensures { IfOk result (λ code. (s : Stored) → option_map code_list_tree code ≡
+        option_map code_list (option_map (list_tree s) last.now)) }
 {
     match last {
         Some(list) => Ok(Some(statements(alloc, list)?)),
