@@ -249,7 +249,8 @@ fn set_line(
     out: &mut Vec<u8>,
 ) -> Result<(), AllocError>
     ensures { OnOk result (out.new.items ≡
-        out.old.items ++ line_text indent.now (given_text names.now local ++ calculation_text names.now calc ++ codes ";")) }
+        out.old.items ++ line_text indent.now
+        (given_text names.now local ++ calculation_text names.now calc ++ codes ";")) }
 {
     put(indent, out)?;
     given(names, local, out)?;
@@ -270,7 +271,8 @@ fn read_line(
     out: &mut Vec<u8>,
 ) -> Result<(), AllocError>
     ensures { OnOk result (out.new.items ≡
-        out.old.items ++ line_text indent.now (given_text names.now local ++ opening.now ++ element_text names.now cell index ++ codes ";")) }
+        out.old.items ++ line_text indent.now
+        (given_text names.now local ++ opening.now ++ element_text names.now cell index ++ codes ";")) }
 {
     put(indent, out)?;
     given(names, local, out)?;
@@ -454,7 +456,8 @@ fn block(
     out: &mut Vec<u8>,
 ) -> Result<(), AllocError>
     ensures { OnOk result (out.new.items ≡
-        out.old.items ++ (codes " {" ++ 10 ∷ [] ++ list_text names.now (codes "  ") (code_list_tree list.now) ++ line_text [] (codes "}"))) }
+        out.old.items ++
+        (codes " {" ++ 10 ∷ [] ++ list_text names.now (codes "  ") (code_list_tree list.now) ++ line_text [] (codes "}"))) }
 {
     put(b" {\n", out)?;
     statements(alloc, names, b"  ", list, out)?;
