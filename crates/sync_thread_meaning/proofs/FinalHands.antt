@@ -6,7 +6,7 @@ use mathlib.Core.Path.{refl, sym, ap, ◌∙◌}
 use Rattle.sync_join.specs.declared.tokens.Token.{Token}
 use Rattle.sync_exchange.specs.declared.hands.Held.{Held}
 use Rattle.sync_exchange.specs.Exchange.{tokens_in}
-use Rattle.sync_thread_meaning.specs.Shares.{Shares, beside, all_tokens}
+use Rattle.sync_thread_meaning.specs.Shares.{Shares, beside, all_shards}
 use Rattle.sync_thread_meaning.specs.MachineWithProgram.{MachineWithProgram}
 use Rattle.sync_thread_meaning.specs.Meaning.{World, gathered, gather}
 use Rattle.sync_thread_meaning.specs.Laws.{FinalTakesAll}

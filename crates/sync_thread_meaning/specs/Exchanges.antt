@@ -28,14 +28,14 @@ use Rattle.sync_join.specs.Shards.{perm}
 use Rattle.sync_join.specs.Join.{join_of, number_of, entries_of}
 use Rattle.sync_exchange_values.specs.Fitting.{values_fit}
 use Rattle.sync_exchange.specs.Exchange.{held_as, argument, exchange_in, Exchanged, revalued, tokens_in}
-use Rattle.sync_exchange.specs.Plain.{is_plain}
+use Rattle.sync_rules.specs.Plain.{is_plain}
 use Rattle.sync_exchange.specs.Splitting.{dropped, replaced, held, split_of, merged_of, copied_of, is_persistent}
 use Rattle.sync_thread.specs.Control.{Halt, Broken, Wide, Language, StatementMeaning, ProgramMeaning}
 use Rattle.sync_thread.specs.Programs.{ClauseTree, KeepTree, DoTree, ClosingTree, CaseTree, ProofTree, Let, Exchange, Split, Merge, Copy, Move, Assert, Open, Case, Close, Still, Seal, Give, ProofStepTree, JumpTree, LocalTree, Set, Proof, SharedTree, Read, Write, Peek, Operate, Print, AtomicTree, ChoiceTree, ThreadTree, program_forms, is_unclaimed, all_decided}
 use Rattle.sync_thread.specs.Arrays.{words_named, token_number, token_numbers}
 use Rattle.sync_thread_meaning.specs.MachineWithProgram.{MachineWithProgram, fields_of, decls_of}
 use Rattle.sync_thread.specs.Code.{Memory, code_word, code_shared, code_local, code_step, satisfies, operand_value, word_number, word_at, cell_number, number_in, locals_of}
-use Rattle.sync_thread_meaning.specs.Shares.{Owned, Shares, hand_of, proofs_of, wrap_of, with_hand, with_proofs, with_wrap, all_tokens, only_if, bounded, found, Around, nowhere_near, named_value, symbol_value, Sight, sight_of, term_value, term_values, is_true, is_of_form, differ, are_new, WordAt, array_words, given_to, word_sight, guard_truth, fact_is_true, Parted, keep_lines, keep_facts_hold, overlaid}
+use Rattle.sync_thread_meaning.specs.Shares.{Owned, Shares, hand_of, proofs_of, wrap_of, with_hand, with_proofs, with_wrap, all_shards, only_if, bounded, found, Around, nowhere_near, named_value, symbol_value, Sight, sight_of, term_value, term_values, is_true, is_of_form, differ, are_new, WordAt, array_words, given_to, word_sight, guard_truth, fact_is_true, Parted, keep_lines, keep_facts_hold, overlaid}
 
 -- ---- operations at a state
 
@@ -127,14 +127,14 @@ op_is_plain x None = true
 
 -- The whole state is the join of all shards.
 abbrev pub exchanged_at_join : (ℤ → Bool) → MachineWithProgram → ℕ → Sight → DoTree → Shares → Result Shares Halt
-exchanged_at_join fits x t v form g = found (join_of (fields_of x) (all_tokens g) g.kept) >>= (λ (s : State).
+exchanged_at_join fits x t v form g = found (join_of (fields_of x) (all_shards g) g.kept) >>= (λ (s : State).
     bounded (op_is_plain x (slice_get x.machine.ops form.op) || state_fits fits s) (exchanged fits x t v form s g))
 
 -- whether the property guards this cell, with these arguments at the join
 abbrev pub guards_cell : (ℤ → Bool) → MachineWithProgram → Sight → DoTree → Shares → ℕ → Result Bool Halt
 guards_cell fits x v form g c =
     found (slice_get x.machine.ops form.op)
-    >>= (λ (o : OperationTree). found (join_of (fields_of x) (all_tokens g) g.kept) >>= (λ (s : State).
+    >>= (λ (o : OperationTree). found (join_of (fields_of x) (all_shards g) g.kept) >>= (λ (s : State).
     term_values fits v form.args >>= (λ args. Ok (is_key (guarded_key (fields_of x) (operation_names (fields_of x) s o args) (first_values (fields_of x) o.mode) o.steps))))) where
   is_key : Option ℤ → Bool
   is_key (Some k) = int_eq k (pos c)

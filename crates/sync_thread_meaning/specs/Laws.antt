@@ -7,7 +7,7 @@ use Rattle.sync_thread_meaning.specs.Erased.{erased_config}
 use Rattle.sync_thread_meaning.specs.MachineWithProgram.{MachineWithProgram, fields_of}
 use Rattle.sync_thread_meaning.specs.Meaning.{World, gather}
 use Rattle.sync_thread_meaning.specs.Moments.{Configuration, after, after_in, bag_in, TraceTree, trace_of}
-use Rattle.sync_thread_meaning.specs.Shares.{all_tokens}
+use Rattle.sync_thread_meaning.specs.Shares.{all_shards}
 
 -- Whatever the bound of numbers, the text and the schedule: where the annotated program has not failed, the erased one
 -- has done the same. It has the same words, cells, locals and lines, and everybody stands at the same place.
@@ -17,7 +17,7 @@ ErasedGoesAlong = (fits : ℤ → Bool) (x : MachineWithProgram) (sigma : List �
 
 -- Where the final block takes over, all tokens are those that were there before, in their order.
 abbrev pub FinalTakesAll : Type 0
-FinalTakesAll = (x : MachineWithProgram) (s : World) → all_tokens (gather x s).shares ≡ all_tokens s.shares
+FinalTakesAll = (x : MachineWithProgram) (s : World) → all_shards (gather x s).shares ≡ all_shards s.shares
 
 -- a trace is of a configuration: its lines, its words, and the state that all shards make
 pub record IsTraceAt (x : MachineWithProgram) (r : TraceTree) (here : Configuration) : Type 0 where

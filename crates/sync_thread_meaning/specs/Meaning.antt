@@ -30,14 +30,14 @@ use Rattle.sync_join.specs.Shards.{perm}
 use Rattle.sync_join.specs.Join.{join_of, number_of, entries_of}
 use Rattle.sync_exchange_values.specs.Fitting.{values_fit}
 use Rattle.sync_exchange.specs.Exchange.{held_as, argument, exchange_in, Exchanged, revalued, tokens_in}
-use Rattle.sync_exchange.specs.Plain.{is_plain}
+use Rattle.sync_rules.specs.Plain.{is_plain}
 use Rattle.sync_exchange.specs.Splitting.{dropped, replaced, held, split_of, merged_of, copied_of, is_persistent}
 use Rattle.sync_thread.specs.Control.{Halt, Broken, Wide, Language, StatementMeaning, ProgramMeaning}
 use Rattle.sync_thread.specs.Programs.{ClauseTree, KeepTree, DoTree, ClosingTree, CaseTree, ProofTree, Let, Exchange, Split, Merge, Copy, Move, Assert, Open, Case, Close, Still, Seal, Give, ProofStepTree, JumpTree, LocalTree, Set, Proof, SharedTree, Read, Write, Peek, Operate, Print, AtomicTree, ChoiceTree, ThreadTree, program_forms, is_unclaimed, all_decided}
 use Rattle.sync_thread.specs.Arrays.{words_named, token_number, token_numbers}
 use Rattle.sync_thread_meaning.specs.MachineWithProgram.{MachineWithProgram, fields_of, decls_of}
 use Rattle.sync_thread.specs.Code.{Memory, code_word, code_shared, code_local, code_step, satisfies, operand_value, word_number, word_at, cell_number, number_in, locals_of}
-use Rattle.sync_thread_meaning.specs.Shares.{Owned, Shares, hand_of, proofs_of, wrap_of, with_hand, with_proofs, with_wrap, all_tokens, only_if, bounded, found, Around, nowhere_near, named_value, symbol_value, Sight, sight_of, term_value, term_values, is_true, is_of_form, differ, are_new, WordAt, array_words, given_to, word_sight, guard_truth, fact_is_true, Parted, keep_lines, keep_facts_hold, overlaid}
+use Rattle.sync_thread_meaning.specs.Shares.{Owned, Shares, hand_of, proofs_of, wrap_of, with_hand, with_proofs, with_wrap, all_shards, only_if, bounded, found, Around, nowhere_near, named_value, symbol_value, Sight, sight_of, term_value, term_values, is_true, is_of_form, differ, are_new, WordAt, array_words, given_to, word_sight, guard_truth, fact_is_true, Parted, keep_lines, keep_facts_hold, overlaid}
 use Rattle.sync_thread_meaning.specs.Exchanges.{state_number, operation_names, binding_place, bound_at, with_bound, is_met, are_safe, guarded_place, key_or, guarded_key, number_or_map_fits, state_fits, exchange_left, exchanged, op_is_plain, exchanged_at_join, guards_cell}
 use Rattle.sync_thread_meaning.specs.Words.{OpenBlock, Taken, taken_one, taken_out, with_owned, word_opened, case_taken, decided_case, Put, put_back, word_closed, clauses_at, may_stay}
 

@@ -69,8 +69,8 @@ abbrev pub beside : Shares → List Token
 beside g = flat_map owned_tokens g.owned ++ g.dust
 
 -- all tokens
-abbrev pub all_tokens : Shares → List Token
-all_tokens g = bag_of g.hands (beside g)
+abbrev pub all_shards : Shares → List Token
+all_shards g = bag_of g.hands (beside g)
 
 -- ---- what goes on, and what does not
 

@@ -13,12 +13,12 @@ use Rattle.sync_thread.specs.declared.operands.Moved.TheVariants.{Stepped, Nothi
 use Rattle.sync_machine.specs.States.{Value, Number, Mapped, State, Sort, Numbers, Maps, sort_of, IsReached, MeetsInvariants, HoldsAlways}
 use Rattle.sync_join.specs.Shards.{Kept, perm}
 use Rattle.sync_join.specs.Join.{join_of}
-use Rattle.sync_exchange_values.specs.Narrow.{is_narrow}
+use Rattle.sync_entries.specs.Narrow.{is_narrow}
 use Rattle.sync_exchange.specs.Exchange.{permission}
 use Rattle.sync_thread.specs.Control.{Halt, Broken, Wide, Language, On, Paused, ProgramMeaning, Running, event, events, start_from, AllMove, waits_at}
 use Rattle.sync_thread.specs.Programs.{ClauseTree, StartTree, is_empty, ListTree, SharedTree, Read, Write, Peek, Operate, Print}
 use Rattle.sync_thread.specs.Code.{Memory, CodeTree, code_of, first_memory, cell_number, cell_at, code_meaning, erased_start, erased_after, ErasedConfig}
-use Rattle.sync_thread_meaning.specs.Shares.{Owned, Shares, hand_of, all_tokens, nowhere_near, Sight, sight_of, is_of_form, WordAt, array_words, word_sight, guard_truth, fact_is_true, found, no_bound}
+use Rattle.sync_thread_meaning.specs.Shares.{Owned, Shares, hand_of, all_shards, nowhere_near, Sight, sight_of, is_of_form, WordAt, array_words, word_sight, guard_truth, fact_is_true, found, no_bound}
 use Rattle.sync_thread.specs.Arrays.{cell_token}
 use Rattle.sync_thread_meaning.specs.MachineWithProgram.{MachineWithProgram, fields_of, decls_of}
 use Rattle.sync_thread_meaning.specs.Meaning.{InStart, proof_steps, keeping, annotated_language, annotated_meaning}
