@@ -1,0 +1,2 @@
+mod Control
+pub mod ControlEvents

@@ -1,0 +1,9 @@
+-- Programs of threads: how lists of statements run, what programs and their code are, and what code does.
+pub mod Control
+pub mod Programs
+pub mod Arrays
+pub mod Code
+pub mod Views
+pub mod Scripts
+pub mod Resting
+pub mod Reports

@@ -1,0 +1,28 @@
+//! The laws of rest: from facts on single statements to every event of every schedule.
+
+ghost use Rattle.sync_thread.specs.Control.{Language, ProgramMeaning};
+ghost use Rattle.sync_thread.specs.Resting.{EventsRest, Rules, SchedulesGoOn, SchedulesRest};
+
+/// A language of statements, typing rules for it, and what a program does in it.
+pub trait Ruled {
+    ghost language: { Language };
+
+    ghost rules: { Rules language };
+
+    ghost meaning: { ProgramMeaning language };
+}
+
+/// Where the rules tell of each single statement what it does, an event leaves a program at rest.
+pub fn events_rest<T: Ruled>()
+    ensures { EventsRest T.language T.rules T.meaning }
+{}
+
+/// So does every schedule, from a state in which the threads may begin.
+pub fn schedules_rest<T: Ruled>()
+    ensures { SchedulesRest T.language T.rules T.meaning }
+{}
+
+/// And where no failure is spared, every schedule goes on.
+pub fn schedules_go_on<T: Ruled>()
+    ensures { SchedulesGoOn T.language T.rules T.meaning }
+{}

@@ -1,0 +1,4 @@
+mod ErasedLists
+pub mod ErasedMoments
+pub mod FinalHands
+pub mod Traces

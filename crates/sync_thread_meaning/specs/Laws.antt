@@ -1,0 +1,37 @@
+-- The laws of what programs mean.
+use Rattle.std.specs.Prelude.{◌≡◌, ℕ, ℤ, Bool, false, List, length, Some, Ok}
+use Rattle.sync_join.specs.Join.{join_of}
+use Rattle.sync_thread.specs.Code.{code_of, erased_after}
+use Rattle.sync_thread.specs.Programs.{is_empty}
+use Rattle.sync_thread_meaning.specs.Erased.{erased_config}
+use Rattle.sync_thread_meaning.specs.MachineWithProgram.{MachineWithProgram, fields_of}
+use Rattle.sync_thread_meaning.specs.Meaning.{World, gather}
+use Rattle.sync_thread_meaning.specs.Moments.{Configuration, after, after_in, bag_in, TraceTree, trace_of}
+use Rattle.sync_thread_meaning.specs.Shares.{all_shards}
+
+-- Whatever the bound of numbers, the text and the schedule: where the annotated program has not failed, the erased one
+-- has done the same. It has the same words, cells, locals and lines, and everybody stands at the same place.
+abbrev pub ErasedGoesAlong : Type 0
+ErasedGoesAlong = (fits : ℤ → Bool) (x : MachineWithProgram) (sigma : List ℕ) (c : Configuration)
+    → after_in fits x sigma ≡ Ok c → erased_after (code_of x.program) sigma ≡ Ok (erased_config c)
+
+-- Where the final block takes over, all tokens are those that were there before, in their order.
+abbrev pub FinalTakesAll : Type 0
+FinalTakesAll = (x : MachineWithProgram) (s : World) → all_shards (gather x s).shares ≡ all_shards s.shares
+
+-- a trace is of a configuration: its lines, its words, and the state that all shards make
+pub record IsTraceAt (x : MachineWithProgram) (r : TraceTree) (here : Configuration) : Type 0 where
+  pub lines : r.lines ≡ here.state.memory.lines
+  pub words : r.words ≡ here.state.memory.words
+  pub joined : join_of (fields_of x) (bag_in here) here.state.shares.kept ≡ Some r.state
+
+-- What a schedule leaves is of the moment after its events, with one answer for each of them.
+pub record IsTraceOf (x : MachineWithProgram) (sigma : List ℕ) (r : TraceTree) : Type 0 where
+  pub here : Configuration
+  pub comes : after x sigma ≡ Ok here
+  pub trace : IsTraceAt x r here
+  pub each : length r.moved ≡ length sigma
+
+abbrev pub TracesAreOfMoments : Type 0
+TracesAreOfMoments = (x : MachineWithProgram) (sigma : List ℕ) (r : TraceTree) → is_empty x.program ≡ false
+    → trace_of x sigma ≡ Ok r → IsTraceOf x sigma r

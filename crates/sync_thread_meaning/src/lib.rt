@@ -1,0 +1,19 @@
+//! The laws of what programs mean.
+#![tactic(auto)]
+
+ghost use Rattle.sync_thread_meaning.specs.Laws.{ErasedGoesAlong, FinalTakesAll, TracesAreOfMoments};
+
+/// Wherever the annotated program has not failed, the erased one has done the same.
+pub fn erased_goes_along()
+    ensures { ErasedGoesAlong }
+{}
+
+/// The final block takes what all threads left, and no token comes or goes by that.
+pub fn final_takes_all()
+    ensures { FinalTakesAll }
+{}
+
+/// What a schedule leaves is of the moment after its events.
+pub fn traces_are_of_moments()
+    ensures { TracesAreOfMoments }
+{}
