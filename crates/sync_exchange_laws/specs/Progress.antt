@@ -54,7 +54,7 @@ Progresses = (m : MachineTree) → IsProved m → (o : OperationTree) → Contai
     → AreBrought m.fields o.steps begun
     → (x : Exchanged) × (exchange_of m.fields o args tokens given whole hand kept ≡ Ok x)
 
--- A stop that is the holder's: a token that is missing or differs, or a require that is false.
+-- A token that is missing, a token or an object that differs, or a require that is false: a stop of no other kind.
 abbrev pub IsHolders : XStop → Type 0
 IsHolders (Missing slot) = Unit {0}
 IsHolders (Differs slot) = Unit {0}
@@ -63,7 +63,7 @@ IsHolders (StoreEmpty slot) = ⊥
 IsHolders Width = ⊥
 IsHolders Memory = ⊥
 
--- Under what the theorem of sharding asks an exchange stops for no other reason.
+-- Under what the theorem of sharding asks an exchange stops with none but these.
 abbrev pub StopsAreHolders : Type 0
 StopsAreHolders = (m : MachineTree) → IsProved m → (o : OperationTree) → Contains m.ops o → (IsInit o → ⊥)
     → (args : List ℤ) → length args ≡ length o.params

@@ -52,7 +52,7 @@ pub fn exchanges_progress()
     ensures { Progresses }
 {}
 
-/// An exchange stops for a token that is missing or differs or for a require that is false, and for nothing else.
+/// An exchange answers a token that is missing, a token or an object that differs, or a require that is false, and nothing else.
 pub fn stops_are_holders()
     ensures { StopsAreHolders }
 {}
