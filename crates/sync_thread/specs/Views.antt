@@ -190,7 +190,7 @@ list_tree s l =
 abbrev pub stmt_tree : Stored → StmtNode → Then
 stmt_tree s x =
     fold-Stmt (ℕ → Then) TailThen (ℕ → Then) ListTree Then TailThen
-      (kind_then s) (tail_then s) (atomic_then s) list_then stmt_then (when_then s) x
+    (kind_then s) (tail_then s) (atomic_then s) list_then stmt_then (when_then s) x
 
 -- ---- programs
 

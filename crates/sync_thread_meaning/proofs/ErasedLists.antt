@@ -66,8 +66,8 @@ kept_same fits x t None j v s = tt
 
 branch_same : (fits : ℤ → Bool) (x : MachineWithProgram) (t : ℕ) (joined : Option KeepTree) (rest : ListTree) (v : ℤ) (on : World → Signal annotated_language) (go : Memory → Signal code_language)
     → ((s : World) → Same (on s) (go s.memory)) → (o : Signal annotated_language) (q : Signal code_language)
-        → Same o q
-        → Same (after_branch (annotated_statements fits x t) joined rest v on o) (after_branch (code_statements (decls_of x) t) None (code_list rest) tt go q)
+    → Same o q
+    → Same (after_branch (annotated_statements fits x t) joined rest v on o) (after_branch (code_statements (decls_of x) t) None (code_list rest) tt go q)
 branch_same fits x t joined rest v on go same (At ss fs s) q is =
     subst (λ p. Same (At ss (fs ++ InBranch joined rest v ∷ []) s) (after_branch (code_statements (decls_of x) t) None (code_list rest) tt go p)) (sym is)
     (ap (λ gs. At (code_list ss) gs s.memory) (sym (map_two erased_frame fs (InBranch joined rest v ∷ []))))
@@ -85,8 +85,8 @@ branch_same fits x t joined rest v on go same (Fails h) q is = tt
 
 turn_same : (fits : ℤ → Bool) (x : MachineWithProgram) (t : ℕ) (k : KeepTree) (body : ListTree) (left : Option KeepTree) (rest : ListTree) (v : ℤ) (on : World → Signal annotated_language) (go : Memory → Signal code_language)
     → ((s : World) → Same (on s) (go s.memory)) → (o : Signal annotated_language) (q : Signal code_language)
-        → Same o q
-        → Same (after_fresh_body (annotated_statements fits x t) k body left rest v on o) (after_fresh_body (code_statements (decls_of x) t) tt (code_list body) (Some tt) (code_list rest) tt go q)
+    → Same o q
+    → Same (after_fresh_body (annotated_statements fits x t) k body left rest v on o) (after_fresh_body (code_statements (decls_of x) t) tt (code_list body) (Some tt) (code_list rest) tt go q)
 turn_same fits x t k body left rest v on go same (At ss fs s) q is =
     subst (λ p. Same (At ss (fs ++ InLoop k body left rest v ∷ []) s) (after_fresh_body (code_statements (decls_of x) t) tt (code_list body) (Some tt) (code_list rest) tt go p)) (sym is)
     (ap (λ gs. At (code_list ss) gs s.memory) (sym (map_two erased_frame fs (InLoop k body left rest v ∷ []))))
@@ -132,14 +132,14 @@ run_same fits x t (If c n p q joined rest) s =
     (if satisfies s.memory t c.cond then run (annotated_statements fits x t) p s else run (annotated_statements fits x t) q s)
     (if satisfies s.memory t c.cond then run (code_statements (decls_of x) t) (code_list p) s.memory else run (code_statements (decls_of x) t) (code_list q) s.memory)
     (either_same (satisfies s.memory t c.cond) (run (annotated_statements fits x t) p s) (run (annotated_statements fits x t) q s) (run (code_statements (decls_of x) t) (code_list p) s.memory)
-      (run (code_statements (decls_of x) t) (code_list q) s.memory) (run_same fits x t p s) (run_same fits x t q s))
+    (run (code_statements (decls_of x) t) (code_list q) s.memory) (run_same fits x t p s) (run_same fits x t q s))
 run_same fits x t (Loop k j n body left rest) s =
     from_same (keep_step fits x t k j (wrap_of s.shares t) s) (Ok s.memory)
     (λ u. after_fresh_body (annotated_statements fits x t) k body left rest (wrap_of s.shares t) (run (annotated_statements fits x t) rest) (run (annotated_statements fits x t) body u))
     (λ m. after_fresh_body (code_statements (decls_of x) t) tt (code_list body) (Some tt) (code_list rest) tt (run (code_statements (decls_of x) t) (code_list rest)) (run (code_statements (decls_of x) t) (code_list body) m))
     (keep_same fits x t k j (wrap_of s.shares t) s)
     (λ u. turn_same fits x t k body left rest (wrap_of s.shares t) (run (annotated_statements fits x t) rest) (run (code_statements (decls_of x) t) (code_list rest)) (run_same fits x t rest)
-      (run (annotated_statements fits x t) body u) (run (code_statements (decls_of x) t) (code_list body) u.memory) (run_same fits x t body u))
+    (run (annotated_statements fits x t) body u) (run (code_statements (decls_of x) t) (code_list body) u.memory) (run_same fits x t body u))
 run_same fits x t (Next j n rest) s = refl
 run_same fits x t (Break j n rest) s = refl
 run_same fits x t (Meet j n rest) s = meet_same fits x t j rest s
@@ -147,15 +147,15 @@ run_same fits x t (End j n rest) s = refl
 
 body_same : (fits : ℤ → Bool) (x : MachineWithProgram) (t : ℕ) (k : KeepTree) (body : ListTree) (left : Option KeepTree) (rest : ListTree) (v : ℤ) (o : Signal annotated_language) (q : Signal code_language)
     → Same o q
-        → Same (after_older_body (annotated_statements fits x t) k body left rest v o) (after_older_body (code_statements (decls_of x) t) tt (code_list body) (Some tt) (code_list rest) tt q)
+    → Same (after_older_body (annotated_statements fits x t) k body left rest v o) (after_older_body (code_statements (decls_of x) t) tt (code_list body) (Some tt) (code_list rest) tt q)
 body_same fits x t k body left rest v (Nexts j s) q is =
     subst (λ p. Same (after_older_body (annotated_statements fits x t) k body left rest v (Nexts j s)) (after_older_body (code_statements (decls_of x) t) tt (code_list body) (Some tt) (code_list rest) tt p)) (sym is)
     (from_same (keep_step fits x t k j v s) (Ok s.memory)
-      (λ u. after_fresh_body (annotated_statements fits x t) k body left rest v (run (annotated_statements fits x t) rest) (run (annotated_statements fits x t) body u))
-      (λ m. after_fresh_body (code_statements (decls_of x) t) tt (code_list body) (Some tt) (code_list rest) tt (run (code_statements (decls_of x) t) (code_list rest)) (run (code_statements (decls_of x) t) (code_list body) m))
-      (keep_same fits x t k j v s)
-      (λ u. turn_same fits x t k body left rest v (run (annotated_statements fits x t) rest) (run (code_statements (decls_of x) t) (code_list rest)) (run_same fits x t rest)
-        (run (annotated_statements fits x t) body u) (run (code_statements (decls_of x) t) (code_list body) u.memory) (run_same fits x t body u)))
+    (λ u. after_fresh_body (annotated_statements fits x t) k body left rest v (run (annotated_statements fits x t) rest) (run (annotated_statements fits x t) body u))
+    (λ m. after_fresh_body (code_statements (decls_of x) t) tt (code_list body) (Some tt) (code_list rest) tt (run (code_statements (decls_of x) t) (code_list rest)) (run (code_statements (decls_of x) t) (code_list body) m))
+    (keep_same fits x t k j v s)
+    (λ u. turn_same fits x t k body left rest v (run (annotated_statements fits x t) rest) (run (code_statements (decls_of x) t) (code_list rest)) (run_same fits x t rest)
+    (run (annotated_statements fits x t) body u) (run (code_statements (decls_of x) t) (code_list body) u.memory) (run_same fits x t body u)))
 body_same fits x t k body left rest v (At ss fs s) q is =
     subst (λ p. Same (after_older_body (annotated_statements fits x t) k body left rest v (At ss fs s)) (after_older_body (code_statements (decls_of x) t) tt (code_list body) (Some tt) (code_list rest) tt p)) (sym is)
     (turn_same fits x t k body left rest v (run (annotated_statements fits x t) rest) (run (code_statements (decls_of x) t) (code_list rest)) (run_same fits x t rest) (At ss fs s) (At (code_list ss) (map erased_frame fs) s.memory) refl)
@@ -170,34 +170,34 @@ body_same fits x t k body left rest v (Fails h) q is = tt
 
 frame_same : (fits : ℤ → Bool) (x : MachineWithProgram) (t : ℕ) (f : Frame annotated_language) (o : Signal annotated_language) (q : Signal code_language)
     → Same o q
-        → Same (after_frame (annotated_statements fits x t) f o) (after_frame (code_statements (decls_of x) t) (erased_frame f) q)
+    → Same (after_frame (annotated_statements fits x t) f o) (after_frame (code_statements (decls_of x) t) (erased_frame f) q)
 frame_same fits x t (InBranch joined rest v) o q is =
     branch_same fits x t joined rest v (run (annotated_statements fits x t) rest) (run (code_statements (decls_of x) t) (code_list rest)) (run_same fits x t rest) o q is
 frame_same fits x t (InLoop k body left rest v) o q is = body_same fits x t k body left rest v o q is
 
 pub unwind_same : (fits : ℤ → Bool) (x : MachineWithProgram) (t : ℕ) (fs : List (Frame annotated_language)) (o : Signal annotated_language) (q : Signal code_language)
     → Same o q
-        → Same (unwind (annotated_statements fits x t) fs o) (unwind (code_statements (decls_of x) t) (map erased_frame fs) q)
+    → Same (unwind (annotated_statements fits x t) fs o) (unwind (code_statements (decls_of x) t) (map erased_frame fs) q)
 unfolding unwind
 unwind_same fits x t [] o q is = is
 unwind_same fits x t (f ∷ fs) o q is =
     unwind_same fits x t fs (after_frame (annotated_statements fits x t) f o) (after_frame (code_statements (decls_of x) t) (erased_frame f) q) (frame_same fits x t f o q is)
 
 chosen_same : (fits : ℤ → Bool) (x : MachineWithProgram) (t : ℕ) (a : ChoiceTree) (p q : ListTree) (joined : Option KeepTree) (rest : ListTree) (m : Memory) (r : Result Shares Halt)
-        → Same (after_choice (annotated_statements fits x t) p q joined rest (with_shares m r >>= (λ (w : World). Ok (satisfies m t a.test.cond, w))))
-      (run (code_statements (decls_of x) t) (If a.test.cond 0 (code_list p) (code_list q) None (code_list rest)) m)
+    → Same (after_choice (annotated_statements fits x t) p q joined rest (with_shares m r >>= (λ (w : World). Ok (satisfies m t a.test.cond, w))))
+    (run (code_statements (decls_of x) t) (If a.test.cond 0 (code_list p) (code_list q) None (code_list rest)) m)
 unfolding run
 chosen_same fits x t a p q joined rest m (Err h) = tt
 chosen_same fits x t a p q joined rest m (Ok g) = let w : World = record { memory = m; shares = g } in
     branch_same fits x t joined rest (wrap_of g t) (run (annotated_statements fits x t) rest) (run (code_statements (decls_of x) t) (code_list rest)) (run_same fits x t rest)
-      (if satisfies m t a.test.cond then run (annotated_statements fits x t) p w else run (annotated_statements fits x t) q w)
-      (if satisfies m t a.test.cond then run (code_statements (decls_of x) t) (code_list p) m else run (code_statements (decls_of x) t) (code_list q) m)
-      (either_same (satisfies m t a.test.cond) (run (annotated_statements fits x t) p w) (run (annotated_statements fits x t) q w) (run (code_statements (decls_of x) t) (code_list p) m)
-        (run (code_statements (decls_of x) t) (code_list q) m) (run_same fits x t p w) (run_same fits x t q w))
+    (if satisfies m t a.test.cond then run (annotated_statements fits x t) p w else run (annotated_statements fits x t) q w)
+    (if satisfies m t a.test.cond then run (code_statements (decls_of x) t) (code_list p) m else run (code_statements (decls_of x) t) (code_list q) m)
+    (either_same (satisfies m t a.test.cond) (run (annotated_statements fits x t) p w) (run (annotated_statements fits x t) q w) (run (code_statements (decls_of x) t) (code_list p) m)
+    (run (code_statements (decls_of x) t) (code_list q) m) (run_same fits x t p w) (run_same fits x t q w))
 
 choice_same : (fits : ℤ → Bool) (x : MachineWithProgram) (t : ℕ) (a : ChoiceTree) (p q : ListTree) (joined : Option KeepTree) (rest : ListTree) (r : Result Memory Halt) (f : Memory → Result Shares Halt)
-        → Same (after_choice (annotated_statements fits x t) p q joined rest (r >>= (λ (m : Memory). with_shares m (f m) >>= (λ (w : World). Ok (satisfies m t a.test.cond, w)))))
-      (from_state r (run (code_statements (decls_of x) t) (If a.test.cond 0 (code_list p) (code_list q) None (code_list rest))))
+    → Same (after_choice (annotated_statements fits x t) p q joined rest (r >>= (λ (m : Memory). with_shares m (f m) >>= (λ (w : World). Ok (satisfies m t a.test.cond, w)))))
+    (from_state r (run (code_statements (decls_of x) t) (If a.test.cond 0 (code_list p) (code_list q) None (code_list rest))))
 choice_same fits x t a p q joined rest (Ok m) f = chosen_same fits x t a p q joined rest m (f m)
 choice_same fits x t a p q joined rest (Err h) f = tt
 

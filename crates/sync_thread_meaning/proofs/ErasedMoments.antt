@@ -21,7 +21,7 @@ SameRunning (Err h) r = Unit {0}
 
 then_same : (r : Result (Running annotated_language) Halt) (q : Result (Running code_language) Halt) (f : Running annotated_language → Result (Running annotated_language) Halt) (g : Running code_language → Result (Running code_language) Halt)
     → SameRunning r q → ((c : Running annotated_language) → SameRunning (f c) (g (erased_config c)))
-        → SameRunning (r >>= f) (q >>= g)
+    → SameRunning (r >>= f) (q >>= g)
 then_same (Ok c) q f g is same = subst (λ p. SameRunning (f c) (p >>= g)) (sym is) (same c)
 then_same (Err h) q f g is same = tt
 
@@ -37,7 +37,7 @@ end_same : (fits : ℤ → Bool) (x : MachineWithProgram) (t : ℕ) (j : JumpTre
 end_same fits x t j s thread = by_thread (slice_get x.program.threads t) where
   by_thread : (o : Option ThreadTree) → SameState (found o >>= (λ (thread : ThreadTree).
       arrived fits x s t thread.ends j.args (pos 0) >>= (λ (a : Arrival).
-        Ok (record s { shares = keeping t a.kept a.left a.own s.shares })))) (Ok s.memory)
+      Ok (record s { shares = keeping t a.kept a.left a.own s.shares })))) (Ok s.memory)
   by_thread (Some thread) =
       made_same (arrived fits x s t thread.ends j.args (pos 0)) (λ (a : Arrival). keeping t a.kept a.left a.own s.shares) s.memory
   by_thread None = tt
@@ -50,7 +50,7 @@ finish_same x t s = tested (nat_eq t (length x.program.threads)) where
 
 paused_same : (fits : ℤ → Bool) (x : MachineWithProgram) (t : ℕ) (ps : List (Option (Paused annotated_language))) (o : Signal annotated_language) (q : Signal code_language)
     → Same o q
-        → SameRunning (paused_at (annotated_meaning fits x) t ps o) (paused_at (code_meaning (code_of x.program)) t (erased_places ps) q)
+    → SameRunning (paused_at (annotated_meaning fits x) t ps o) (paused_at (code_meaning (code_of x.program)) t (erased_places ps) q)
 paused_same fits x t ps (At ss fs s) q is =
     subst (λ p. paused_at (code_meaning (code_of x.program)) t (erased_places ps) p ≡ Ok (erased_config (running s (slice_set ps t (Some (record { rest = ss; frames = fs })))))) (sym is)
     (ap (λ qs. Ok (running s.memory qs)) (sym (map-set (option_map erased_paused) ps t (Some (record { rest = ss; frames = fs })))))
@@ -76,24 +76,24 @@ bodies_same [] = refl
 bodies_same (t ∷ ts) = ap suc (bodies_same ts)
 
 final_same : (fits : ℤ → Bool) (x : MachineWithProgram) (ps : List (Option (Paused annotated_language))) (s : World) (o : Option ListTree)
-        → SameRunning (final_begins (annotated_meaning fits x) ps s o) (final_begins (code_meaning (code_of x.program)) (erased_places ps) s.memory (option_map code_list o))
+    → SameRunning (final_begins (annotated_meaning fits x) ps s o) (final_begins (code_meaning (code_of x.program)) (erased_places ps) s.memory (option_map code_list o))
 final_same fits x ps s None = refl
 final_same fits x ps s (Some ss) = let n : ℕ = length (map (λ (t : ThreadTree). t.body) x.program.threads) in
     subst (λ k. SameRunning (paused_at (annotated_meaning fits x) n ps (run (annotated_statements fits x n) ss s)) (paused_at (code_meaning (code_of x.program)) k (erased_places ps) (run (code_statements (decls_of x) k) (code_list ss) s.memory)))
-      (sym (bodies_same x.program.threads)) (paused_same fits x n ps (run (annotated_statements fits x n) ss s) (run (code_statements (decls_of x) n) (code_list ss) s.memory) (run_same fits x n ss s))
+    (sym (bodies_same x.program.threads)) (paused_same fits x n ps (run (annotated_statements fits x n) ss s) (run (code_statements (decls_of x) n) (code_list ss) s.memory) (run_same fits x n ss s))
 
 hand_same : (fits : ℤ → Bool) (x : MachineWithProgram) (c : Running annotated_language)
     → SameRunning (hand_over (annotated_meaning fits x) c) (hand_over (code_meaning (code_of x.program)) (erased_config c))
 hand_same fits x c =
     subst (λ b. SameRunning (hand_over (annotated_meaning fits x) c) (if b then final_begins (code_meaning (code_of x.program)) (erased_places c.places) c.state.memory (option_map code_list x.program.last) else Ok (erased_config c))) (sym (all_same c.places)) (tested (have_ended c.places)) where
-  tested : (b : Bool)
-      → SameRunning (if b then final_begins (annotated_meaning fits x) c.places (gather x c.state) x.program.last else Ok c)
-      (if b then final_begins (code_meaning (code_of x.program)) (erased_places c.places) c.state.memory (option_map code_list x.program.last) else Ok (erased_config c))
-  tested true = final_same fits x c.places (gather x c.state) x.program.last
-  tested false = refl
+      tested : (b : Bool)
+          → SameRunning (if b then final_begins (annotated_meaning fits x) c.places (gather x c.state) x.program.last else Ok c)
+          (if b then final_begins (code_meaning (code_of x.program)) (erased_places c.places) c.state.memory (option_map code_list x.program.last) else Ok (erased_config c))
+      tested true = final_same fits x c.places (gather x c.state) x.program.last
+      tested false = refl
 
 event_at_same : (fits : ℤ → Bool) (x : MachineWithProgram) (t : ℕ) (c : Running annotated_language) (o : Option (Option (Paused annotated_language)))
-        → SameRunning (event_at (annotated_meaning fits x) t c o) (event_at (code_meaning (code_of x.program)) t (erased_config c) (option_map (option_map erased_paused) o))
+    → SameRunning (event_at (annotated_meaning fits x) t c o) (event_at (code_meaning (code_of x.program)) t (erased_config c) (option_map (option_map erased_paused) o))
 event_at_same fits x t c None = refl
 event_at_same fits x t c (Some None) = refl
 event_at_same fits x t c (Some (Some w)) =
@@ -102,14 +102,14 @@ event_at_same fits x t c (Some (Some w)) =
     (λ (d : Running annotated_language). if nat_lt t (length (map (λ (t : ThreadTree). t.body) x.program.threads)) then hand_over (annotated_meaning fits x) d else Ok d)
     (λ (d : Running code_language). if nat_lt t (length (map (λ (t : CodeThread). t.body) (map code_thread x.program.threads))) then hand_over (code_meaning (code_of x.program)) d else Ok d)
     (paused_same fits x t c.places (unwind (annotated_statements fits x t) w.frames (step (annotated_statements fits x t) w.rest c.state))
-      (unwind (code_statements (decls_of x) t) (map erased_frame w.frames) (step (code_statements (decls_of x) t) (code_list w.rest) c.state.memory))
-      (unwind_same fits x t w.frames (step (annotated_statements fits x t) w.rest c.state) (step (code_statements (decls_of x) t) (code_list w.rest) c.state.memory) (step_same fits x t w.rest c.state)))
+    (unwind (code_statements (decls_of x) t) (map erased_frame w.frames) (step (code_statements (decls_of x) t) (code_list w.rest) c.state.memory))
+    (unwind_same fits x t w.frames (step (annotated_statements fits x t) w.rest c.state) (step (code_statements (decls_of x) t) (code_list w.rest) c.state.memory) (step_same fits x t w.rest c.state)))
     (λ d. subst (λ k. SameRunning (if nat_lt t (length (map (λ (t : ThreadTree). t.body) x.program.threads)) then hand_over (annotated_meaning fits x) d else Ok d)
-        (if nat_lt t k then hand_over (code_meaning (code_of x.program)) (erased_config d) else Ok (erased_config d))) (sym (bodies_same x.program.threads)) (tested d (nat_lt t (length (map (λ (t : ThreadTree). t.body) x.program.threads))))) where
-  tested : (d : Running annotated_language) (b : Bool)
-      → SameRunning (if b then hand_over (annotated_meaning fits x) d else Ok d) (if b then hand_over (code_meaning (code_of x.program)) (erased_config d) else Ok (erased_config d))
-  tested d true = hand_same fits x d
-  tested d false = refl
+    (if nat_lt t k then hand_over (code_meaning (code_of x.program)) (erased_config d) else Ok (erased_config d))) (sym (bodies_same x.program.threads)) (tested d (nat_lt t (length (map (λ (t : ThreadTree). t.body) x.program.threads))))) where
+      tested : (d : Running annotated_language) (b : Bool)
+          → SameRunning (if b then hand_over (annotated_meaning fits x) d else Ok d) (if b then hand_over (code_meaning (code_of x.program)) (erased_config d) else Ok (erased_config d))
+      tested d true = hand_same fits x d
+      tested d false = refl
 
 event_same : (fits : ℤ → Bool) (x : MachineWithProgram) (t : ℕ) (c : Running annotated_language)
     → SameRunning (event (annotated_meaning fits x) t c) (event (code_meaning (code_of x.program)) t (erased_config c))
@@ -125,7 +125,7 @@ events_same fits x (t ∷ ts) c =
     (event_same fits x t c) (events_same fits x ts)
 
 lead_same : (fits : ℤ → Bool) (x : MachineWithProgram) (t : ℕ) (bs : List ThreadTree) (c : Running annotated_language)
-        → SameRunning (lead (annotated_meaning fits x) t (map (λ (t : ThreadTree). t.body) bs) c) (lead (code_meaning (code_of x.program)) t (map (λ (t : CodeThread). t.body) (map code_thread bs)) (erased_config c))
+    → SameRunning (lead (annotated_meaning fits x) t (map (λ (t : ThreadTree). t.body) bs) c) (lead (code_meaning (code_of x.program)) t (map (λ (t : CodeThread). t.body) (map code_thread bs)) (erased_config c))
 lead_same fits x t [] c = refl
 lead_same fits x t (b ∷ bs) c =
     then_same (paused_at (annotated_meaning fits x) t c.places (run (annotated_statements fits x t) b.body c.state))
@@ -145,9 +145,9 @@ begin_same fits x s =
     subst (λ ps. SameRunning (start_from (annotated_meaning fits x) s) (lead (code_meaning (code_of x.program)) 0 (map (λ (t : CodeThread). t.body) (map code_thread x.program.threads)) (running s.memory ps) >>= hand_over (code_meaning (code_of x.program))))
     (sym (nowhere_same x.program.threads))
     (then_same (lead (annotated_meaning fits x) 0 (map (λ (t : ThreadTree). t.body) x.program.threads) (running s (nowhere (map (λ (t : ThreadTree). t.body) x.program.threads))))
-      (lead (code_meaning (code_of x.program)) 0 (map (λ (t : CodeThread). t.body) (map code_thread x.program.threads)) (running s.memory (erased_places (nowhere (map (λ (t : ThreadTree). t.body) x.program.threads)))))
-      (hand_over (annotated_meaning fits x)) (hand_over (code_meaning (code_of x.program)))
-      (lead_same fits x 0 x.program.threads (running s (nowhere (map (λ (t : ThreadTree). t.body) x.program.threads)))) (hand_same fits x))
+    (lead (code_meaning (code_of x.program)) 0 (map (λ (t : CodeThread). t.body) (map code_thread x.program.threads)) (running s.memory (erased_places (nowhere (map (λ (t : ThreadTree). t.body) x.program.threads)))))
+    (hand_over (annotated_meaning fits x)) (hand_over (code_meaning (code_of x.program)))
+    (lead_same fits x 0 x.program.threads (running s (nowhere (map (λ (t : ThreadTree). t.body) x.program.threads)))) (hand_same fits x))
 
 count_same : (x : MachineWithProgram) → length (map code_thread x.program.threads) ≡ length x.program.threads
 count_same x = length-map x.program.threads code_thread
@@ -170,7 +170,7 @@ after_same fits x sigma = from x.program.start where
   from o =
       subst (λ n. SameRunning (start_of fits x o >>= events (annotated_meaning fits x) sigma) (start_from (code_meaning (code_of x.program)) (first_memory (decls_of x) n) >>= events (code_meaning (code_of x.program)) sigma))
       (sym (count_same x)) (then_same (start_of fits x o) (start_from (code_meaning (code_of x.program)) (memory_of x)) (events (annotated_meaning fits x) sigma) (events (code_meaning (code_of x.program)) sigma)
-        (started o) (events_same fits x sigma))
+      (started o) (events_same fits x sigma))
 
 pub erased_goes_along : ErasedGoesAlong
 erased_goes_along fits x sigma c is = subst (λ r. SameRunning r (erased_after (code_of x.program) sigma)) is (after_same fits x sigma)

@@ -65,7 +65,7 @@ from_events x ms r (Err h) same = absurd (no_err h r same)
 from_start : (x : MachineWithProgram) (sigma : List ℕ) (r : TraceTree) (q : Result Configuration Halt)
     → (q >>= trace_from x sigma) ≡ Ok r
     → (here : Configuration) × ((q >>= events (annotated_meaning no_bound x) sigma) ≡ Ok here) × IsTraceAt x r here
-      × (length r.moved ≡ length sigma)
+    × (length r.moved ≡ length sigma)
 from_start x sigma r (Ok c) same =
     let (here, is, trace, moved) = from_events x (moves_of (annotated_meaning no_bound x) sigma c) r (events (annotated_meaning no_bound x) sigma c) same in
     (here, is, trace, ap length moved ∙ moves_length (annotated_meaning no_bound x) sigma c (subst IsOk (sym is) tt))
@@ -79,5 +79,5 @@ traces_are_of_moments x sigma r some same =
     let empty : Result TraceTree Halt = Ok (record { moved = map (λ (t : ℕ). Nothing) sigma; lines = []; words = []; state = [] }) in
     let tells : Result TraceTree Halt = start_of no_bound x x.program.start >>= trace_from x sigma in
     let (here, comes, trace, each) = from_start x sigma r (start_of no_bound x x.program.start)
-        (subst (λ q. q ≡ Ok r) (of_false (is_empty x.program) empty tells some) same) in
+    (subst (λ q. q ≡ Ok r) (of_false (is_empty x.program) empty tells some) same) in
     record { here = here; comes = comes; trace = trace; each = each }

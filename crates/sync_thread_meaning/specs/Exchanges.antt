@@ -118,8 +118,8 @@ abbrev pub exchanged : (ℤ → Bool) → MachineWithProgram → ℕ → Sight �
 exchanged fits x t v form s g =
     found (slice_get x.machine.ops form.op) >>= (λ (o : OperationTree). term_values fits v form.args >>= (λ args.
     only_if (differ (token_numbers (decls_of x) form.tokens) && are_new form.given (hand_of g t))
-      (exchange_left (are_safe (fields_of x) (operation_names (fields_of x) s o args) (first_values (fields_of x) o.mode) o.steps) t g
-        (exchange_in fits (fields_of x) o args (token_numbers (decls_of x) form.tokens) form.given s (hand_of g t) g.kept))))
+    (exchange_left (are_safe (fields_of x) (operation_names (fields_of x) s o args) (first_values (fields_of x) o.mode) o.steps) t g
+    (exchange_in fits (fields_of x) o args (token_numbers (decls_of x) form.tokens) form.given s (hand_of g t) g.kept))))
 
 abbrev pub op_is_plain : MachineWithProgram → Option OperationTree → Bool
 op_is_plain x (Some o) = is_plain x.machine.fields o
@@ -136,6 +136,6 @@ guards_cell fits x v form g c =
     found (slice_get x.machine.ops form.op)
     >>= (λ (o : OperationTree). found (join_of (fields_of x) (all_shards g) g.kept) >>= (λ (s : State).
     term_values fits v form.args >>= (λ args. Ok (is_key (guarded_key (fields_of x) (operation_names (fields_of x) s o args) (first_values (fields_of x) o.mode) o.steps))))) where
-  is_key : Option ℤ → Bool
-  is_key (Some k) = int_eq k (pos c)
-  is_key None = false
+      is_key : Option ℤ → Bool
+      is_key (Some k) = int_eq k (pos c)
+      is_key None = false

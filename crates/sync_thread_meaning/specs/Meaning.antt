@@ -105,7 +105,7 @@ arrived fits x s t k args wrap =
     term_values fits (sight_of (fields_of x) s.memory s.shares t nowhere_near) args >>= (λ ns.
     let v : Sight = keep_sight (fields_of x) s t (given_to k.names ns) wrap in
     keep_lines v k.lines (hand_of s.shares t) >>= (λ (p : Parted).
-      only_if (keep_facts_hold v k.facts) (Ok (record { kept = p.kept; left = p.left; own = given_to k.names ns }))))
+    only_if (keep_facts_hold v k.facts) (Ok (record { kept = p.kept; left = p.left; own = given_to k.names ns }))))
 
 -- thread t goes on with these tokens and proof values; what is left of its hand is dropped
 abbrev pub keeping : ℕ → List Held → List Held → (ℕ → Option ℤ) → Shares → Shares
@@ -133,10 +133,10 @@ proof_step fits x t site m p g = does p where
   does (Split n one two amount scripts) =
       term_value fits v amount >>= (λ i. found (held_as n hand) >>= (λ (token : Token).
       only_if (is_count (fields_of x) token && int_le (pos 0) i && int_le i token.value && are_new (one ∷ two ∷ []) hand)
-        (Ok (with_hand t (split_of n token i one two hand) g))))
+      (Ok (with_hand t (split_of n token i one two hand) g))))
   does (Merge a b into) = found (held_as a hand) >>= (λ (one : Token). found (held_as b hand) >>= (λ (two : Token).
       only_if (not (nat_eq a b) && nat_eq one.field two.field && is_count (fields_of x) one && are_new (into ∷ []) hand)
-        (bounded (fits (one.value +ℤ two.value)) (Ok (with_hand t (merged_of a one b two into hand) g)))))
+      (bounded (fits (one.value +ℤ two.value)) (Ok (with_hand t (merged_of a one b two into hand) g)))))
   does (Copy n new) = found (held_as n hand) >>= (λ (token : Token).
       only_if (may_be_copied (fields_of x) token && are_new (new ∷ []) hand) (Ok (with_hand t (copied_of token new hand) g)))
   does (Move tok new) = found (held_as (token_number (decls_of x) tok) hand) >>= (λ (token : Token).
@@ -153,7 +153,7 @@ proof_step fits x t site m p g = does p where
   does (Give thread args scripts) =
       only_if (in_start site) (found (thread_named thread x.program.threads) >>= (λ u. found (slice_get x.program.threads u) >>= (λ (taker : ThreadTree).
       arrived fits x (record { memory = m; shares = g }) t taker.takes args (pos 0) >>= (λ (a : Arrival).
-        Ok (with_proofs u a.own (with_hand u a.kept (with_hand t a.left g)))))))
+      Ok (with_proofs u a.own (with_hand u a.kept (with_hand t a.left g)))))))
 
 -- the site after a statement
 abbrev pub deciding : ProofTree → List ℕ → List ℕ
@@ -213,7 +213,7 @@ abbrev pub word_block : (ℤ → Bool) → MachineWithProgram → ℕ → Atomic
     → Shares → Result Shares Halt
 word_block fits x t a ps m n g = word_number (decls_of x) t m a.word a.index.operand >>= (λ k.
     proof_steps fits x t (InBlock (record { number = k; around = record { old = pos (word_at m k); new = pos (word_at n k) }; decided = [] })) n ps
-      (wrapping t (op_wrap (operand_value m t) a.op (word_at m k)) g))
+    (wrapping t (op_wrap (operand_value m t) a.op (word_at m k)) g))
 
 -- what a shared step does to the tokens, between the memory before and after it
 abbrev pub share_step : (ℤ → Bool) → MachineWithProgram → ℕ → SharedTree → Memory → Memory → Shares
@@ -237,7 +237,7 @@ shared_step fits x t a s =
 abbrev pub choice_step : (ℤ → Bool) → MachineWithProgram → ℕ → ChoiceTree → World → Result (Bool × World) Halt
 choice_step fits x t a s = code_step (decls_of x) t (code_word a.atomic) s.memory >>= (λ (m : Memory).
     with_shares m (word_block fits x t a.atomic (if satisfies m t a.test.cond then a.first else a.second) s.memory m s.shares)
-      >>= (λ (w : World). Ok (satisfies m t a.test.cond, w)))
+    >>= (λ (w : World). Ok (satisfies m t a.test.cond, w)))
 
 -- a jump comes to a keep of its own thread
 abbrev pub keep_step : (ℤ → Bool) → MachineWithProgram → ℕ → KeepTree → JumpTree → ℤ → World → Result World Halt
@@ -266,7 +266,7 @@ annotated_statements fits x t = record {
 abbrev pub end_step : (ℤ → Bool) → MachineWithProgram → ℕ → JumpTree → World → Result World Halt
 end_step fits x t j s = found (slice_get x.program.threads t) >>= (λ (thread : ThreadTree).
     arrived fits x s t thread.ends j.args (pos 0) >>= (λ (a : Arrival).
-      Ok (record s { shares = keeping t a.kept a.left a.own s.shares })))
+    Ok (record s { shares = keeping t a.kept a.left a.own s.shares })))
 
 -- the final block's list just ends
 abbrev pub finish_step : MachineWithProgram → ℕ → World → Result World Halt

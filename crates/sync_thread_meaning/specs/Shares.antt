@@ -220,7 +220,7 @@ keep_lines v [] hand = Ok (record { kept = []; left = hand })
 keep_lines v (l ∷ ls) hand =
     found (held_as l.name hand)
     >>= (λ (t : Token). only_if (is_of_form v l.shape t) (keep_lines v ls (dropped l.name hand)
-        >>= (λ (p : Parted). Ok (record { kept = record { name = l.name; token = t } ∷ p.kept; left = p.left }))))
+    >>= (λ (p : Parted). Ok (record { kept = record { name = l.name; token = t } ∷ p.kept; left = p.left }))))
 
 abbrev pub keep_facts_hold : Sight → List KeepFactTree → Bool
 keep_facts_hold v fs = list_all (λ (f : KeepFactTree). is_true v f.form) fs

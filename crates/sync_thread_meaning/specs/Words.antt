@@ -73,7 +73,7 @@ word_opened x t i names tokens g =
     found (slice_get (array_words x.program.decls) i)
     >>= (λ (p : WordAt). found (slice_get g.owned i) >>= (λ (o : Owned).
     only_if (are_new tokens (hand_of g t)) (taken_out p.word.clauses o.tokens tokens >>= (λ (k : Taken).
-      Ok (with_owned i (record { tokens = k.owned; values = o.values }) (with_proofs t (overlaid (given_to names o.values) (proofs_of g t)) (with_hand t (hand_of g t ++ k.held) g)))))))
+    Ok (with_owned i (record { tokens = k.owned; values = o.values }) (with_proofs t (overlaid (given_to names o.values) (proofs_of g t)) (with_hand t (hand_of g t ++ k.held) g)))))))
 
 -- a guarded clause: its guard is as it is said to be at the old value; where it is true its token comes out
 abbrev pub case_taken : ℕ → ℕ → Owned → ℕ → Bool → Option ℕ → Option Token → Shares → Result Shares Halt
@@ -90,8 +90,8 @@ decided_case x t b (form) g = clause form.clause where
       found (slice_get (array_words x.program.decls) b.number)
       >>= (λ (p : WordAt). found (slice_get g.owned b.number) >>= (λ (o : Owned).
       found (slice_get p.word.clauses n) >>= (λ (c : ClauseTree). found (slice_get o.tokens n) >>= (λ (token : Option Token).
-        only_if (is_some c.guard && not (list_any (nat_eq (suc n)) b.decided))
-          (found (guard_truth (word_sight (fields_of x) g.kept p b.around.old o.values) c.guard) >>= (λ (holds : Bool). case_taken t b.number o n holds form.taken token g))))))
+      only_if (is_some c.guard && not (list_any (nat_eq (suc n)) b.decided))
+      (found (guard_truth (word_sight (fields_of x) g.kept p b.around.old o.values) c.guard) >>= (λ (holds : Bool). case_taken t b.number o n holds form.taken token g))))))
 
 -- Tokens go back, a clause at a time: a token exactly where the guard is true, with the clause's key and value. What
 -- is left of the hand comes with what the word then owns.
@@ -104,11 +104,11 @@ put_back ds v [] [] hand = Ok (record { tokens = []; left = hand })
 put_back ds v [] (e ∷ es) hand = Err Broken
 put_back ds v (c ∷ cs) [] hand = Err Broken
 put_back ds v (c ∷ cs) (None ∷ es) hand = found (guard_truth v c.guard) >>= (λ (holds : Bool). only_if (not holds)
-      (put_back ds v cs es hand >>= (λ (k : Put). Ok (record { tokens = None ∷ k.tokens; left = k.left }))))
+    (put_back ds v cs es hand >>= (λ (k : Put). Ok (record { tokens = None ∷ k.tokens; left = k.left }))))
 put_back ds v (c ∷ cs) (Some e ∷ es) hand =
     found (held_as (token_number ds e) hand) >>= (λ (t : Token). found (guard_truth v c.guard) >>= (λ (holds : Bool).
     only_if (holds && is_of_form v c.shape t)
-      (put_back ds v cs es (dropped (token_number ds e) hand) >>= (λ (k : Put). Ok (record { tokens = Some t ∷ k.tokens; left = k.left })))))
+    (put_back ds v cs es (dropped (token_number ds e) hand) >>= (λ (k : Put). Ok (record { tokens = Some t ∷ k.tokens; left = k.left })))))
 
 -- a word at a value gets its tokens and the values of its names
 abbrev pub word_closed : (ℤ → Bool) → MachineWithProgram → ℕ → Sight → ℕ → ℤ → ClosingTree → Shares
@@ -116,8 +116,8 @@ abbrev pub word_closed : (ℤ → Bool) → MachineWithProgram → ℕ → Sight
 word_closed fits x t v i value form g =
     found (slice_get (array_words x.program.decls) i) >>= (λ (p : WordAt). term_values fits v form.args >>= (λ ns.
     put_back (decls_of x) (word_sight (fields_of x) g.kept p value ns) p.word.clauses form.tokens (hand_of g t) >>= (λ (k : Put).
-      only_if (fact_is_true (word_sight (fields_of x) g.kept p value ns) p.word.fact)
-        (Ok (with_owned i (record { tokens = k.tokens; values = ns }) (with_hand t k.left g))))))
+    only_if (fact_is_true (word_sight (fields_of x) g.kept p value ns) p.word.fact)
+    (Ok (with_owned i (record { tokens = k.tokens; values = ns }) (with_hand t k.left g))))))
 
 abbrev pub clauses_at : MachineWithProgram → ℕ → List ClauseTree
 clauses_at x i = of (slice_get (array_words x.program.decls) i) where
