@@ -9,7 +9,8 @@ pub fn verdict_is_first_fault()
     ensures { (bytes : List ℕ) → VerdictIsFirstFault bytes }
 {}
 
-/// The listing of what has to be proved asks for L, G, N and S alone: a text that keeps these is listed, whatever its proofs are.
+/// The listing of what has to be proved asks for L, G, N and S alone: a text that keeps these is listed, whatever its
+/// proofs are.
 pub fn listing_is_first_fault()
     ensures { (bytes : List ℕ) → ListingIsFirstFault bytes }
 {}

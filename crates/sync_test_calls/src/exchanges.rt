@@ -198,12 +198,15 @@ fn print_call(rt: &HostRuntime, m: &Machine, whole: &State, call: Call) -> io::R
 {
     let alloc = rt.alloc();
     print!(rt; "{}: ", call.title)?;
-    let (Ok(names), Ok(mut shards)) = (names_of(alloc, call), Shards::new(alloc, call.held)) else {
-        return println!(rt; "no memory");
-    };
     if call.op as usize >= m.ops.len() {
         return println!(rt; "no operation");
     }
+    let Ok(names) = names_of(alloc, call) else {
+        return println!(rt; "no memory");
+    };
+    let Ok(mut shards) = Shards::new(alloc, call.held) else {
+        return println!(rt; "no memory");
+    };
     let Shards { hand, rest } = &mut shards;
     let answer = exchange(
         alloc,

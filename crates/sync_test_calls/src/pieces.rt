@@ -25,20 +25,21 @@ fn token_of(held: &[Held], name: u32) -> Option<Token>
 
 /// Splits the token 10, if it has this amount, into tokens 11 and 12.
 fn split(alloc: Global, m: &Machine, hand: &mut Hand, amount: i128) -> bool {
-    match token_of(hand.held.as_slice(), 10) {
-        Some(token) if 0 <= amount && amount <= token.value => {
-            split_token(alloc, m, hand, 10, amount, 11, 12).is_ok()
-        }
-        _ => false,
+    let Some(token) = token_of(hand.held.as_slice(), 10) else {
+        return false;
+    };
+    if amount < 0 || amount > token.value {
+        return false;
     }
+    split_token(alloc, m, hand, 10, amount, 11, 12).is_ok()
 }
 
 /// Merges the tokens 11 and 12 into token 13.
 fn merge(m: &Machine, hand: &mut Hand) -> bool {
-    let (Some(first), Some(second)) = (
-        token_of(hand.held.as_slice(), 11),
-        token_of(hand.held.as_slice(), 12),
-    ) else {
+    let Some(first) = token_of(hand.held.as_slice(), 11) else {
+        return false;
+    };
+    let Some(second) = token_of(hand.held.as_slice(), 12) else {
         return false;
     };
     if first.value.checked_add(second.value).is_none() {
@@ -50,7 +51,10 @@ fn merge(m: &Machine, hand: &mut Hand) -> bool {
 
 /// Copies the token 10 as token 11.
 fn copy(alloc: Global, m: &Machine, hand: &mut Hand) -> bool {
-    token_of(hand.held.as_slice(), 10).is_some() && copy_token(alloc, m, hand, 10, 11).is_ok()
+    let Some(_token) = token_of(hand.held.as_slice(), 10) else {
+        return false;
+    };
+    copy_token(alloc, m, hand, 10, 11).is_ok()
 }
 
 /// Prints a token of 5 that is split and merged.
