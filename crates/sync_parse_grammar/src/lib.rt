@@ -13,8 +13,8 @@ use sync_parse::{RawText, parse};
 
 /// The raw tree that a text spells by the productions of the grammar, of which it spells no other.
 ///
-/// Refuses as `parse` does. A text that is spelled by some tree is refused only for its depth or its version, and one of version 1
-/// only for its depth.
+/// Refuses as `parse` does. A text that is spelled by some tree is refused with no rule but G3 and G4, and one of version 1 with
+/// none but G3.
 #[tactic(auto, using(crate::proofs::Laws::answer_spells, crate::proofs::Laws::answer_only, crate::proofs::Laws::answer_scripts, crate::proofs::MachinesComplete::answer_refuses, crate::proofs::MachinesComplete::answer_deep))]
 pub fn read_tree(alloc: Global, text: &[u8]) -> Result<RawText, Stop>
     ensures exact { Gives (λ t. t) result (parsed text.now) }

@@ -456,7 +456,7 @@ fn write(
 }
 
 /// The canonical bytes of a text: its lexemes in order, each with a line feed behind it if it is `;`, `{` or `}`, else with
-/// a space. Brackets stand only where the tree would be another one without them.
+/// a space. Brackets stand only where their place would not spell its tree without them.
 ///
 /// The names are those of the text. Fails only for want of memory.
 pub fn print(alloc: Global, text: &RawText) -> Result<Items<u8>, AllocError>

@@ -11,7 +11,7 @@ use std::alloc::{AllocError, Global};
 use sync_parse::RawText;
 
 /// The canonical bytes of a text: its lexemes in order, each with a line feed behind it if it is `;`, `{` or `}`, else with
-/// a space. Brackets stand only where the tree would be another one without them.
+/// a space. Brackets stand only where their place would not spell its tree without them.
 ///
 /// The names are those of the text. Of a text that some bytes spell, the canonical bytes are read again as a text that says
 /// the same, unless they are too long or too deep. Fails only for want of memory.
