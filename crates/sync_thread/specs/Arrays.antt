@@ -61,12 +61,12 @@ name_limit = 1048576
 abbrev pub cell_token : ℕ → ℕ
 cell_token k = name_limit + k
 
--- the number of an cell_element of a cell; after all cells where there is no such cell_element
+-- the number of an element of a cell; after all cells where there is no such element
 abbrev pub cell_element : List CodeDecl → Option Span → ℕ → ℕ
 cell_element ds (Some s) i = if nat_lt i s.len then s.base + i else length (first_cells ds)
 cell_element ds None i = length (first_cells ds)
 
--- A permission of an cell_element that is not there has a number under which no token is held.
+-- A permission of an element that is not there has a number under which no token is held.
 abbrev pub token_number : List CodeDecl → Tok → ℕ
 token_number ds t = at t.at where
   at : Option ℕ → ℕ

@@ -28,7 +28,7 @@ pub record Language : Type 1 where
   pub Saved : Type 0
   pub State : Type 0
 
--- What remains of a list of statements. A line is that of the statement, and at the end that of the closing brace.
+-- What remains of a list of statements. A line is that of the statement, and at the end that of the closing brace; in code it is 0.
 pub data Stms (f : Forms) : Type 0 where
   Brace : (line : ℕ) → Stms f
   Do : (local : f.Local) (line : ℕ) (rest : Stms f) → Stms f

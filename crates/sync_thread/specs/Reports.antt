@@ -31,7 +31,7 @@ report_of x sigma = erased_after x sigma >>= (λ (c : ErasedConfig). Ok (report_
 pub record IsWhole (x : CodeTree) (sigma : List ℕ) (budget : ℕ) : Type 0 where
   pub start : ErasedConfig
   pub starts : erased_start x ≡ Ok start
-  pub moves_of : AllMove (code_meaning x) sigma start
+  pub moves : AllMove (code_meaning x) sigma start
   pub end : ErasedConfig
   pub leaves : erased_after x sigma ≡ Ok end
   pub within : (t : ℕ) → steps_in sigma t ≤ budget

@@ -12,7 +12,7 @@ use Rattle.sync_base.specs.declared.strategies.Strategy.TheVariants.{Count}
 use Rattle.sync_join.specs.declared.tokens.Token.{Token}
 use Rattle.sync_exchange.specs.declared.hands.Held.{Held}
 use Rattle.sync_exchange.specs.declared.hands.XStop.{XStop}
-use Rattle.sync_exchange.specs.declared.hands.XStop.TheVariants as brace
+use Rattle.sync_exchange.specs.declared.hands.XStop.TheVariants as stop
 use Rattle.sync_thread.specs.declared.operands.Calc.{Calc}
 use Rattle.sync_thread.specs.declared.operands.Calc.TheVariants as calc
 use Rattle.sync_thread.specs.declared.operands.CodeDecl.{CodeDecl}
@@ -106,12 +106,12 @@ state_fits fits s = list_all (number_or_map_fits fits) s
 
 abbrev pub exchange_left : Bool → ℕ → Shares → Result Exchanged XStop → Result Shares Halt
 exchange_left safe t g (Ok x) = only_if safe (Ok (with_hand t x.hand (record g { kept = x.kept })))
-exchange_left safe t g (Err brace.Width) = Err Wide
-exchange_left safe t g (Err (brace.Missing n)) = Err Broken
-exchange_left safe t g (Err (brace.Differs n)) = Err Broken
-exchange_left safe t g (Err (brace.RequireFalse n)) = Err Broken
-exchange_left safe t g (Err (brace.StoreEmpty n)) = Err Broken
-exchange_left safe t g (Err brace.Memory) = Err Broken
+exchange_left safe t g (Err stop.Width) = Err Wide
+exchange_left safe t g (Err (stop.Missing n)) = Err Broken
+exchange_left safe t g (Err (stop.Differs n)) = Err Broken
+exchange_left safe t g (Err (stop.RequireFalse n)) = Err Broken
+exchange_left safe t g (Err (stop.StoreEmpty n)) = Err Broken
+exchange_left safe t g (Err stop.Memory) = Err Broken
 
 -- an exchange with the tokens of one hand, where the whole state is s
 abbrev pub exchanged : (ℤ → Bool) → MachineWithProgram → ℕ → Sight → DoTree → State → Shares → Result Shares Halt

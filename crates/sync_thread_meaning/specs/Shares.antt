@@ -103,7 +103,7 @@ pub record Around : Type 0 where
 abbrev pub nowhere_near : Around
 nowhere_near = record { old = pos 0; new = pos 0 }
 
--- a name as a local or a proof name; it is never both
+-- a name as a proof name, or else as a local; the rules on names see to it that none is both
 abbrev pub named_value : (ℕ → Option ℤ) → (ℕ → ℕ) → ℕ → ℤ
 named_value proofs locals n = unwrap_or (proofs n) (pos (locals n))
 

@@ -83,7 +83,7 @@ case_taken t i o n holds (Some p) None g = Err Broken
 case_taken t i o n holds None token g = only_if (not holds && is_none token) (Ok g)
 
 abbrev pub decided_case : MachineWithProgram → ℕ → OpenBlock → CaseTree → Shares → Result Shares Halt
-decided_case x t b (form) g = clause form.clause where
+decided_case x t b form g = clause form.clause where
   clause : ℕ → Result Shares Halt
   clause zero = Err Broken
   clause (suc n) =

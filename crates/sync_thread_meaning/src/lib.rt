@@ -8,7 +8,7 @@ pub fn erased_goes_along()
     ensures { ErasedGoesAlong }
 {}
 
-/// The final block takes what all threads left, and no token comes or goes by that.
+/// No token comes or goes where the final block takes over from the threads.
 pub fn final_takes_all()
     ensures { FinalTakesAll }
 {}
