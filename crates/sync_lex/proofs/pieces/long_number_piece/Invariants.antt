@@ -3,7 +3,7 @@ use Rattle.std.specs.Char.{is_ascii_digit}
 use Rattle.std.specs.List.{prefix_len}
 use Rattle.sync_base.specs.Limits.{largest}
 use Rattle.sync_lex.specs.Bytes.{number_value}
-use Rattle.sync_lex.proofs.pieces.number_piece.Given as goal
+use Rattle.sync_lex.proofs.pieces.long_number_piece.Given as goal
 
 abbrev pub invariant-loop-byte : goal.invariant-loop-byte
 invariant-loop-byte l = record {
