@@ -128,7 +128,7 @@ fn terminals_of(
 {
     let mut met: HashMap<&[u8], TerminalKind> = HashMap::new(alloc);
     let mut names = Items::new(alloc);
-    let mut list = Items::new(alloc);
+    let mut list = Vec::with_capacity(alloc, lexemes.len())?;
     for lexeme in lexemes {
         let bytes = bytes_at(text, *lexeme);
         let what = said(alloc, &mut met, &mut names, lexeme.kind, bytes)?;
@@ -137,7 +137,7 @@ fn terminals_of(
             line: lexeme.line,
         })?;
     }
-    Ok((list, names))
+    Ok((Items::from_vec(list), names))
 }
 
 /// The terminals of a text, or the first rule L that it breaks.
