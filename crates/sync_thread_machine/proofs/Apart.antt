@@ -1,9 +1,6 @@
 -- The symbols of names and of their tokens differ.
-use Rattle.std.specs.Prelude.{◌≡◌, ℕ, ◌<◌, ◌*◌, ◌+◌}
 use Rattle.std.proofs.Common.{arith}
-use Rattle.sync_terms.specs.Symbols.{name_symbol, held_symbol}
-use Rattle.sync_thread.specs.Arrays.{name_limit}
-use Rattle.sync_thread_machine.specs.ProgramSymbols.{held_of, wrap_symbol, first_fresh, SymbolsDiffer}
+use Rattle.sync_thread_machine.specs.ProgramSymbols.{SymbolsDiffer}
 
 pub symbols_differ : SymbolsDiffer
 symbols_differ = record {

@@ -57,16 +57,16 @@ abbrev pub split_row : ℕ → List Field → ℕ → ℕ → ℕ → Tree → L
 split_row line fs n a b t ss e =
     row e line
     (at_hand_due e (t ∷ []) [] ss ∷ asked_dues e [] (has_kind fs can_split) n ++ new_names_due e (a ∷ b ∷ [])
-        ∷ Makes (read e t) ∷ Owes T4 (Le (Lit (pos 0)) (read e t)) ∷ Owes T4 (Le (read e t) (token e n).value) ∷ []) ss
+    ∷ Makes (read e t) ∷ Owes T4 (Le (Lit (pos 0)) (read e t)) ∷ Owes T4 (Le (read e t) (token e n).value) ∷ []) ss
     (take_in line (n ∷ []) ((a, with_amount (token e n) (read e t)) ∷ (b, with_amount (token e n) rest) ∷ []) e) where
-  rest : Tree
-  rest = Sub (token e n).value (read e t)
+      rest : Tree
+      rest = Sub (token e n).value (read e t)
 
 abbrev pub merge_row : ℕ → List Field → ℕ → ℕ → ℕ → Env → Outcome Env
 merge_row line fs a b into e =
     row e line
     (asked_dues e [] (has_kind fs can_split) a ++ asked_dues e (a ∷ []) (nat_eq (token e a).field) b
-        ++ new_names_due e (into ∷ []) ∷ []) []
+    ++ new_names_due e (into ∷ []) ∷ []) []
     (take_in line (a ∷ b ∷ []) ((into, with_amount (token e a) (Add (token e a).value (token e b).value)) ∷ []) e)
 
 abbrev pub copy_row : ℕ → List Field → ℕ → ℕ → Env → Outcome Env
@@ -147,14 +147,16 @@ abbrev pub closing_row : ℕ → List CodeDecl → List Due → WordTree → Tre
 closing_row line ds dues w index value c e =
     row e line
     (at_hand_due e c.args [] c.scripts
-        ∷ dues ++ map Makes withs ++ clauses_dues e s [] w.clauses tokens ++ fact_dues s w.fact) c.scripts
+    ∷ dues ++ map Makes withs ++ clauses_dues e s [] w.clauses tokens ++ fact_dues s w.fact) c.scripts
     (take_in line (filter_map (λ n. n) tokens) [] e) where
-  tokens : List (Option ℕ)
-  tokens = map (λ (t : Option Tok). option_map (token_number ds) t) c.tokens
-  withs : List Tree
-  withs = map (read e) c.args
-  s : ℕ → Tree
-  s = in_word e w index value withs
+      tokens : List (Option ℕ)
+      tokens = map (λ (t : Option Tok). option_map (token_number ds) t) c.tokens
+
+      withs : List Tree
+      withs = map (read e) c.args
+
+      s : ℕ → Tree
+      s = in_word e w index value withs
 
 -- ---- proof blocks
 
@@ -199,14 +201,16 @@ abbrev pub open_row : ℕ → AroundTree → List ℕ → List ℕ → Option �
 open_row line a names tokens label e =
     row e line (new_names_due e tokens ∷ []) [] (fact_made line s a.word.fact
     (tell line (label_of a.word.fact label) (told_fact s a.word.fact) (name_all names withs (use_up (length names) e))
-        >>= take_in line [] (zipped tokens unguarded)))
+    >>= take_in line [] (zipped tokens unguarded)))
     >>= (λ new. Ok (record { env = new; withs = withs; decided = [] })) where
-  withs : List Tree
-  withs = new_symbols e.fresh names
-  s : ℕ → Tree
-  s = in_word e a.word a.index a.old withs
-  unguarded : List TokenTree
-  unguarded = map (λ (c : ClauseTree). shape_token s c.shape) (filter is_unguarded a.word.clauses)
+      withs : List Tree
+      withs = new_symbols e.fresh names
+
+      s : ℕ → Tree
+      s = in_word e a.word a.index a.old withs
+
+      unguarded : List TokenTree
+      unguarded = map (λ (c : ClauseTree). shape_token s c.shape) (filter is_unguarded a.word.clauses)
 
 -- the clause with a number, from 1
 abbrev pub clause_at : WordTree → ℕ → Option ClauseTree
@@ -217,8 +221,8 @@ case_of line a x c given ss =
     row x.env line
     (at_hand_due x.env [] [] ss ∷ new_names_due x.env (added_name given []) ∷ guard_dues s c.guard (is_some given)) ss
     (take_in line [] (zipped (added_name given []) (shape_token s c.shape ∷ [])) x.env) where
-  s : ℕ → Tree
-  s = in_word x.env a.word a.index a.old x.withs
+      s : ℕ → Tree
+      s = in_word x.env a.word a.index a.old x.withs
 
 -- the shape of the block says that it is the number of a guarded clause
 abbrev pub case_row : ℕ → AroundTree → CaseTree → Inside → Outcome Inside

@@ -88,7 +88,7 @@ row e line dues ss next = pay e line dues ss >>= (λ left. spare left next)
 abbrev pub at_hand_due : Env → List Tree → List Formula → List ScriptTree → Due
 at_hand_due e ts fs ss =
     Wants T1 (list_all (names_only (is_at_hand e)) ts
-        && (list_all (form_names_only (is_at_hand e)) fs && scripts_name_only (is_at_hand e) ss))
+    && (list_all (form_names_only (is_at_hand e)) fs && scripts_name_only (is_at_hand e) ss))
 
 -- a token is asked for: held, not asked for before by this statement, and of such a field
 abbrev pub asked_dues : Env → List ℕ → (ℕ → Bool) → ℕ → List Due

@@ -158,6 +158,7 @@ shows x d = made (new_name x.value) where
   new_name (Some (Bind v)) = record (calls v (Name d.fresh) d) { fresh = suc d.fresh }
   new_name (Some (Term u)) = d
   new_name None = d
+
   made : Deal → Deal
   made n = record n { dues = n.dues ++ Makes (dealt n (or_zero x.key)) ∷ Makes (dealt n (or_one x.value)) ∷ [] }
 
@@ -165,6 +166,7 @@ abbrev pub deal_slot : Env → List Field → SlotTree → Deal → Deal
 deal_slot e fs x d = of x.role where
   t : Tree
   t = (token e (head_of d.tokens)).value
+
   of : Role → Deal
   of Change = next_token (gains (head_of d.tokens) (written x) (with_variable fs x.field t d))
   of Read = next_token (with_variable fs x.field t (compare e x d))

@@ -26,7 +26,7 @@ option_all p (Some a) = p a
 abbrev pub keep_names_only : (ℕ → Bool) → KeepTree → Bool
 keep_names_only p k =
     list_all (λ (l : KeepLineTree). option_all (names_only p) l.shape.key && option_all (names_only p) l.shape.value)
-        k.lines
+    k.lines
     && list_all (λ (f : KeepFactTree). form_names_only p f.form) k.facts
 
 abbrev pub own_tokens : KeepTree → List ℕ
@@ -67,7 +67,7 @@ facts_dues s fs = map (λ (f : KeepFactTree). Owes T6 (replaced_in s f.form)) fs
 abbrev pub arrive_dues : Env → KeepTree → List Tree → Tree → List Due
 arrive_dues e k args wrap =
     lines_asks e k.lines ++ map Makes (map (read e) args) ++ lines_dues e (arriving e k args wrap) k.lines
-        ++ facts_dues (arriving e k args wrap) k.facts
+    ++ facts_dues (arriving e k args wrap) k.facts
 
 abbrev pub arrive_row : {X : Type 0} → ℕ → List Due → KeepTree → List Tree → List ScriptTree → Tree → Env → Outcome X
     → Outcome X
@@ -121,6 +121,7 @@ abbrev pub kept_tokens : (ℕ → Tree) → List KeepLineTree → Tokens
 kept_tokens s ls = map (λ (l : KeepLineTree). (l.name, token_at l)) ls where
   inside : Tree → Tree
   inside t = replaced s (replaced (line_values (length ls) ls) t)
+
   token_at : KeepLineTree → TokenTree
   token_at l =
       record { field = shape_field l.shape; key = inside (or_zero l.shape.key); value = inside (Name (held_of l.name)) }

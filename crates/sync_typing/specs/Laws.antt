@@ -1,5 +1,5 @@
 -- The laws of the rules on programs.
-use Rattle.std.specs.Prelude.{◌≡◌, ℕ, List, [], ◌∷◌, ◌++◌, Option, Some, None, ◌↔◌, Result, Ok}
+use Rattle.std.specs.Prelude.{◌≡◌, ℕ, List, [], ◌∷◌, ◌++◌, Some, None, ◌↔◌, Ok}
 use Rattle.std.specs.List.{AllByRecursion}
 use Rattle.sync_base.specs.Outcome.{◌>>=◌}
 use Rattle.sync_base.specs.declared.stops.Rule.{Rule}

@@ -172,10 +172,10 @@ cas_fact old new a b = Or (And (Eq old a) (Eq new b)) (And (Not (Eq old a)) (Eq 
 abbrev pub step_fact : ℕ → Env → WordOp → Option ℕ → Env → Outcome Env
 step_fact line e (op.Add a) label now =
     bind line wrap_symbol (Name (suc (suc e.fresh))) (pos 1) now
-        >>= tell line label (added (Name (suc e.fresh)) (Name e.fresh) (operand e a) (Name (suc (suc e.fresh))))
+    >>= tell line label (added (Name (suc e.fresh)) (Name e.fresh) (operand e a) (Name (suc (suc e.fresh))))
 step_fact line e (op.Sub a) label now =
     bind line wrap_symbol (Name (suc (suc e.fresh))) (pos 1) now
-        >>= tell line label (taken_off (Name (suc e.fresh)) (Name e.fresh) (operand e a) (Name (suc (suc e.fresh))))
+    >>= tell line label (taken_off (Name (suc e.fresh)) (Name e.fresh) (operand e a) (Name (suc (suc e.fresh))))
 step_fact line e (op.Cas a b) label now =
     tell line label (cas_fact (Name e.fresh) (Name (suc e.fresh)) (operand e a) (operand e b)) now
 step_fact line e op.Load label now = Ok now
@@ -201,7 +201,7 @@ around_tree w e a = record { word = w; index = operand e a.index.operand; old = 
 abbrev pub atomic_row : {X : Type 0} → ℕ → WordTree → AtomicTree → List Due → List Due → Env → Outcome X → Outcome X
 atomic_row line w a before keeps e next =
     row e line (before ++ at_hand_due e [] [] a.index.scripts ∷ keeps ++ index_dues e a.index w.len
-        ++ index_spare a.index w.len ∷ []) [] next
+    ++ index_spare a.index w.len ∷ []) [] next
 
 abbrev pub operate_row : MachineWithProgram → ℕ → WordTree → AtomicTree → List ProofStepTree → Env → Outcome Env
 operate_row x line w a block e =
@@ -301,7 +301,7 @@ list_fault s (Do l line rest) p e = on (local_row s line l e) (list_fault s rest
 list_fault s (On a line rest) p e = on (shared_row s line a e) (list_fault s rest p)
 list_fault s (OnWhen a line one two joined rest) p e = on_some (word_of s a.atomic.word) None (λ (w : WordTree).
     on (choice_row line w a (has_its_keep (has_meet one || has_meet two) joined
-        ∷ Wants A6 (is_block_shaped w a.first && is_block_shaped w a.second) ∷ []) joined e)
+    ∷ Wants A6 (is_block_shaped w a.first && is_block_shaped w a.second) ∷ []) joined e)
     (λ now. fork s line joined p now
     (branch_row s line (around_tree w e a.atomic) a.test.label (condition now a.test.cond) a.first now)
     (list_fault s one)

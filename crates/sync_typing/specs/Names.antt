@@ -177,7 +177,7 @@ call_is_named x kind starts k d = on_some (slice_get x.machine.ops d.op) false (
 abbrev pub keep_is_named : MachineWithProgram → Known → KeepTree → Bool
 keep_is_named x k keep = are_apart_names keep.names && (are_apart_names (own_tokens keep)
     && (list_all (λ (l : KeepLineTree). shape_is_named x k l.shape) keep.lines
-        && list_all (λ (f : KeepFactTree). is_formula k f.form) keep.facts))
+    && list_all (λ (f : KeepFactTree). is_formula k f.form) keep.facts))
 
 -- as many arguments as the keep has names, where there is a keep
 abbrev pub jump_is_named : Known → JumpTree → Option KeepTree → Bool
@@ -210,7 +210,7 @@ words_at (AtWord w) = old_symbol ∷ new_symbol ∷ wrap_symbol ∷ []
 abbrev pub closing_is_named : MachineWithProgram → SiteTree → WordTree → ClosingTree → Bool
 closing_is_named x site w c = as_many c.args w.names && (as_many c.tokens w.clauses
     && (list_all (is_number (known_with x (words_at site))) c.args
-        && list_all (if_there (token_is_named x (at_start site))) c.tokens))
+    && list_all (if_there (token_is_named x (at_start site))) c.tokens))
 
 abbrev pub proof_is_named : MachineWithProgram → SiteTree → ProofTree → Bool
 proof_is_named x site p = of p where
@@ -319,18 +319,18 @@ list_is_named x ls t (Do l n rest) = local_is_named x ls l && list_is_named x ls
 list_is_named x ls t (On a n rest) = shared_is_named x ls a && list_is_named x ls t rest
 list_is_named x ls t (OnWhen a n one two joined rest) =
     choice_is_named x ls a
-        && (keep_here x joined
-        && (list_is_named x ls (record t { meet = joined }) one
-        && (list_is_named x ls (record t { meet = joined }) two && list_is_named x ls t rest)))
+    && (keep_here x joined
+    && (list_is_named x ls (record t { meet = joined }) one
+    && (list_is_named x ls (record t { meet = joined }) two && list_is_named x ls t rest)))
 list_is_named x ls t (If c n one two joined rest) =
     cond_is_named ls c.cond
-        && (keep_here x joined
-        && (list_is_named x ls (record t { meet = joined }) one
-        && (list_is_named x ls (record t { meet = joined }) two && list_is_named x ls t rest)))
+    && (keep_here x joined
+    && (list_is_named x ls (record t { meet = joined }) one
+    && (list_is_named x ls (record t { meet = joined }) two && list_is_named x ls t rest)))
 list_is_named x ls t (Loop k j n body left rest) =
     keep_is_named x (known_here x) k && (jump_is_named (known_here x) j (Some k) && (keep_here x left
-      && (list_is_named x ls (record t { next = Some k; break = left; meet = None }) body
-          && list_is_named x ls t rest)))
+    && (list_is_named x ls (record t { next = Some k; break = left; meet = None }) body
+    && list_is_named x ls t rest)))
 list_is_named x ls t (Next j n rest) = jump_is_named (known_here x) j t.next && list_is_named x ls t rest
 list_is_named x ls t (Break j n rest) = jump_is_named (known_here x) j t.break && list_is_named x ls t rest
 list_is_named x ls t (Meet j n rest) = jump_is_named (known_here x) j t.meet && list_is_named x ls t rest

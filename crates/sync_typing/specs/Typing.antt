@@ -1,10 +1,10 @@
 -- The first rule that a program breaks: its start, its threads, its final block.
-use Rattle.std.specs.Prelude.{ℕ, suc, ◌+◌, ◌-◌, pos, Bool, true, false, ◌&&◌, ◌||◌, nat_eq, nat_lt, List, [], ◌∷◌, ◌++◌, map, slice_get, Option, Some, None, option_map, Ok, if◌then◌else◌}
+use Rattle.std.specs.Prelude.{ℕ, suc, ◌-◌, pos, Bool, true, false, ◌&&◌, ◌||◌, nat_eq, nat_lt, List, [], ◌∷◌, ◌++◌, map, slice_get, Option, Some, None, option_map, Ok, if◌then◌else◌}
 use Rattle.std.specs.List.{list_all, range_with_len}
 use Rattle.sync_base.specs.Outcome.{first, ◌>>=◌}
 use Rattle.sync_base.specs.declared.stops.Refusal.{Refusal}
 use Rattle.sync_base.specs.declared.stops.Rule.TheVariants.{A5, T10}
-use Rattle.sync_terms.specs.Trees.{Tree, Lit, Name}
+use Rattle.sync_terms.specs.Trees.{Tree, Lit}
 use Rattle.sync_base.specs.declared.strategies.Strategy.{Strategy}
 use Rattle.sync_base.specs.declared.strategies.Strategy.TheVariants as strategies
 use Rattle.sync_thread.specs.declared.operands.CodeDecl.{CodeDecl}
@@ -15,7 +15,7 @@ use Rattle.sync_join.specs.Shards.{perm}
 use Rattle.sync_thread.specs.Programs.{WordTree, KeepTree, ThreadTree, StartTree, ProgramTree, DoTree, ProofTree, ProofStepTree, Seal, Give, ListTree, ScriptTree, ClosingTree, is_unclaimed}
 use Rattle.sync_thread.specs.Arrays.{words_in, first_cells, name_limit}
 use Rattle.sync_thread_machine.specs.MachineWithProgram.{MachineWithProgram, fields_of, decls_of}
-use Rattle.sync_thread_machine.specs.ProgramSymbols.{wrap_symbol, first_fresh}
+use Rattle.sync_thread_machine.specs.ProgramSymbols.{first_fresh}
 use Rattle.sync_typing.specs.Symbols.{Names}
 use Rattle.sync_typing.specs.Environments.{Env, TokenTree, Outcome, on_some, refused, name_as, take_in}
 use Rattle.sync_typing.specs.Dues.{Wants, Makes, row}
@@ -93,7 +93,7 @@ first_row line x o d e = with_constants (first_constants x (deal_of x o d e) o.s
   with_constants cs =
       row (name_each cs e) line
       (opening_dues x o d e ++ map (λ (c : ℕ × Tree). Makes c.1) cs ++ (deal_of x o d e).dues) d.scripts
-    (deal_effect line o d (deal_of x o d e) (name_each cs e))
+      (deal_effect line o d (deal_of x o d e) (name_each cs e))
 
 abbrev pub named_thread : ℕ → List ThreadTree → Option ThreadTree
 named_thread n [] = None
@@ -133,7 +133,7 @@ start_steps x (s ∷ ss) e = start_step x s e >>= start_steps x ss
 abbrev pub start_row : MachineWithProgram → StartTree → Outcome Env
 start_row x s =
     if is_complete x.program s.steps then with_op x s.form.op (refused s.line T10)
-        (λ o. first_row s.line x o s.form (first_env (decls_of x)) >>= start_steps x s.steps)
+    (λ o. first_row s.line x o s.form (first_env (decls_of x)) >>= start_steps x s.steps)
     else refused s.line T10
 
 -- ---- the threads and the final block
