@@ -3,4 +3,5 @@ pub mod Rests
 pub mod Ruling
 pub mod Soundness
 pub mod Standing
+pub mod RowLaws
 pub mod Laws

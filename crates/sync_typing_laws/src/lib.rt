@@ -2,6 +2,7 @@
 #![tactic(auto)]
 
 ghost use Rattle.sync_typing_laws.specs.Laws.{NamesPassToParts, TypedListsGoOn, TypedProgramsRest};
+ghost use Rattle.sync_typing_laws.specs.RowLaws.{SingleRowsGoOn};
 ghost use Rattle.sync_typing_laws.specs.Ruling.{Meanings};
 ghost use Rattle.sync_typing_laws.specs.Soundness.{CaseStands, CloseStands, OpenStands};
 
@@ -38,4 +39,9 @@ pub fn names_pass_to_parts<T: Meant>()
 /// A program whose threads may begin rests at each moment of each schedule.
 pub fn typed_programs_rest<T: Meant>()
     ensures { TypedProgramsRest T.meanings }
+{}
+
+/// Rows of local statements without exchanges, and of cells that are read and written, are sound.
+pub fn single_rows_go_on<T: Meant>()
+    ensures { SingleRowsGoOn T.meanings }
 {}
