@@ -1,22 +1,11 @@
 -- What Rests says of an environment and of the forms round a list, as the `Stands` of Meanings.
-use Rattle.std.specs.Prelude.{◌≡◌, ℕ, ℤ, Bool, true, ◌<◌, ◌≤◌, List, [], ◌∷◌, None}
+use Rattle.std.specs.Prelude.{ℕ, ◌≤◌, List, [], ◌∷◌}
 use Rattle.std.proofs.Common.{arith}
-use Rattle.sync_terms.specs.Symbols.{name_symbol}
-use Rattle.sync_terms.specs.Trees.{Name}
-use Rattle.sync_terms.specs.Values.{Valuation, num}
-use Rattle.sync_machine.specs.Naming.{is_in}
-use Rattle.sync_rules.specs.Locality.{names_only}
-use Rattle.sync_thread.specs.Arrays.{name_limit}
-use Rattle.sync_thread.specs.Code.{locals_of}
+use Rattle.sync_terms.specs.Values.{Valuation}
 use Rattle.sync_thread.specs.Resting.{Round}
 use Rattle.sync_thread_machine.specs.MachineWithProgram.{MachineWithProgram}
-use Rattle.sync_thread_machine.specs.ProgramSymbols.{wrap_symbol}
 use Rattle.sync_thread_meaning.specs.Meaning.{World, annotated_language}
-use Rattle.sync_thread_meaning.specs.Shares.{proofs_of, named_value}
-use Rattle.sync_typing.specs.Environments.{Env, stands as term_of}
-use Rattle.sync_typing.specs.Lists.{assigned_locals}
-use Rattle.sync_typing_laws.specs.Rests.{StandsAt, Lasts, HasConstantsOf, is_lasting}
-use Rattle.sync_typing_laws.specs.Ruling.{body_at}
+use Rattle.sync_typing.specs.Environments.{Env}
 use Rattle.sync_typing_laws.specs.Standing.{Chain, Standing}
 
 more : (x : MachineWithProgram) (known : Env) (v : Valuation) (a b : ℕ) (s : World) (round : List (Round annotated_language Env)) → a ≤ b → Chain x known v a s round → Chain x known v b s round

@@ -1,11 +1,11 @@
 -- The row of `read`: an element that is in range is a cell, and a permission at hand says what it contains.
 use Rattle.std.proofs.Common.{arith, inl, inr}
-use Rattle.std.specs.Prelude.{◌≡◌, ℕ, zero, suc, ℤ, pos, ◌<◌, ◌≤◌, ◌+◌, ◌+ℤ◌, ◌^◌, Bool, true, false, ◌&&◌, if◌then◌else◌, nat_eq, nat_lt, int_lt, List, [], ◌∷◌, ◌++◌, length, map, filter, replicate, slice_index_or, Option, Some, None, is_some, option_map, Result, Ok, Err, ◌⊎◌}
+use Rattle.std.specs.Prelude.{◌≡◌, ℕ, zero, suc, ℤ, pos, ◌<◌, ◌≤◌, ◌+◌, ◌+ℤ◌, ◌^◌, Bool, true, false, ◌&&◌, if◌then◌else◌, nat_eq, int_lt, List, [], ◌∷◌, ◌++◌, length, map, filter, replicate, slice_index_or, Option, Some, None, is_some, option_map, Ok, ◌⊎◌}
 use Rattle.std.specs.List.{AllByRecursion, flat_map, list_all}
 use Rattle.std.specs.Ordering.{int_eq}
 use Rattle.std.proofs.lemmas.Int.{ints}
 use Rattle.std.proofs.lemmas.Bool.{and_parts, and_from, ltb-true, lt-ltb}
-use Rattle.std.proofs.lemmas.Bool.Decides.{eqb_tells, Decides-int_eq}
+use Rattle.std.proofs.lemmas.Bool.Decides.{Decides-int_eq}
 use Rattle.sync_base.specs.Outcome.{◌>>=◌}
 use Rattle.sync_base.specs.declared.stops.Rule.TheVariants.{A5, T7}
 use Rattle.sync_terms.specs.Symbols.{name_symbol}
@@ -14,7 +14,7 @@ use Rattle.sync_terms.specs.Values.{Valuation, num, truth, Holds}
 use Rattle.sync_kernel_facts.specs.Laws.{AreTrue}
 use Rattle.sync_machine.specs.Naming.{is_in}
 use Rattle.sync_rules.specs.Locality.{names_only}
-use Rattle.sync_join.specs.Shards.{Kept, perm}
+use Rattle.sync_join.specs.Shards.{perm}
 use Rattle.sync_join.specs.declared.tokens.Token.{Token as Shard}
 use Rattle.sync_exchange.specs.Exchange.{held_as, tokens_in}
 use Rattle.sync_exchange.specs.declared.hands.Held.{Held}
@@ -31,7 +31,7 @@ use Rattle.sync_thread_meaning.specs.Meaning.{World, annotated_language, shared_
 use Rattle.sync_thread_meaning.specs.Shares.{Shares, hand_of, all_shards, beside, only_if}
 use Rattle.sync_thread_meaning.specs.Sound.{contents_of}
 use Rattle.sync_typing.specs.Dues.{Due, Alone, Owes}
-use Rattle.sync_typing.specs.Environments.{Env, TokenTree, Outcome, token, assign, top, on_some}
+use Rattle.sync_typing.specs.Environments.{Env, TokenTree, token, assign, top, on_some}
 use Rattle.sync_typing.specs.Lists.{Spot, assigned_locals, shared_row}
 use Rattle.sync_typing.specs.Locals.{operand, is_below, index_dues, index_spare, cell_dues, read_row, cell_term as element_term}
 use Rattle.sync_typing.specs.Names.{operand_is_named, shared_is_named, list_is_named, are_names, is_name}
@@ -39,13 +39,13 @@ use Rattle.sync_typing_laws.proofs.LocalDues.{Met, row_met}
 use Rattle.sync_typing_laws.proofs.LocalGoes.{list_kept, few_names}
 use Rattle.sync_typing_laws.proofs.LocalMoves.{At, at_standing, standing_at, is_used}
 use Rattle.sync_typing_laws.proofs.LocalProofs.{Goes}
-use Rattle.sync_typing_laws.proofs.LocalRows.{AreFew, operand_is, local_value}
+use Rattle.sync_typing_laws.proofs.LocalRows.{AreFew, operand_is}
 use Rattle.sync_typing_laws.proofs.LocalStatements.{with_local, local_whole, local_stayed, bind_is, assigns}
 use Rattle.sync_typing_laws.specs.Rests.{worth, IsPart, aims_of}
 use Rattle.sync_typing_laws.specs.Ruling.{body_at, scene_at, Meanings, rules_of}
 use Rattle.sync_thread.specs.declared.operands.CodeDecl.TheVariants as code
 use mathlib.Core.Path.{refl, sym, ap, subst, ◌∙◌}
-use Rattle.sync_typing_laws.specs.Standing.{IsWholeState, Standing, Stayed, standing_in}
+use Rattle.sync_typing_laws.specs.Standing.{IsWholeState, Standing, standing_in}
 
 -- ---- an element in range is a cell
 

@@ -1,6 +1,6 @@
 -- A hand with other tokens that make the same state, and the row of `copy`.
 use Rattle.std.proofs.Common.{arith, inl, inr}
-use Rattle.std.specs.Prelude.{◌≡◌, ℕ, zero, suc, ℤ, pos, ◌<◌, ◌≤◌, ◌+◌, Bool, true, false, not, ◌&&◌, ◌||◌, if◌then◌else◌, nat_eq, List, [], ◌∷◌, ◌++◌, length, map, filter, slice_get, slice_set, slice_index_or, Option, Some, None, is_some, is_none, option_map, Ok}
+use Rattle.std.specs.Prelude.{◌≡◌, ℕ, zero, suc, ℤ, pos, ◌<◌, ◌≤◌, ◌+◌, Bool, true, false, not, ◌&&◌, if◌then◌else◌, nat_eq, List, [], ◌∷◌, ◌++◌, length, map, filter, slice_get, slice_set, slice_index_or, Option, Some, None, is_some, is_none, option_map, Ok}
 use Rattle.std.specs.List.{AllByRecursion, IsDistinct, flat_map}
 use Rattle.std.specs.Ordering.{int_eq}
 use Rattle.std.proofs.lemmas.Bool.{and_parts, ne_eqb}
@@ -15,20 +15,19 @@ use Rattle.sync_machine.specs.States.{strategies, strategy_at}
 use Rattle.sync_machine.specs.declared.fields.Field.{Field}
 use Rattle.sync_join.proofs.Rearranged.{IsRearranged, often-append, rearranged-sym, shards-rearranged, join_of-rearranged}
 use Rattle.sync_join.specs.Join.{join_of}
-use Rattle.sync_join.specs.Shards.{Kept, perm, AreSoundShards, often}
+use Rattle.sync_join.specs.Shards.{perm, AreSoundShards, often}
 use Rattle.sync_join.specs.declared.tokens.Token.{Token as Shard}
 use Rattle.sync_exchange.proofs.Keeping.{copy-keeps}
 use Rattle.sync_exchange.specs.Exchange.{held_as, tokens_in}
 use Rattle.sync_exchange.specs.Splitting.{held, copied_of, KeepsShards, is_persistent as lasts_for}
 use Rattle.sync_exchange.specs.declared.hands.Held.{Held}
 use Rattle.sync_thread.specs.Code.{cell_at}
-use Rattle.sync_thread.specs.Control.{Halt, Do}
-use Rattle.sync_thread.specs.Programs.{Proof, Copy, ListTree}
+use Rattle.sync_thread.specs.Control.{Halt}
+use Rattle.sync_thread.specs.Programs.{Proof, Copy}
 use Rattle.sync_thread.specs.Resting.{Round, PassesUnless}
 use Rattle.sync_thread_machine.specs.MachineWithProgram.{MachineWithProgram, fields_of}
 use Rattle.sync_thread_meaning.specs.Meaning.{World, annotated_language, local_step, with_shares, may_be_copied}
 use Rattle.sync_thread_meaning.specs.Shares.{Shares, hand_of, with_hand, all_shards, beside, found, only_if, are_new}
-use Rattle.sync_thread_meaning.specs.Sound.{contents_of}
 use Rattle.sync_typing.specs.Blocks.{copy_row, has_kind, can_copy}
 use Rattle.sync_typing.specs.Dues.{Due, asked_dues, new_names_due}
 use Rattle.sync_typing.specs.Environments.{Env, TokenTree, take_in, hand_after, token, on_some}

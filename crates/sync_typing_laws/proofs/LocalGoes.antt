@@ -30,7 +30,7 @@ use Rattle.sync_typing_laws.specs.Rests.{IsPart, aims_of}
 use Rattle.sync_typing_laws.specs.Ruling.{body_at, scene_at, Meanings, rules_of}
 use Rattle.sync_typing_laws.proofs.LocalStatements as sets
 use mathlib.Core.Path.{refl, sym, subst, ◌∙◌}
-use Rattle.sync_typing_laws.specs.Standing.{IsWholeState, Standing, Stayed, standing_in}
+use Rattle.sync_typing_laws.specs.Standing.{IsWholeState, Standing, standing_in}
 
 -- ---- what the rules on names say of one statement
 

@@ -6,15 +6,12 @@ use Rattle.std.specs.List.{AllByRecursion}
 use Rattle.std.proofs.Common.{inl, inr}
 use Rattle.std.proofs.lemmas.Bool.{and_parts, and_from, or_cases, or_left, or_right, ltb-true, lt-ltb, ne_eqb}
 use Rattle.std.proofs.lemmas.Bool.Decides.{eqb_tells}
-use Rattle.sync_base.specs.declared.strategies.Strategy.TheVariants.{Constant}
 use Rattle.sync_terms.specs.Symbols.{name_symbol}
 use Rattle.sync_terms.specs.Trees.{Tree, Lit, Name, Add, Sub, Scale, Get, Has, Size, Sum, Nil, Put, Del, Bump, Formula, Le, Lt, Eq, Not, And, Or, Imp}
 use Rattle.sync_terms.specs.Values.{Valuation, num, mapped, truth}
 use Rattle.sync_machine.specs.Naming.{IsTextName, is_in}
-use Rattle.sync_machine.specs.States.{strategy_at}
 use Rattle.sync_rules.specs.Locality.{names_only, form_names_only}
 use Rattle.sync_kernel.specs.Facts.{Fact}
-use Rattle.sync_join.specs.Join.{record_at, number_of}
 use Rattle.sync_exchange.specs.Exchange.{held_as}
 use Rattle.sync_thread.specs.Arrays.{name_limit}
 use Rattle.sync_thread.specs.Code.{locals_of}

@@ -1,7 +1,7 @@
 -- Local statements without tokens, and the condition of `if`: where the row is accepted the statement does not fail,
 -- and the new environment stands for what the thread then has.
 use Rattle.std.proofs.Common.{arith}
-use Rattle.std.specs.Prelude.{◌≡◌, ℕ, pos, ◌<◌, ◌≤◌, ◌+◌, ◌*◌, ◌%◌, ◌^◌, Bool, true, false, not, ◌&&◌, if◌then◌else◌, nat_lt, nat_le, nat_eq, int_le, int_lt, List, [], ◌∷◌, length, Option, Some, None, Ok}
+use Rattle.std.specs.Prelude.{◌≡◌, ℕ, pos, ◌<◌, ◌≤◌, ◌+◌, ◌*◌, ◌%◌, ◌^◌, Bool, true, false, not, ◌&&◌, if◌then◌else◌, nat_lt, nat_le, nat_eq, int_le, int_lt, List, [], ◌∷◌, Option, Some, None, Ok}
 use Rattle.std.specs.Ordering.{int_eq}
 use Rattle.std.proofs.lemmas.Int.{ints}
 use Rattle.std.proofs.lemmas.Bool.{and_parts, and_from, ltb-true, lt-ltb, ne_eqb}
@@ -10,23 +10,20 @@ use Rattle.sync_terms.specs.Symbols.{name_symbol}
 use Rattle.sync_terms.specs.Trees.{Tree, Name, Formula, Le, Lt, Eq, Not, And, Or, Imp, neg, formula_size}
 use Rattle.sync_terms.specs.Values.{Valuation, num, truth, Holds}
 use Rattle.sync_machine.specs.Naming.{is_in}
-use Rattle.sync_machine.specs.States.{State, IsReached, MeetsInvariants}
 use Rattle.sync_rules.specs.Locality.{names_only, form_names_only}
 use Rattle.sync_kernel.specs.Facts.{named}
-use Rattle.sync_join.specs.Join.{join_of}
 use Rattle.sync_thread.specs.Arrays.{name_limit}
-use Rattle.sync_thread.specs.Code.{cell_at, locals_of, operand_value, compares, satisfies}
+use Rattle.sync_thread.specs.Code.{locals_of, operand_value, compares, satisfies}
 use Rattle.sync_thread.specs.Programs.{KeepTree}
 use Rattle.sync_thread.specs.Resting.{Round, branch}
 use Rattle.sync_thread.specs.declared.operands.Cond.{Cond}
 use Rattle.sync_thread.specs.declared.operands.Opd.{Opd}
 use Rattle.sync_thread.specs.declared.operands.Opd.TheVariants.{Number, Local}
 use Rattle.sync_thread.specs.declared.operands.Rel.{Rel}
-use Rattle.sync_thread_machine.specs.MachineWithProgram.{MachineWithProgram, fields_of}
+use Rattle.sync_thread_machine.specs.MachineWithProgram.{MachineWithProgram}
 use Rattle.sync_thread_machine.specs.ProgramSymbols.{first_fresh}
 use Rattle.sync_thread_meaning.specs.Meaning.{World, annotated_language}
-use Rattle.sync_thread_meaning.specs.Shares.{hand_of, proofs_of, wrap_of, all_shards, named_value, array_words}
-use Rattle.sync_thread_meaning.specs.Sound.{words_are_kept, contents_of}
+use Rattle.sync_thread_meaning.specs.Shares.{proofs_of, wrap_of, named_value}
 use Rattle.sync_typing.specs.Environments.{Env, know, tell, stands as term_of}
 use Rattle.sync_typing.specs.Lists.{assigned_locals}
 use Rattle.sync_typing.specs.Locals.{operand, condition}
@@ -37,7 +34,7 @@ use Rattle.sync_typing_laws.specs.Rests.{IsTidy}
 use Rattle.sync_typing_laws.specs.Ruling.{body_at}
 use Rattle.sync_thread.specs.declared.operands.Rel.TheVariants as rel
 use mathlib.Core.Path.{refl, sym, ap, subst, ◌∙◌}
-use Rattle.sync_typing_laws.specs.Standing.{IsGoodState, IsWholeState, SameConstants, Standing, Stayed}
+use Rattle.sync_typing_laws.specs.Standing.{Standing, Stayed}
 
 -- ---- the state as a whole, and what others have
 

@@ -1,22 +1,18 @@
 -- The row of `write`: one permission says another content, and its cell has it.
 use Rattle.std.proofs.Common.{arith, inl, inr}
-use Rattle.std.specs.Prelude.{◌≡◌, ℕ, zero, suc, ℤ, pos, ◌<◌, ◌≤◌, ◌+◌, ◌+ℤ◌, ◌^◌, Bool, true, false, ◌&&◌, ◌||◌, if◌then◌else◌, nat_eq, nat_lt, int_lt, List, [], ◌∷◌, ◌++◌, length, map, filter, slice_set, slice_index_or, is_none, Option, Some, None, is_some, option_map, Result, Ok, Err, ◌⊎◌}
-use Rattle.std.specs.List.{AllByRecursion, IsDistinct, flat_map, list_all, range_with_len}
+use Rattle.std.specs.Prelude.{◌≡◌, ℕ, zero, suc, ℤ, pos, ◌<◌, ◌≤◌, ◌+◌, ◌^◌, Bool, true, false, ◌&&◌, ◌||◌, if◌then◌else◌, nat_eq, List, [], ◌∷◌, ◌++◌, length, map, filter, slice_set, slice_index_or, Option, Some, None, is_some, option_map, Ok, ◌⊎◌}
+use Rattle.std.specs.List.{AllByRecursion, IsDistinct, flat_map, range_with_len}
 use Rattle.std.specs.Ordering.{int_eq}
 use Rattle.std.proofs.lemmas.Int.{ints}
-use Rattle.std.proofs.lemmas.Bool.{and_parts, and_from, ltb-true, lt-ltb, ne_eqb}
+use Rattle.std.proofs.lemmas.Bool.{and_parts, ne_eqb}
 use Rattle.std.proofs.lemmas.Bool.Decides.{eqb_tells, Decides-int_eq}
 use mathlib.Core.Path.{refl, sym, ap, subst, ◌∙◌}
 use Rattle.std.proofs.lemmas.List.{get_or-set_same, get_or-set_other, length-set}
 use Rattle.sync_base.specs.Outcome.{◌>>=◌, first}
-use Rattle.sync_base.specs.declared.stops.Rule.TheVariants.{A5, T7}
 use Rattle.sync_base.specs.declared.strategies.Strategy.{Strategy}
 use Rattle.sync_base.specs.declared.strategies.Strategy.TheVariants.{NotTokenized, Count}
-use Rattle.sync_terms.specs.Symbols.{name_symbol}
-use Rattle.sync_terms.specs.Trees.{Tree, Lit, Lt, Eq}
-use Rattle.sync_terms.specs.Values.{Valuation, num, truth, Holds}
+use Rattle.sync_terms.specs.Values.{Valuation}
 use Rattle.sync_kernel_facts.specs.Laws.{AreTrue}
-use Rattle.sync_machine.specs.Naming.{is_in}
 use Rattle.sync_machine.specs.States.{strategies, strategy_at}
 use Rattle.sync_machine.specs.declared.fields.Field.{Field}
 use Rattle.sync_rules.specs.Locality.{names_only}
@@ -26,27 +22,25 @@ use Rattle.sync_join.specs.declared.tokens.Token.{Token as Shard}
 use Rattle.sync_exchange.proofs.Doing.{no-permission}
 use Rattle.sync_exchange.specs.Exchange.{held_as, tokens_in, revalued}
 use Rattle.sync_exchange.specs.declared.hands.Held.{Held}
-use Rattle.sync_thread.specs.Arrays.{Span, first_cells, cells_named, shifted}
-use Rattle.sync_thread.specs.Code.{cell_at, cell_number, operand_value, setting}
+use Rattle.sync_thread.specs.Arrays.{Span, cells_named}
+use Rattle.sync_thread.specs.Code.{cell_at, operand_value}
 use Rattle.sync_thread.specs.Control.{Halt, On}
 use Rattle.sync_thread.specs.Programs.{ScriptTree, IndexTree, Write, ListTree}
 use Rattle.sync_thread.specs.Resting.{Round, PassesUnless, Advances}
-use Rattle.sync_thread.specs.declared.operands.CodeDecl.{CodeDecl}
 use Rattle.sync_thread.specs.declared.operands.Opd.{Opd}
-use Rattle.sync_thread.specs.declared.operands.Opd.TheVariants.{Number, Local}
 use Rattle.sync_thread_machine.specs.MachineWithProgram.{MachineWithProgram, fields_of, decls_of}
 use Rattle.sync_thread_meaning.specs.Meaning.{World, annotated_language, shared_step, permits_cell, with_shares}
-use Rattle.sync_thread_meaning.specs.Shares.{Shares, hand_of, with_hand, all_shards, beside, only_if}
+use Rattle.sync_thread_meaning.specs.Shares.{hand_of, with_hand, all_shards, beside, only_if}
 use Rattle.sync_thread_meaning.specs.Sound.{contents_of}
-use Rattle.sync_typing.specs.Dues.{Due, Alone, Owes}
-use Rattle.sync_typing.specs.Environments.{Env, TokenTree, Outcome, token, take_in, hand_after, on_some}
+use Rattle.sync_typing.specs.Dues.{Due}
+use Rattle.sync_typing.specs.Environments.{Env, TokenTree, token, take_in, hand_after, on_some}
 use Rattle.sync_typing.specs.Lists.{Spot, assigned_locals, shared_row}
-use Rattle.sync_typing.specs.Locals.{operand, is_below, index_dues, index_spare, cell_dues, content, write_row, cell_term as element_term}
+use Rattle.sync_typing.specs.Locals.{operand, cell_dues, content, write_row}
 use Rattle.sync_typing.specs.Names.{operand_is_named, shared_is_named, list_is_named, are_names, is_name}
 use Rattle.sync_typing_laws.proofs.LocalCells.{IsCell, cell_is, number_is}
 use Rattle.sync_typing_laws.proofs.LocalCopies.{perms, perms_append}
 use Rattle.sync_typing_laws.proofs.LocalDues.{Met, row_met}
-use Rattle.sync_typing_laws.proofs.LocalGoes.{list_kept, few_names}
+use Rattle.sync_typing_laws.proofs.LocalGoes.{few_names}
 use Rattle.sync_typing_laws.proofs.LocalHands.{HeldAnew, hands_it, take_in_is}
 use Rattle.sync_typing_laws.proofs.LocalMoves.{At, at_standing, standing_at, is_used}
 use Rattle.sync_typing_laws.proofs.LocalProofs.{Goes}
@@ -54,7 +48,6 @@ use Rattle.sync_typing_laws.proofs.LocalRenamed.{names_of}
 use Rattle.sync_typing_laws.proofs.LocalRows.{AreFew, operand_is, operand_used, operand_fits}
 use Rattle.sync_typing_laws.specs.Rests.{worth, IsApart, IsPart, aims_of}
 use Rattle.sync_typing_laws.specs.Ruling.{body_at, scene_at, Meanings, rules_of}
-use Rattle.sync_thread.specs.declared.operands.CodeDecl.TheVariants as code
 use Rattle.sync_typing_laws.specs.Standing.{IsWholeState, Standing, Stayed, standing_in}
 
 all_set : {A : Type 0} (P : A → Type 0) (xs : List A) (t : ℕ) (y : A) → AllByRecursion P xs → P y → AllByRecursion P (slice_set xs t y)

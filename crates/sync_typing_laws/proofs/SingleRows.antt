@@ -1,13 +1,10 @@
 -- The rows of local statements and of cells, put together.
-use Rattle.std.specs.Prelude.{ℕ, ℤ, Bool}
-use Rattle.sync_thread_machine.specs.MachineWithProgram.{MachineWithProgram}
-use Rattle.sync_typing.specs.Environments.{Env}
 use Rattle.sync_typing_laws.proofs.Deciding.{laws}
 use Rattle.sync_typing_laws.proofs.LocalCells.{read_shared}
 use Rattle.sync_typing_laws.proofs.LocalCopies.{copy_local}
 use Rattle.sync_typing_laws.proofs.LocalGoes.{set_local, let_local, assert_local, move_local, print_shared, if_test}
 use Rattle.sync_typing_laws.proofs.LocalWrites.{write_shared}
-use Rattle.sync_typing_laws.specs.RowLaws.{IsThreadOf, RowsGoOn, SingleRowsGoOn}
+use Rattle.sync_typing_laws.specs.RowLaws.{SingleRowsGoOn}
 use Rattle.sync_typing_laws.specs.Ruling.{Meanings}
 
 pub single_rows_go_on : (m : Meanings) → SingleRowsGoOn m

@@ -7,7 +7,7 @@ use Rattle.sync_thread.specs.declared.operands.Opd.{Opd}
 use Rattle.sync_thread.specs.declared.operands.Tok.{Tok}
 use Rattle.sync_thread.specs.Code.{satisfies}
 use Rattle.sync_thread.specs.Control.{Wide, Do, On, If}
-use Rattle.sync_thread.specs.Programs.{IndexTree, KeepTree, ListTree, LocalTree, ProofTree, ScriptTree, SharedTree, TestTree, Set, Proof, Let, Assert, Move, Copy, Print, Read, Write}
+use Rattle.sync_thread.specs.Programs.{IndexTree, KeepTree, ListTree, LocalTree, ScriptTree, SharedTree, TestTree, Set, Proof, Let, Assert, Move, Copy, Print, Read, Write}
 use Rattle.sync_thread.specs.Resting.{Advances, PassesUnless, Round, branch}
 use Rattle.sync_thread_machine.specs.MachineWithProgram.{MachineWithProgram, fields_of}
 use Rattle.sync_thread_meaning.specs.Meaning.{World, annotated_language, local_step, shared_step}
