@@ -8,7 +8,7 @@ pub fn erased_goes_along()
     ensures { ErasedGoesAlong }
 {}
 
-/// No token comes or goes where the final block takes over from the threads.
+/// Where the final block takes over it holds what all threads held, they hold nothing, and no token comes or goes.
 pub fn final_takes_all()
     ensures { FinalTakesAll }
 {}
