@@ -43,7 +43,7 @@ taken_one None None ns later = Err Broken
 
 -- the tokens of the unguarded clauses come out, under these names
 abbrev pub taken_out : List ClauseTree → List (Option Token) → List ℕ → Result Taken Halt
-taken_out [] os names = Ok (record { held = []; owned = [] })
+taken_out [] os names = Ok (record { held = []; owned = os })
 taken_out (c ∷ cs) [] names = Err Broken
 taken_out (c ∷ cs) (o ∷ os) names = taken_one c.guard o names (taken_out cs os)
 
