@@ -25,14 +25,12 @@ in_all u g = often u (all_shards g)
 
 -- ---- lists of lists
 
-some_is : {X : Type 0} (x y : X) → Some x ≡ Some y → x ≡ y
-some_is x y is = ap (λ o. get o) is where
-  get : Option _ → _
-  get (Some z) = z
-  get None = x
+some_or : {X : Type 0} → X → Option X → X
+some_or x (Some y) = y
+some_or x None = x
 
-none_is : {X : Type 0} (x : X) → None ≡ Some x → ⊥
-none_is x is = absurd (cc)
+some_is : {X : Type 0} (x y : X) → Some x ≡ Some y → x ≡ y
+some_is x y is = ap (some_or x) is
 
 set_count : {X : Type 0} (f : X → List Token) (u : Token) (xs : List X) (i : ℕ) (x y : X) → slice_get xs i ≡ Some x
     → often u (flat_map f (slice_set xs i y)) + often u (f x) ≡ often u (flat_map f xs) + often u (f y)

@@ -50,11 +50,12 @@ tested P false r on = tt
 held_by : {A : Type 0} (P : A → Type 0) (r : Result A Halt) (a : A) → Holds P r → r ≡ Ok a → P a
 held_by P r a on is = subst (Holds P) is on
 
+there : {A : Type 0} → Result A Halt → Option A
+there (Ok a) = Some a
+there (Err h) = None
+
 found_is : {A : Type 0} (o : Option A) (a : A) → found o ≡ Ok a → o ≡ Some a
-found_is (Some b) a is = ap get is where
-  get : Result _ Halt → Option _
-  get (Ok z) = Some z
-  get (Err h) = None
+found_is (Some b) a is = ap there is
 found_is None a is = absurd (cc)
 
 -- ---- words
