@@ -35,17 +35,20 @@ use Rattle.sync_machine.specs.Machines as acts
 use Rattle.sync_machine.specs.States.{sort_of}
 use Rattle.sync_machine.specs.Statements.{presence, amount_is_natural, freshness, enabling, safety, condition, added}
 use Rattle.sync_machine.specs.Statements.{removed, after as left_by, field_of as field_in, changed_by}
-use Rattle.sync_rules.specs.Locality.{names_only, form_names_only}
+use Rattle.sync_rules.specs.Locality.{names_only, form_names_only, has_local_terms}
 use Rattle.sync_rules.specs.Obligations.{names, form_names}
 use Rattle.sync_rules.specs.Slots.{needs, started_at, updated_to, act_slot}
 use Rattle.sync_exchange_values.specs.Fitting.{form_fits, number_fits, map_fits}
 use Rattle.sync_exchange.specs.Exchange.{held_as, stored_at, argument, token_name, does}
 use Rattle.sync_thread.specs.declared.operands.Opd.TheVariants as opd
 use Rattle.sync_thread.specs.declared.operands.WordOp.TheVariants as op
+use Rattle.sync_words.specs.declared.entries.Operation.TheVariants.{Add}
+use Rattle.sync_words.specs.Entries.{entry}
 use Rattle.sync_thread.specs.Control as c
 use Rattle.sync_thread.specs.Control.{run, unwind}
 use Rattle.sync_thread.specs.Programs as p
 use Rattle.sync_thread.specs.Code.{code_list, code_of}
+use Rattle.sync_thread.specs.Logs.{FollowsCode}
 use Rattle.sync_thread_meaning.specs.MachineWithProgram.{MachineWithProgram}
 use Rattle.sync_thread_meaning.specs.Exchanges.{are_safe, guarded_key}
 use Rattle.sync_thread_meaning.proofs.Examples.{seen, seen_erased}
@@ -345,3 +348,24 @@ unfolding code_list run unwind held_as stored_at argument token_name does form_f
     presence amount_is_natural freshness enabling safety condition added removed left_by field_in changed_by sort_of
     truth
 erased_ended = refl
+
+-- the logs that the schedule 1, 0, 2, 2 leaves: the second thread finds 0, the first one 1, and the final block 2
+first_log : FollowsCode (code_of count_to_two.program) 0 (entry 0 0 (Add 1 1) ∷ [])
+unfolding code_list run unwind
+first_log = (
+  _,
+  _,
+  refl,
+  _,
+  record {
+    found = 1;
+    shared = _;
+    line = _;
+    rest = _;
+    frames = _;
+    waits = refl;
+    tells = refl;
+    goes = refl;
+  },
+  refl,
+)

@@ -26,7 +26,7 @@ use Rattle.sync_machine.specs.Machines as acts
 use Rattle.sync_machine.specs.States.{sort_of}
 use Rattle.sync_machine.specs.Statements.{presence, amount_is_natural, freshness, enabling, safety, condition, added}
 use Rattle.sync_machine.specs.Statements.{removed, after as left_by, field_of as field_in, changed_by}
-use Rattle.sync_rules.specs.Locality.{names_only, form_names_only}
+use Rattle.sync_rules.specs.Locality.{names_only, form_names_only, has_local_terms}
 use Rattle.sync_rules.specs.Obligations.{names, form_names}
 use Rattle.sync_rules.specs.Slots.{needs, started_at, updated_to, act_slot}
 use Rattle.sync_exchange_values.specs.Fitting.{form_fits, number_fits, map_fits}
