@@ -1,14 +1,15 @@
 -- What a thread leaves on record, where words, cells and the ticket of lines stand in one table of words.
-use Rattle.std.specs.Prelude.{◌≡◌, ℕ, ◌+◌, ◌-◌, if◌then◌else◌, nat_lt, List, [], ◌∷◌, ◌++◌, length, slice_get, slice_set}
+use Rattle.std.specs.Prelude.{◌≡◌, ℕ, ◌+◌, ◌-◌, if◌then◌else◌, nat_eq, nat_lt, List, [], ◌∷◌, ◌++◌, length, slice_get}
+use Rattle.std.specs.Prelude.{slice_set}
 use Rattle.std.specs.Prelude.{Option, Some, None, Result, Ok, Err}
 use Rattle.sync_base.specs.Outcome.{◌>>=◌}
 use Rattle.sync_words.specs.declared.entries.Entry.{Entry}
 use Rattle.sync_words.specs.declared.entries.Operation.TheVariants.{Load, Store, Add}
-use Rattle.sync_words.specs.declared.entries.Operation.{Operation}
 use Rattle.sync_words.specs.Entries.{entry, found_by}
 use Rattle.sync_thread.specs.declared.operands.CodeDecl.{CodeDecl}
 use Rattle.sync_thread.specs.Arrays.{first_words, first_cells}
-use Rattle.sync_thread.specs.Control.{Halt, Broken, Signal, At, Nexts, Breaks, Meets, Ends, Over, Fails, Paused, On, run}
+use Rattle.sync_thread.specs.Control.{Halt, Broken, Signal, At, Nexts, Breaks, Meets, Ends, Over, Fails, Paused, On}
+use Rattle.sync_thread.specs.Control.{run}
 use Rattle.sync_thread.specs.Control.{Frame, unwind, step}
 use Rattle.sync_thread.specs.Code.{CodeThread, CodeTree, CodeList, CodeShared, Read, Write, Peek, Operate, Print}
 use Rattle.sync_thread.specs.Code.{code_language, code_statements, Memory, first_memory, logged, operand_value}
@@ -75,10 +76,13 @@ lane_begun x t list = lane_at (run (code_statements x.decls t) list (first_memor
 
 -- the list of a thread, and of the final block under the number of threads
 abbrev pub list_of : CodeTree → ℕ → Option CodeList
-list_of x t = if nat_lt t (length x.threads) then body (slice_get x.threads t) else x.last where
-  body : Option CodeThread → Option CodeList
-  body (Some thread) = Some thread.body
-  body None = None
+list_of x t =
+    if nat_lt t (length x.threads) then body (slice_get x.threads t)
+    else if nat_eq t (length x.threads) then x.last
+    else None where
+      body : Option CodeThread → Option CodeList
+      body (Some thread) = Some thread.body
+      body None = None
 
 -- The thread waits before a step whose entry this is, where it finds what the entry says; and then it is there.
 pub record MakesEntry (ds : List CodeDecl) (t : ℕ) (here : Lane) (e : Entry) (there : Lane) : Type 0 where
@@ -97,8 +101,8 @@ abbrev pub MakeEntries : List CodeDecl → ℕ → Lane → List Entry → Lane 
 MakeEntries ds t here [] there = here ≡ there
 MakeEntries ds t here (e ∷ es) there = (next : Lane) × MakesEntry ds t here e next × MakeEntries ds t next es there
 
--- Given what its steps found, this log is what a thread does, step by step, and leaves it there. A final block that is
--- not there does nothing.
+-- Given what its steps found, this log is what a thread does, step by step, and leaves it there. Who is not there does
+-- nothing.
 abbrev pub FollowsTo : CodeTree → ℕ → List Entry → Lane → Type 0
 FollowsTo x t log there = from (list_of x t) where
   from : Option CodeList → Type 0
