@@ -1,2 +1,3 @@
 mod Control
 pub mod ControlEvents
+mod CutLogs

@@ -103,11 +103,17 @@ MakeEntries ds t here (e ∷ es) there = (next : Lane) × MakesEntry ds t here e
 
 -- Given what its steps found, this log is what a thread does, step by step, and leaves it there. Who is not there does
 -- nothing.
+abbrev pub FollowsFrom : CodeTree → ℕ → Option CodeList → List Entry → Lane → Type 0
+FollowsFrom x t (Some list) log there =
+    (begun : Lane) × (lane_begun x t list ≡ Ok begun) × MakeEntries x.decls t begun log there
+FollowsFrom x t None log there = (log ≡ []) × (there.place ≡ None)
+
 abbrev pub FollowsTo : CodeTree → ℕ → List Entry → Lane → Type 0
-FollowsTo x t log there = from (list_of x t) where
-  from : Option CodeList → Type 0
-  from (Some list) = (begun : Lane) × (lane_begun x t list ≡ Ok begun) × MakeEntries x.decls t begun log there
-  from None = (log ≡ []) × (there.place ≡ None)
+FollowsTo x t log there = FollowsFrom x t (list_of x t) log there
 
 abbrev pub FollowsCode : CodeTree → ℕ → List Entry → Type 0
 FollowsCode x t log = (there : Lane) × FollowsTo x t log there
+
+-- a part of a log from its beginning is what the thread does too
+abbrev pub LogsAreCut : Type 0
+LogsAreCut = (x : CodeTree) (t : ℕ) (log later : List Entry) → FollowsCode x t (log ++ later) → FollowsCode x t log

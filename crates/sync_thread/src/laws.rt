@@ -1,6 +1,7 @@
-//! The laws of rest: from facts on single statements to every event of every schedule.
+//! The laws of rest, from facts on single statements to every event of every schedule; and a law of logs.
 
 ghost use Rattle.sync_thread.specs.Control.{Language, ProgramMeaning};
+ghost use Rattle.sync_thread.specs.Logs.{LogsAreCut};
 ghost use Rattle.sync_thread.specs.Resting.{EventsRest, Rules, SchedulesGoOn, SchedulesRest};
 
 /// A language of statements, typing rules for it, and what a program does in it.
@@ -25,4 +26,9 @@ pub fn schedules_rest<T: Ruled>()
 /// And where no failure is spared, every schedule goes on.
 pub fn schedules_go_on<T: Ruled>()
     ensures { SchedulesGoOn T.language T.rules T.meaning }
+{}
+
+/// A part of a log from its beginning is what the thread does too.
+pub fn logs_are_cut()
+    ensures { LogsAreCut }
 {}

@@ -354,18 +354,22 @@ first_log : FollowsCode (code_of count_to_two.program) 0 (entry 0 0 (Add 1 1) âˆ
 unfolding code_list run unwind
 first_log = (
   _,
-  _,
-  refl,
-  _,
-  record {
-    found = 1;
-    shared = _;
-    line = _;
-    rest = _;
-    frames = _;
-    waits = refl;
-    tells = refl;
-    goes = refl;
-  },
-  refl,
+  (
+    _,
+    refl,
+    (
+      _,
+      record {
+        found = 1;
+        shared = _;
+        line = _;
+        rest = _;
+        frames = _;
+        waits = refl;
+        tells = refl;
+        goes = refl;
+      },
+      refl,
+    ),
+  ),
 )

@@ -25,7 +25,7 @@ in_all u g = often u (all_shards g)
 
 -- ---- lists of lists
 
-some_or : {X : Type 0} → X → Option X → X
+abbrev some_or : {X : Type 0} → X → Option X → X
 some_or x (Some y) = y
 some_or x None = x
 

@@ -1,7 +1,7 @@
 -- No token is lost, statement by statement.
 use Rattle.std.proofs.Common.{◌≡◌, ℕ, zero, suc, ◌+◌, ◌<◌, ℤ, Bool, true, false, List, [], ◌∷◌, ◌++◌}
 use Rattle.std.proofs.Common.{length, flat_map, slice_get, slice_set, Option, Some, None, Result, Ok, Err, refl}
-use Rattle.std.proofs.Common.{pos, ap, subst, arith}
+use Rattle.std.proofs.Common.{not, ◌&&◌, is_none, pos, ap, subst, arith}
 use Rattle.sync_base.specs.Outcome.{◌>>=◌}
 use Rattle.sync_terms.specs.Trees.{Tree, Formula}
 use Rattle.sync_join.specs.declared.tokens.Token.{Token}
@@ -25,9 +25,10 @@ use Rattle.sync_thread_meaning.specs.Shares.{term_value, term_values, array_word
 use Rattle.sync_thread_meaning.specs.Shares.{word_sight, guard_truth, Parted, keep_lines, overlaid}
 use Rattle.sync_thread_meaning.specs.Words.{OpenBlock, Taken, taken_one, taken_out, word_opened, case_taken}
 use Rattle.sync_thread_meaning.specs.Words.{decided_case}
-use Rattle.sync_thread_meaning.specs.Words.{Put, put_back, word_closed}
+use Rattle.sync_thread_meaning.specs.Words.{Put, put_back, word_closed, with_owned, with_owned_anew, may_stay}
 use Rattle.sync_thread_meaning.specs.Meaning.{World, Site, around_of, block_at, Arrival, keep_sight, arrived}
 use Rattle.sync_thread_meaning.specs.Meaning.{keeping, thread_named, proof_step, keep_step, end_step}
+use Rattle.sync_thread_meaning.specs.Shares.{keep_facts_hold, is_true}
 use Rattle.sync_thread_meaning.specs.Laws.{HasPlaces, KeepsTokens, KeepsTokensOf, passes_on, NoTokenIsLost}
 use Rattle.sync_thread_meaning.proofs.Counting.{in_hand, in_all, got_below, hand_count, handed_count}
 use Rattle.sync_thread_meaning.proofs.Counting.{owned_count, dust_count, anew_count, place_count, one_count}
@@ -50,12 +51,12 @@ tested P false r on = tt
 held_by : {A : Type 0} (P : A → Type 0) (r : Result A Halt) (a : A) → Holds P r → r ≡ Ok a → P a
 held_by P r a on is = subst (Holds P) is on
 
-there : {A : Type 0} → Result A Halt → Option A
-there (Ok a) = Some a
-there (Err h) = None
+abbrev answer : {A : Type 0} → Result A Halt → Option A
+answer (Ok a) = Some a
+answer (Err h) = None
 
 found_is : {A : Type 0} (o : Option A) (a : A) → found o ≡ Ok a → o ≡ Some a
-found_is (Some b) a is = ap there is
+found_is (Some b) a is = ap answer is
 found_is None a is = absurd (cc)
 
 -- ---- words
@@ -145,7 +146,8 @@ arrives_with u fits x s t k args wrap =
     _ (λ ns is.
     let v : Sight = keep_sight (fields_of x) s t (given_to k.names ns) wrap in
     bound (ArrivesWith u (hand_of s.shares t)) (keep_lines v k.lines (hand_of s.shares t)) _ (λ p goes.
-    tested (ArrivesWith u (hand_of s.shares t)) _ _
+    tested (ArrivesWith u (hand_of s.shares t)) (keep_facts_hold v k.facts)
+    (Ok (record { kept = p.kept; left = p.left; own = given_to k.names ns }))
     (held_by (PartsAll u (hand_of s.shares t)) (keep_lines v k.lines (hand_of s.shares t)) p
     (lines_part u v k.lines (hand_of s.shares t)) goes)))
 
@@ -184,14 +186,14 @@ case_stays : (u : Token) (t i : ℕ) (o : Owned) (n : ℕ) (holds : Bool) (taken
     → t < length g.hands → slice_get g.owned i ≡ Some o → slice_get o.tokens n ≡ Some token
     → Holds (Same u g) (case_taken t i o n holds taken token g)
 case_stays u t i o n holds (Some p) (Some token) g less has there =
-    tested (Same u g) _ _ (
     let own : List Held = record { name = p; token = token } ∷ [] in
+    tested (Same u g) _ (Ok (with_owned i (record o { tokens = slice_set o.tokens n None }) (handed_to t own g))) (
     let one = handed_count u g t own less in
     let two = owned_count u (handed_to t own g) i o (record o { tokens = slice_set o.tokens n None }) has in
     let place = place_count u o.tokens n token_list (Some token) None there in
     omega (arith, one, two, place))
 case_stays u t i o n holds (Some p) None g less has there = tt
-case_stays u t i o n holds None token g less has there = tested (Same u g) _ _ refl
+case_stays u t i o n holds None token g less has there = tested (Same u g) (not holds && is_none token) (Ok g) refl
 
 decided_stays : (u : Token) (x : MachineWithProgram) (t : ℕ) (b : OpenBlock) (n : ℕ) (taken : Option ℕ)
     (scripts : List ScriptTree) (g : Shares) → t < length g.hands
@@ -223,7 +225,8 @@ closed_stays u fits x t v i value form g less many =
     bound (Same u g) (term_values fits v form.args) _ (λ ns values.
     let w : Sight = word_sight (fields_of x) g.kept p value ns in
     bound (Same u g) (put_back (decls_of x) w p.word.clauses form.tokens (hand_of g t)) _ (λ k goes.
-    tested (Same u g) _ _ (
+    tested (Same u g) _
+    (Ok (with_owned_anew i (record { tokens = k.tokens; values = ns }) (with_hand t k.left g))) (
     let parts = held_by (PutsAll u (hand_of g t)) (put_back (decls_of x) w p.word.clauses form.tokens (hand_of g t)) k
     (put_all u (decls_of x) w p.word.clauses form.tokens (hand_of g t)) goes in
     let had = there_too g.owned (array_words x.program.decls) i p (found_is _ p is) many in
@@ -272,11 +275,12 @@ statement_stays u fits x t site m (Let n term) g less places is =
 statement_stays u fits x t site m (Move tok new) g less places is =
     let n : ℕ = token_number (decls_of x) tok in
     bound (Same u g) (found (held_as n (hand_of g t))) _ (λ token has.
-    tested (Same u g) _ _ (
+    tested (Same u g) _ (Ok (with_hand t (replaced n (held new token token.value) (hand_of g t)) g)) (
     let one = hand_count u g t (replaced n (held new token token.value) (hand_of g t)) less in
     let two = renamed_count u n new (hand_of g t) token (found_is _ token has) in
     omega (arith, one, two)))
-statement_stays u fits x t site m (Assert form label scripts) g less places is = tested (Same u g) _ _ refl
+statement_stays u fits x t site m (Assert form label scripts) g less places is =
+    tested (Same u g) (is_true (sight_of (fields_of x) m g t (around_of site)) form) (Ok g) refl
 statement_stays u fits x t site m (Open names tokens label) g less places is =
     bound (Same u g) (block_at site) _ (λ b inside. opened_stays u x t b.number names tokens g less)
 statement_stays u fits x t site m (Case form) g less places is =
@@ -286,7 +290,7 @@ statement_stays u fits x t site m (Close form) g less places is =
     (closed_stays u fits x t (sight_of (fields_of x) m g t (around_of site)) b.number b.around.new form g less
     places.owned))
 statement_stays u fits x t site m (Still scripts) g less places is =
-    bound (Same u g) (block_at site) _ (λ b inside. tested (Same u g) _ _ refl)
+    bound (Same u g) (block_at site) _ (λ b inside. tested (Same u g) (may_stay x b) (Ok g) refl)
 statement_stays u fits x t site m (Seal word i form) g less places is =
     tested (Same u g) _ _ (bound (Same u g) (number_in (words_named word (decls_of x)) i) _ (λ n inside.
     closed_stays u fits x t (sight_of (fields_of x) m g t (around_of site)) n (pos (word_at m n)) form g less
