@@ -1,3 +1,5 @@
 mod Control
 pub mod ControlEvents
 mod CutLogs
+mod Likeness
+mod StepsAlone

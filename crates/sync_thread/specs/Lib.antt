@@ -9,3 +9,4 @@ pub mod Scripts
 pub mod Resting
 pub mod Reports
 pub mod Logs
+pub mod Alone

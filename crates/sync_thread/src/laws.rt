@@ -1,5 +1,6 @@
-//! The laws of rest, from facts on single statements to every event of every schedule; and a law of logs.
+//! The laws of rest, from facts on single statements to every event of every schedule; and laws of logs.
 
+ghost use Rattle.sync_thread.specs.Alone.{StepsAreAlone};
 ghost use Rattle.sync_thread.specs.Control.{Language, ProgramMeaning};
 ghost use Rattle.sync_thread.specs.Logs.{LogsAreCut};
 ghost use Rattle.sync_thread.specs.Resting.{EventsRest, Rules, SchedulesGoOn, SchedulesRest};
@@ -31,4 +32,9 @@ pub fn schedules_go_on<T: Ruled>()
 /// A part of a log from its beginning is what the thread does too.
 pub fn logs_are_cut()
     ensures { LogsAreCut }
+{}
+
+/// What a thread of code does depends on its locals and on what its step finds, and on nothing else in the memory.
+pub fn steps_are_alone()
+    ensures { StepsAreAlone }
 {}
