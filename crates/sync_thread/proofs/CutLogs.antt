@@ -4,7 +4,7 @@ use mathlib.Core.Path.{refl}
 use Rattle.sync_words.specs.declared.entries.Entry.{Entry}
 use Rattle.sync_thread.specs.declared.operands.CodeDecl.{CodeDecl}
 use Rattle.sync_thread.specs.Code.{CodeList, CodeTree}
-use Rattle.sync_thread.specs.Logs.{Lane, list_of, MakesEntry, MakeEntries, FollowsFrom, LogsAreCut}
+use Rattle.sync_thread.specs.Logs.{Lane, list_of, MakeEntries, FollowsFrom, LogsAreCut}
 
 made_first : (ds : List CodeDecl) (t : ℕ) (here there : Lane) (xs ys : List Entry)
     → MakeEntries ds t here (xs ++ ys) there → (mid : Lane) × MakeEntries ds t here xs mid

@@ -3,3 +3,4 @@ pub mod ControlEvents
 mod CutLogs
 mod Likeness
 mod StepsAlone
+mod Telling

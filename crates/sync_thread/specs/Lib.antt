@@ -10,3 +10,4 @@ pub mod Resting
 pub mod Reports
 pub mod Logs
 pub mod Alone
+pub mod Tables

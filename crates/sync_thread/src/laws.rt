@@ -1,9 +1,10 @@
-//! The laws of rest, from facts on single statements to every event of every schedule; and laws of logs.
+//! The laws of rest, from facts on single statements to every event of every schedule; and laws of steps and logs.
 
 ghost use Rattle.sync_thread.specs.Alone.{StepsAreAlone};
 ghost use Rattle.sync_thread.specs.Control.{Language, ProgramMeaning};
 ghost use Rattle.sync_thread.specs.Logs.{LogsAreCut};
 ghost use Rattle.sync_thread.specs.Resting.{EventsRest, Rules, SchedulesGoOn, SchedulesRest};
+ghost use Rattle.sync_thread.specs.Tables.{StepsTell};
 
 /// A language of statements, typing rules for it, and what a program does in it.
 pub trait Ruled {
@@ -37,4 +38,9 @@ pub fn logs_are_cut()
 /// What a thread of code does depends on its locals and on what its step finds, and on nothing else in the memory.
 pub fn steps_are_alone()
     ensures { StepsAreAlone }
+{}
+
+/// What a step does to words and cells is what its entry does to the table that they stand in.
+pub fn steps_tell()
+    ensures { StepsTell }
 {}

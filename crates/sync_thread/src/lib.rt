@@ -6,7 +6,7 @@ mod operands;
 mod program;
 
 pub use laws::{
-    Ruled, events_rest, logs_are_cut, schedules_go_on, schedules_rest, steps_are_alone,
+    Ruled, events_rest, logs_are_cut, schedules_go_on, schedules_rest, steps_are_alone, steps_tell,
 };
 pub use operands::{Calc, CodeDecl, Cond, Line, Moved, Opd, Rel, Tok, WordOp};
 pub use program::{
