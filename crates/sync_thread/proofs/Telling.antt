@@ -222,7 +222,8 @@ operate_tells : (ds : List CodeDecl) (t : ℕ) (x : Option ℕ) (op : WordOp) (w
 operate_tells ds t x op w i m after found e table is tells goes =
     let f : Opd → ℕ = operand_value m t in
     let go = both_go (word_number ds t m w i) (λ k. Ok (entry t k (logged f op found)))
-    (λ k. Ok (set_if t x (word_at m k) (record m { words = slice_set m.words k (effect_of f op (word_at m k)) }))) e after
+    (λ k. Ok (set_if t x (word_at m k) (record m { words = slice_set m.words k (effect_of f op (word_at m k)) })))
+    e after
     tells goes in
     let k : ℕ = go.number in
     let within = words_within w ds (operand_value m t i) k go.is in
