@@ -30,7 +30,7 @@ use Rattle.sync_parse.specs.declared.trees.RawPlace.TheVariants as place
 use Rattle.sync_parse_exprs.specs.Terminals.{Read, Reader, begins_with, sign_at, number_at}
 use Rattle.sync_parse.specs.Faults.{refusal_of, refused}
 use Rattle.sync_parse.specs.Machines.{pattern_at, keyed, place_at, closed_expr, closed_place, formula_act, value_act, field_place, place_act, have_act, act_kind, act_at, acts, field_at, fields, mode_of, mode_said, mode_at, operation_at, begins_operation, operations, invariant_at, invariants, machine_at, claim_at, proof_at, proof_row, proofs_at, version_at, at_end, text_of, parsed}
-use Rattle.sync_parse_grammar.specs.Relations.{Spelled, The, ANumber, Yields, Then, ◌>>=◌, ◌>>◌, Either, the_one, the_other, Closed}
+use Rattle.sync_parse_grammar.specs.Relations.{Spelled, The, ANumber, Yields, Then, ◌>>=◌, Either, the_one, the_other, Closed}
 use Rattle.sync_parse_grammar.specs.Expressions.{AnExpr}
 use Rattle.sync_parse_grammar.specs.Scripts.{Script}
 use Rattle.sync_parse_grammar.specs.Machines.{Pattern, Place, FormulaAct, ValueAct, FieldPlace, PlaceAct, HaveAct, ActKind, Act, Field, Mode, Operation, Invariant, Machine, Claim, Proof, Proofs}
@@ -248,9 +248,10 @@ shrinks_proof = record {
       omega (arith, name, claim, by, block, end, last);
 }
 
-complete_proofs : (left : ℕ) (ts : List Terminal) → Complete (only 0) Proofs ts (proofs_at left ts)
+-- the proofs, where no others follow them
+pub complete_proofs : {q : Set} → In q (others (only (code sign.Proofs))) → (left : ℕ) (ts : List Terminal) → Complete q Proofs ts (proofs_at left ts)
 unfolding proofs_at Proofs proof_row
-complete_proofs left ts = complete_optional sign.Proofs (starts_then starts_the) (only_in _ refl)
+complete_proofs behind left ts = complete_optional sign.Proofs (starts_then starts_the) behind
     (complete_next (complete_the left sign.Proofs ts) λ p. complete_next (complete_the left sign.OpenBrace p.1) λ o.
     complete_then (only (code sign.CloseBrace)) (complete_row (braced (complete_proof (left - 1)) shrinks_proof (proof_fork {q = any}).left (only_in _ refl)) o.1)
     (λ xs. complete_next (complete_the (left - 1) sign.CloseBrace xs.1) λ e. complete_yields) (λ xs. follows_starts (starts_then starts_the) same_in))
@@ -265,10 +266,6 @@ record LineOfOne (n line : ℕ) (ts rest : List Terminal) (x : ℕ) : Type 0 whe
 -- "version" 1
 abbrev VersionOne : Spelled ℕ
 VersionOne = The sign.Version >>= λ line. ANumber >>= λ n. LineOfOne n line
-
--- a text of version 1
-abbrev TextOfOne : Spelled (RawMachine × List RawProof)
-TextOfOne = VersionOne >> (The sign.Semicolon >> (Machine >>= λ m. Proofs >>= λ ps. Yields (m, ps)))
 
 one_is_read : {q : Set} {n line : ℕ} {ts : List Terminal} (at_line : ℕ) → Complete q (LineOfOne n line) ts (if n == 1 then Ok (line, ts) else Err (fault.Version at_line))
 one_is_read {q = q} {n = n} {line = line} {ts = ts} at_line = record {
@@ -290,19 +287,13 @@ ends_case {g = g} (Ok v) one next follows y d =
     (next v).at y (subst (λ z. g z.0 z.1 [] y) (sym h) d.next)
 ends_case (Err f) one next follows y d = record { is = (one.at d.value d.middle d.one ((follows d.value).at d.middle [] y d.next refl)).is }
 
-ends_then : {A B : Type 0} {m : Spelled A} {ts : List Terminal} {r : Read A} {g : A → Spelled B} {f : A × List Terminal → Result B Fault} (p : Set)
+pub ends_then : {A B : Type 0} {m : Spelled A} {ts : List Terminal} {r : Read A} {g : A → Spelled B} {f : A × List Terminal → Result B Fault} (p : Set)
     → Complete p m ts r → ((v : A × List Terminal) → Ends (g v.0) v.1 (f v)) → ((x : A) → Follows (only 0) p (g x)) → Ends (Then m g) ts (outcome.◌>>=◌ r f)
 ends_then {r = r} p one next follows = record { at = ends_case r one next follows }
 
 ends_all : {A : Type 0} (x : A) (ts : List Terminal) → Ends (Yields x) ts (at_end x ts)
 ends_all x [] = record { at = λ y d. record { is = sym d.is } }
 ends_all x (w ∷ ws) = record { at = λ y d. let e : ◌≡◌ {A = List Terminal} (w ∷ ws) [] = d.none in absurd cc }
-
-text_ends : (ts : List Terminal) → Ends TextOfOne ts (text_of ts)
-unfolding text_of
-text_ends ts =
-    ends_then any (complete_version 65 ts) (λ v. ends_then any (complete_the 65 sign.Semicolon v.1) (λ s. ends_then any (complete_machine 65 s.1) (λ m.
-    ends_then (only 0) (complete_proofs 65 m.1) (λ ps. ends_all (m.0, ps.0) ps.1) (λ ps. follows_yields same_in)) (λ m. follows_any)) (λ s. follows_any)) (λ v. follows_any)
 
 -- the number that a version spells is 1, where the second terminal says 1
 version_one : (ts rest : List Terminal) (x : ℕ) → (d : The sign.Version ts rest x) → (us : List Terminal) (n : ℕ) → ANumber rest us n → IsVersionOne ts → n ≡ 1
@@ -319,20 +310,20 @@ version_one (w ∷ v ∷ vs) rest x d us n number one =
 -- ---- texts of other versions
 
 -- too deep, or of another version
-abbrev Stops : Fault → Type 0
+abbrev pub Stops : Fault → Type 0
 Stops (fault.Deep line) = Unit {0}
 Stops (fault.Version line) = Unit {0}
 Stops fault.Ended = ⊥
 Stops (fault.Wanted line) = ⊥
 Stops (fault.Unbuilt line) = ⊥
 
-abbrev IsStopped : {A : Type 0} → Result A Fault → Type 0
+abbrev pub IsStopped : {A : Type 0} → Result A Fault → Type 0
 IsStopped (Ok x) = ⊥
 IsStopped (Err f) = Stops f
 
 -- the same as one fact
-record Stopped {A : Type 0} (r : Result A Fault) : Type 0 where
-  is : IsStopped r
+pub record Stopped {A : Type 0} (r : Result A Fault) : Type 0 where
+  pub is : IsStopped r
 
 deep_stops : (f : Fault) → Excused f → Stops f
 deep_stops (fault.Deep line) e = tt
@@ -361,19 +352,20 @@ version_stops ts us vs line n w number other =
     then_stopped _ (sign_at 65 sign.Version ts) ((complete_the 65 sign.Version ts).at line us w refl)
     (then_stopped _ (number_at 65 us) ((complete_number 65 us).at n vs number refl) (other_stops _ _ (n == 1) other))
 
--- a text is read, where it is not too deep; or it is of another version than 1
-text_read : (ts : List Terminal) (x : RawMachine × List RawProof) → Text ts [] x → Met (text_of ts) x ⊎ ((IsVersionOne ts → ⊥) × Stopped (text_of ts))
-unfolding text_of Text Version
-text_read ts x d = go (n.value == 1) refl
+-- what goes on behind the version is read, where it is not too deep; or the version is another than 1
+pub read_behind : {A : Type 0} {m : Spelled A} {f : ℕ × List Terminal → Result A Fault} → ((v : ℕ × List Terminal) → Ends m v.1 (f v)) → (ts : List Terminal) (x : A)
+    → Then Version (λ v. m) ts [] x → Met (outcome.◌>>=◌ (version_at 65 ts) f) x ⊎ ((IsVersionOne ts → ⊥) × Stopped (outcome.◌>>=◌ (version_at 65 ts) f))
+unfolding Version
+read_behind {f = f} behind ts x d = go (n.value == 1) refl
   where
     n : Then ANumber (λ m. Yields d.one.value) d.one.middle d.middle d.value
     n = d.one.next
 
-    go : (c : Bool) → (n.value == 1) ≡ c → Met (text_of ts) x ⊎ ((IsVersionOne ts → ⊥) × Stopped (text_of ts))
+    go : (c : Bool) → (n.value == 1) ≡ c → Met (outcome.◌>>=◌ (version_at 65 ts) f) x ⊎ ((IsVersionOne ts → ⊥) × Stopped (outcome.◌>>=◌ (version_at 65 ts) f))
     go true e =
         let line : LineOfOne n.value d.one.value n.middle d.middle d.value = record { is_one = eqb-true n.value 1 e; yields = n.next } in
         let version : VersionOne ts d.middle d.value = record { value = d.one.value; middle = d.one.middle; one = d.one.one; next = record { value = n.value; middle = n.middle; one = n.one; next = line } } in
-        inl ((text_ends ts).at x (record { value = d.value; middle = d.middle; one = version; next = d.next }))
+        inl ((ends_then any (complete_version 65 ts) behind (λ v. follows_any)).at x (record { value = d.value; middle = d.middle; one = version; next = d.next }))
     go false e =
         inr (
           (λ one. is_other n.value e (version_one ts d.one.middle d.one.value d.one.one n.middle n.value n.one one)),
@@ -383,9 +375,16 @@ text_read ts x d = go (n.value == 1) refl
         is_other : (m : ℕ) → (m == 1) ≡ false → m ≡ 1 → ⊥
         is_other m f one = let same : (m == 1) ≡ true = ap (λ z. z == 1) one in absurd cc
 
+-- a text is read, where it is not too deep; or it is of another version than 1
+text_read : (ts : List Terminal) (x : RawMachine × List RawProof) → Text ts [] x → Met (text_of ts) x ⊎ ((IsVersionOne ts → ⊥) × Stopped (text_of ts))
+unfolding text_of Text
+text_read ts x d =
+    read_behind (λ v. ends_then any (complete_the 65 sign.Semicolon v.1) (λ s. ends_then any (complete_machine 65 s.1) (λ m.
+    ends_then (only 0) (complete_proofs (only_in _ refl) 65 m.1) (λ ps. ends_all (m.0, ps.0) ps.1) (λ ps. follows_yields same_in)) (λ m. follows_any)) (λ s. follows_any)) ts x d
+
 -- ---- what refuses
 
-deep_is : (line : ℕ) (f : Fault) → Excused f → (refusal_of line f).rule ≡ rule.G3
+pub deep_is : (line : ℕ) (f : Fault) → Excused f → (refusal_of line f).rule ≡ rule.G3
 unfolding refusal_of
 deep_is line (fault.Deep l) e = refl
 deep_is line (fault.Version l) e = absurd e
@@ -394,7 +393,7 @@ deep_is line (fault.Wanted l) e = absurd e
 deep_is line (fault.Unbuilt l) e = absurd e
 
 -- a fault of depth or version breaks its rule
-stops_is : (line : ℕ) (f : Fault) → Stops f → ((refusal_of line f).rule ≡ rule.G3) ⊎ ((refusal_of line f).rule ≡ rule.G4)
+pub stops_is : (line : ℕ) (f : Fault) → Stops f → ((refusal_of line f).rule ≡ rule.G3) ⊎ ((refusal_of line f).rule ≡ rule.G4)
 unfolding refusal_of
 stops_is line (fault.Deep l) e = inl refl
 stops_is line (fault.Version l) e = inr refl

@@ -198,10 +198,10 @@ unfolding version_at Version
 version_sound left ts = then_sound (sign_sound left sign.Version ts) λ v. then_sound (number_sound left v.1) λ n. either (n.0 == 1) yields stops
 
 -- what is read here to the end of the terminals is spelled by all of them
-record Whole {A : Type 0} (m : Spelled A) (ts : List Terminal) (r : Result A Fault) : Type 0 where
-  holds : (x : A) → r ≡ Ok x → m ts [] x
+pub record Whole {A : Type 0} (m : Spelled A) (ts : List Terminal) (r : Result A Fault) : Type 0 where
+  pub holds : (x : A) → r ≡ Ok x → m ts [] x
 
-whole_then : {A B : Type 0} {m : Spelled A} {ts : List Terminal} {r : Read A} {g : A → Spelled B} {f : A × List Terminal → Result B Fault}
+pub whole_then : {A B : Type 0} {m : Spelled A} {ts : List Terminal} {r : Read A} {g : A → Spelled B} {f : A × List Terminal → Result B Fault}
     → Sound m ts r → ((v : A × List Terminal) → Whole (g v.0) v.1 (f v)) → Whole (Then m g) ts (outcome.◌>>=◌ r f)
 whole_then {r = Ok v} a b = record { holds = λ y e. record { value = v.0; middle = v.1; one = a.holds v.0 v.1 refl; next = (b v).holds y e } }
 whole_then {r = Err f} a b = record { holds = λ y e. absurd cc }
