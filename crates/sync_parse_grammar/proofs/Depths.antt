@@ -1,6 +1,5 @@
 -- How deep parts of a text go, and where they fit a place.
-use Rattle.std.proofs.Common.{◌≡◌, ℕ, zero, suc, ◌-◌, ◌<◌, ◌≤◌, ℤ, List, [], ◌∷◌, map, max, refl, sym, ap, ◌∙◌, subst, arith}
-use Rattle.sync_lex.specs.declared.terminals.Terminal.{Terminal}
+use Rattle.std.proofs.Common.{◌≡◌, ℕ, suc, ◌-◌, ◌<◌, ◌≤◌, ℤ, List, [], ◌∷◌, map, max, refl, sym, ap, ◌∙◌, subst, arith}
 use Rattle.sync_parse_exprs.specs.declared.raw_names.RawName.{RawName}
 use Rattle.sync_parse_exprs.specs.declared.expressions.RawExpr.{RawExpr, fold-roll-RawExpr}
 use Rattle.sync_parse_exprs.specs.declared.expressions.RawExprKind.{RawExprKind, fold-RawExprKind, fold-roll-RawExprKind, roll-RawExprKind}
@@ -19,7 +18,7 @@ use Rattle.sync_parse.specs.declared.scripts.RawStepKind.TheOpen.{RawStepKind-F}
 use Rattle.sync_parse.specs.declared.scripts.RawStepKind.TheVariants as step
 use Rattle.sync_parse.specs.declared.scripts.RawStepKind.TheVariants.{rolls-Same, rolls-Sum, rolls-Inst, rolls-Parts, rolls-Split, rolls-Cut, rolls-Read, rolls-Size, rolls-Total, rolls-Cong}
 use Rattle.sync_parse_exprs.specs.Expressions.{placed}
-use Rattle.sync_parse_grammar.specs.Shallow.{Depth, flat, with_both, with_all, in_brackets, with_run, Run, signs, sums, ands, ors, implications, only, Extent, single, longer, joined_extent, depth_in, kind_extent, extent_at, extent, expr_depth, step_kind_depth, block_depth_of, step_depth_of, block_depth}
+use Rattle.sync_parse_grammar.specs.Shallow.{Depth, flat, with_both, with_all, in_brackets, with_run, Run, signs, Extent, single, longer, joined_extent, depth_in, kind_extent, extent_at, extent, expr_depth, step_kind_depth, block_depth_of, step_depth_of, block_depth}
 
 -- ---- depths that fit
 

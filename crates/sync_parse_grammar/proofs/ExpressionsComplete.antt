@@ -447,8 +447,8 @@ chain_case left s links op item k c i j l start zero held fits long (w ∷ ws) x
     let h = k.finds (w ∷ ws) us o d in
     let found : op w ≡ Some o = ap op (head_is w h.0 ws us h.1) ∙ h.2 in
     let full : FitsKind left x → ⊥ = λ whole_fits.
-        let small : run_of s held < 64 = linked_small left s links start (w ∷ ws) us o d held y (chain_back left s links start (kind.Two o (placed_at held start) y) vs rest x more_d whole_fits) in
-        omega (arith, small, long) in
+    let small : run_of s held < 64 = linked_small left s links start (w ∷ ws) us o d held y (chain_back left s links start (kind.Two o (placed_at held start) y) vs rest x more_d whole_fits) in
+    omega (arith, small, long) in
     subst (λ z. Met {A = RawExprKind × List Terminal} (if is_some z then Err (fault.Deep w.line) else Ok (held, w ∷ ws)) (x, rest) (FitsKind left x)) (sym found) (too_deep full)
 chain_case left s links op item k c i j l start (suc count) held fits long (w ∷ ws) x rest (Chain.goes_on {us = us} {vs = vs} {o = o} y d f more_d) e =
     let h = k.finds (w ∷ ws) us o d in
@@ -459,7 +459,7 @@ chain_case left s links op item k c i j l start (suc count) held fits long (w �
     let read = subst (λ zs. Met (whole item zs) (y, vs) (FitsExpr left y)) (sym tail) one in
     let longer : run_of s more ≡ suc (run_of s held) = linked_run s links start (w ∷ ws) us o d held y in
     let next : FitsExpr left y → Met (chain op item (first_line start) count more vs) (x, rest) (FitsKind left x) = λ behind.
-        chain_case left s links op item k c i j l start count more (linked_fits left s links start (w ∷ ws) us o d held y (omega (arith, long)) fits behind) (omega (arith, long, longer)) vs x rest more_d e in
+    chain_case left s links op item k c i j l start count more (linked_fits left s links start (w ∷ ws) us o d held y (omega (arith, long)) fits behind) (omega (arith, long, longer)) vs x rest more_d e in
     subst (λ z. Met {A = RawExprKind × List Terminal} (elim z [
       | None ↦ Ok (held, w ∷ ws)
       | Some o ↦ outcome.◌>>=◌ (whole item ws) (λ x. chain op item (first_line start) count (kind.Two o (placed held (first_line start)) x.0) x.1)
@@ -646,8 +646,7 @@ implies_fits : (left run below : ℕ) (z y : RawExprKind) (line other : ℕ) →
 implies_fits left run below z y line other small is f fits =
     let few : run_of implications y ≤ below = fits.0 in
     let e = implication_run z y line other in
-    let own : (extent (placed y other)).run implications ≡ run_of implications y = run_placed implications y other in
-    (
+    let own : (extent (placed y other)).run implications ≡ run_of implications y = run_placed implications y other in (
       omega (arith, few, e, is),
       fits_longer left implications _ _ _ (of_implies (placed z line) (placed y other)) (omega (arith, few, own, is, small))
           (fits_both left (expr_depth (placed z line)) (expr_depth (placed y other)) (fits_placed left z line f) (fits_placed left y other fits.1)),
@@ -660,8 +659,7 @@ fits_first_side left z y line other f =
 fits_implied : (left run below : ℕ) (z y : RawExprKind) (line other : ℕ) → run ≡ suc below → FitsImplied left run (kind.Two operator.Implies (placed z line) (placed y other)) → FitsImplied left below y
 fits_implied left run below z y line other is fits =
     let few : run_of implications (kind.Two operator.Implies (placed z line) (placed y other)) ≤ run = fits.0 in
-    let e = implication_run z y line other in
-    (
+    let e = implication_run z y line other in (
       omega (arith, few, e, is),
       placed_fits left y other (both_second left (expr_depth (placed z line)) (expr_depth (placed y other)) (longer_fits left implications _ _ _ (of_implies (placed z line) (placed y other)) fits.1)),
     )

@@ -592,7 +592,7 @@ fitted ws x e (inr other) = let s : Stopped {A = RawMachine × List RawProof} (O
 read_shallow : (text : List ℕ) (raw : RawText) → parsed text ≡ Ok raw → IsShallow raw
 read_shallow text raw e =
     let d = read_terminals text raw e in
-    let x = (raw.machine, raw.proofs) in
+    let x : RawMachine × List RawProof = (raw.machine, raw.proofs) in
     shallow_fits raw (fitted d.terminals.list x d.read (text_read d.terminals.list x (text_sound d.terminals.list x d.read)))
 
 pub answer_refuses : (text : List ℕ) (r : Result RawText Stop) → Gives (λ t. t) r (parsed text) → IfErr r (λ s. (tree : RawText) → Spells text tree → MayRefuse s)

@@ -1,5 +1,5 @@
 -- What is read as a machine, as proofs and as a whole text is spelled.
-use Rattle.std.proofs.Common.{◌≡◌, ℕ, ◌-◌, ◌==◌, Bool, true, false, List, [], ◌∷◌, length, Result, Ok, Err, Some, None, if◌then◌else◌, refl, sym, ap, subst}
+use Rattle.std.proofs.Common.{◌≡◌, ℕ, ◌-◌, ◌==◌, Bool, true, false, List, [], ◌∷◌, length, Result, Ok, Err, Some, None, if◌then◌else◌, refl, sym, ap, ◌∙◌}
 use Rattle.sync_base.specs.Outcome as outcome
 use Rattle.sync_base.specs.declared.stops.Refusal.{Refusal}
 use Rattle.sync_base.specs.declared.strategies.OpMode.TheVariants as mode

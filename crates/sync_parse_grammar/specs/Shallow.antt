@@ -1,5 +1,5 @@
--- How deep a raw tree goes: how many brackets are open in it at once, and how long its runs of prefix signs and its chains of
--- operators are. It is shallow where none of these is more than 64.
+-- How deep a raw tree goes: how many brackets are open in it at once, and how long its runs of prefix signs and its
+-- chains of operators are. It is shallow where none of these is more than 64.
 use Rattle.std.specs.Prelude.{ℕ, suc, max, ◌≤◌, List, [], ◌∷◌, map}
 use Rattle.sync_parse_exprs.specs.declared.expressions.RawExpr.{RawExpr, fold-RawExpr}
 use Rattle.sync_parse_exprs.specs.declared.expressions.RawExprKind.TheOpen.{RawExprKind-F, RawExpr-F}
@@ -179,7 +179,9 @@ invariant_depth i = with_both (in_brackets flat) (expr_depth i.form)
 
 -- braces, with all that stands in them
 abbrev pub machine_depth : RawMachine → Depth
-machine_depth m = in_brackets (with_both (with_all (map operation_depth m.operations)) (with_all (map invariant_depth m.invariants)))
+machine_depth m = in_brackets (with_both
+    (with_all (map operation_depth m.operations))
+    (with_all (map invariant_depth m.invariants)))
 
 -- ---- texts
 

@@ -60,7 +60,7 @@ MayRefuse (Refused r) = (r.rule ≡ rule.G3) ⊎ (r.rule ≡ rule.G4)
 abbrev pub IsOfVersionOne : List ℕ → Type 0
 IsOfVersionOne text = (ws : Terminals) × (terminals_in text ≡ Ok ws) × IsVersionOne ws.list
 
--- why such a text may be refused that this tree is spelled by: for want of memory, or too deep, and then the tree is not shallow
+-- why such a text may be refused that spells this tree: for want of memory, or as too deep, and then the tree is not shallow
 abbrev pub MayRefuseVersionOne : RawText → Stop → Type 0
 MayRefuseVersionOne tree Memory = Unit {0}
 MayRefuseVersionOne tree (Refused r) = (r.rule ≡ rule.G3) × ¬ (IsShallow tree)

@@ -22,7 +22,8 @@ pub fn read_tree(alloc: Global, text: &[u8]) -> Result<RawText, Stop>
     ensures spells { IfOk result (λ (t : RawText). Spells text.now t) }
     ensures only { IfOk result (λ (t : RawText). (other : RawText) → Spells text.now other → other ≡ t) }
     ensures refuses { IfErr result (λ s. (tree : RawText) → Spells text.now tree → MayRefuse s) }
-    ensures deep { IfErr result (λ s. IsOfVersionOne text.now → (tree : RawText) → Spells text.now tree → MayRefuseVersionOne tree s) }
+    ensures deep { IfErr result (λ s. IsOfVersionOne text.now → (tree : RawText) → Spells text.now tree
+        → MayRefuseVersionOne tree s) }
     ensures shallow { IfOk result (λ (t : RawText). IsShallow t) }
     ensures scripts { IfOk result (λ (t : RawText). HasScripts text.now (length t.proofs)) }
 {
