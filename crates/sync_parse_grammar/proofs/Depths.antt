@@ -54,16 +54,20 @@ both_second left a b f =
     record { brackets = grind (arith, p); longest = grind (arith, r) }
 
 pub fits_within : (left : ℕ) (d : Depth) → Fits (left - 1) d → Fits left (in_brackets d)
-fits_within left d f = let p : d.brackets < left - 1 = f.brackets in record { brackets = omega (arith, p); longest = f.longest }
+fits_within left d f =
+    let p : d.brackets < left - 1 = f.brackets in record { brackets = omega (arith, p); longest = f.longest }
 
 pub within_fits : (left : ℕ) (d : Depth) → Fits left (in_brackets d) → Fits (left - 1) d
-within_fits left d f = let p : suc d.brackets < left = f.brackets in record { brackets = omega (arith, p); longest = f.longest }
+within_fits left d f =
+    let p : suc d.brackets < left = f.brackets in record { brackets = omega (arith, p); longest = f.longest }
 
 pub fits_run : (left n : ℕ) (d : Depth) → n ≤ 64 → Fits left d → Fits left (with_run n d)
-fits_run left n d small f = let r : d.longest ≤ 64 = f.longest in record { brackets = f.brackets; longest = grind (arith, small, r) }
+fits_run left n d small f =
+    let r : d.longest ≤ 64 = f.longest in record { brackets = f.brackets; longest = grind (arith, small, r) }
 
 pub run_fits : (left n : ℕ) (d : Depth) → Fits left (with_run n d) → Fits left d
-run_fits left n d f = let r : max n d.longest ≤ 64 = f.longest in record { brackets = f.brackets; longest = grind (arith, r) }
+run_fits left n d f =
+    let r : max n d.longest ≤ 64 = f.longest in record { brackets = f.brackets; longest = grind (arith, r) }
 
 pub run_small : (left n : ℕ) (d : Depth) → Fits left (with_run n d) → n ≤ 64
 run_small left n d f = let r : max n d.longest ≤ 64 = f.longest in grind (arith, r)
@@ -78,13 +82,16 @@ abbrev pub Each : {A : Type 0} → (A → Type 0) → List A → Type 0
 Each S [] = Unit {0}
 Each S (x ∷ xs) = S x × Each S xs
 
-pub each_fits : {A : Type 0} (left : ℕ) (f : A → Depth) (xs : List A) → 0 < left → Each (λ x. Fits left (f x)) xs → Fits left (with_all (map f xs))
+pub each_fits : {A : Type 0} (left : ℕ) (f : A → Depth) (xs : List A) → 0 < left → Each (λ x. Fits left (f x)) xs
+    → Fits left (with_all (map f xs))
 each_fits left f [] room h = fits_flat left room
 each_fits left f (x ∷ xs) room h = fits_both left (f x) (with_all (map f xs)) h.0 (each_fits left f xs room h.1)
 
-pub fits_each : {A : Type 0} (left : ℕ) (f : A → Depth) (xs : List A) → Fits left (with_all (map f xs)) → Each (λ x. Fits left (f x)) xs
+pub fits_each : {A : Type 0} (left : ℕ) (f : A → Depth) (xs : List A) → Fits left (with_all (map f xs))
+    → Each (λ x. Fits left (f x)) xs
 fits_each left f [] h = tt
-fits_each left f (x ∷ xs) h = (both_first left (f x) (with_all (map f xs)) h, fits_each left f xs (both_second left (f x) (with_all (map f xs)) h))
+fits_each left f (x ∷ xs) h =
+    (both_first left (f x) (with_all (map f xs)) h, fits_each left f xs (both_second left (f x) (with_all (map f xs)) h))
 
 -- ---- expressions
 
@@ -125,7 +132,8 @@ of_name x = record { is = fold-roll-RawExprKind Extent Extent kind_extent extent
 
 pub of_param : (line : ℕ) (x : RawName) → IsSingle (kind.Param line x) flat
 unfolding roll-RawExprKind denote.Hole.Carrier.roll
-of_param line x = record { is = fold-roll-RawExprKind Extent Extent kind_extent extent_at (RawExprKind-F.Param line x) }
+of_param line x =
+    record { is = fold-roll-RawExprKind Extent Extent kind_extent extent_at (RawExprKind-F.Param line x) }
 
 pub of_nil : IsSingle kind.Nil flat
 unfolding roll-RawExprKind denote.Hole.Carrier.roll
@@ -133,7 +141,8 @@ of_nil = record { is = fold-roll-RawExprKind Extent Extent kind_extent extent_at
 
 pub of_special : (w : Special) (line : ℕ) → IsSingle (kind.Special w line) flat
 unfolding roll-RawExprKind denote.Hole.Carrier.roll
-of_special w line = record { is = fold-roll-RawExprKind Extent Extent kind_extent extent_at (RawExprKind-F.Special w line) }
+of_special w line =
+    record { is = fold-roll-RawExprKind Extent Extent kind_extent extent_at (RawExprKind-F.Special w line) }
 
 pub of_bracketed : (a : RawExpr) → IsSingle (kind.Bracketed a) (in_brackets (expr_depth a))
 unfolding roll-RawExprKind denote.Hole.Carrier.roll
@@ -143,7 +152,8 @@ depths_in : (args : List RawExpr) → map depth_in (map extent args) ≡ map exp
 depths_in [] = refl
 depths_in (a ∷ args) = ap (λ (ds : List Depth). expr_depth a ∷ ds) (depths_in args)
 
-pub of_call : (f : Function) (line : ℕ) (args : List RawExpr) → IsSingle (kind.Call f line args) (in_brackets (with_all (map expr_depth args)))
+pub of_call : (f : Function) (line : ℕ) (args : List RawExpr)
+    → IsSingle (kind.Call f line args) (in_brackets (with_all (map expr_depth args)))
 unfolding roll-RawExprKind denote.Hole.Carrier.roll
 of_call f line args = record {
   is = ap extent_of (rolls-Call f line args) ∙ fold-roll-RawExprKind Extent Extent kind_extent extent_at (RawExprKind-F.Call f line args)
@@ -198,48 +208,66 @@ FitsStep left s = Fits left (step_depth s)
 abbrev pub FitsBlock : ℕ → RawBlock → Type 0
 FitsBlock left b = Fits left (block_depth b)
 
-pub step_is : (x : RawStepKind) (line : ℕ) → step_depth (roll-RawScriptStep (record { what = x; line = line })) ≡ depth_of x
-step_is x line = fold-roll-RawScriptStep Depth Depth Depth step_kind_depth block_depth_of step_depth_of (record { what = x; line = line })
+pub step_is : (x : RawStepKind) (line : ℕ)
+    → step_depth (roll-RawScriptStep (record { what = x; line = line })) ≡ depth_of x
+step_is x line =
+    fold-roll-RawScriptStep Depth Depth Depth step_kind_depth block_depth_of step_depth_of (record { what = x; line = line })
 
-pub block_is : (steps : List RawScriptStep) (line : ℕ) → block_depth (roll-RawBlock (record { steps = steps; end_line = line })) ≡ in_brackets (with_all (map step_depth steps))
-block_is steps line = fold-roll-RawBlock Depth Depth Depth step_kind_depth block_depth_of step_depth_of (record { steps = steps; end_line = line })
+pub block_is : (steps : List RawScriptStep) (line : ℕ)
+    → block_depth (roll-RawBlock (record { steps = steps; end_line = line })) ≡ in_brackets (with_all (map step_depth steps))
+block_is steps line =
+    fold-roll-RawBlock Depth Depth Depth step_kind_depth block_depth_of step_depth_of (record { steps = steps; end_line = line })
 
 pub of_same : depth_of step.Same ≡ flat
 unfolding roll-RawStepKind denote.Hole.Carrier.roll
-of_same = ap depth_of rolls-Same ∙ fold-roll-RawStepKind Depth Depth Depth step_kind_depth block_depth_of step_depth_of RawStepKind-F.Same
+of_same =
+    ap depth_of rolls-Same ∙ fold-roll-RawStepKind Depth Depth Depth step_kind_depth block_depth_of step_depth_of RawStepKind-F.Same
 
 pub of_sum : (ps : List RawPart) → depth_of (step.Sum ps) ≡ flat
 unfolding roll-RawStepKind denote.Hole.Carrier.roll
-of_sum ps = ap depth_of (rolls-Sum ps) ∙ fold-roll-RawStepKind Depth Depth Depth step_kind_depth block_depth_of step_depth_of (RawStepKind-F.Sum ps)
+of_sum ps =
+    ap depth_of (rolls-Sum ps) ∙ fold-roll-RawStepKind Depth Depth Depth step_kind_depth block_depth_of step_depth_of (RawStepKind-F.Sum ps)
 
-pub of_inst : (h : RawHypName) (es : List RawExpr) (x : RawName) → depth_of (step.Inst h es x) ≡ in_brackets (with_all (map expr_depth es))
+pub of_inst : (h : RawHypName) (es : List RawExpr) (x : RawName)
+    → depth_of (step.Inst h es x) ≡ in_brackets (with_all (map expr_depth es))
 unfolding roll-RawStepKind denote.Hole.Carrier.roll
-of_inst h es x = ap depth_of (rolls-Inst h es x) ∙ fold-roll-RawStepKind Depth Depth Depth step_kind_depth block_depth_of step_depth_of (RawStepKind-F.Inst h es x)
+of_inst h es x =
+    ap depth_of (rolls-Inst h es x) ∙ fold-roll-RawStepKind Depth Depth Depth step_kind_depth block_depth_of step_depth_of (RawStepKind-F.Inst h es x)
 
 pub of_parts : (h : RawHypName) (x y : RawName) → depth_of (step.Parts h x y) ≡ flat
 unfolding roll-RawStepKind denote.Hole.Carrier.roll
-of_parts h x y = ap depth_of (rolls-Parts h x y) ∙ fold-roll-RawStepKind Depth Depth Depth step_kind_depth block_depth_of step_depth_of (RawStepKind-F.Parts h x y)
+of_parts h x y =
+    ap depth_of (rolls-Parts h x y) ∙ fold-roll-RawStepKind Depth Depth Depth step_kind_depth block_depth_of step_depth_of (RawStepKind-F.Parts h x y)
 
-pub of_split : (h : RawHypName) (x : RawName) (b c : RawBlock) → depth_of (step.Split h x b c) ≡ with_both (block_depth b) (block_depth c)
+pub of_split : (h : RawHypName) (x : RawName) (b c : RawBlock)
+    → depth_of (step.Split h x b c) ≡ with_both (block_depth b) (block_depth c)
 unfolding roll-RawStepKind denote.Hole.Carrier.roll
-of_split h x b c = ap depth_of (rolls-Split h x b c) ∙ fold-roll-RawStepKind Depth Depth Depth step_kind_depth block_depth_of step_depth_of (RawStepKind-F.Split h x b c)
+of_split h x b c =
+    ap depth_of (rolls-Split h x b c) ∙ fold-roll-RawStepKind Depth Depth Depth step_kind_depth block_depth_of step_depth_of (RawStepKind-F.Split h x b c)
 
-pub of_cut : (e : RawExpr) (x : RawName) (b : RawBlock) → depth_of (step.Cut e x b) ≡ with_both (expr_depth e) (block_depth b)
+pub of_cut : (e : RawExpr) (x : RawName) (b : RawBlock)
+    → depth_of (step.Cut e x b) ≡ with_both (expr_depth e) (block_depth b)
 unfolding roll-RawStepKind denote.Hole.Carrier.roll
-of_cut e x b = ap depth_of (rolls-Cut e x b) ∙ fold-roll-RawStepKind Depth Depth Depth step_kind_depth block_depth_of step_depth_of (RawStepKind-F.Cut e x b)
+of_cut e x b =
+    ap depth_of (rolls-Cut e x b) ∙ fold-roll-RawStepKind Depth Depth Depth step_kind_depth block_depth_of step_depth_of (RawStepKind-F.Cut e x b)
 
 pub of_read : (m k : RawExpr) (x : RawName) → depth_of (step.Read m k x) ≡ with_both (expr_depth m) (expr_depth k)
 unfolding roll-RawStepKind denote.Hole.Carrier.roll
-of_read m k x = ap depth_of (rolls-Read m k x) ∙ fold-roll-RawStepKind Depth Depth Depth step_kind_depth block_depth_of step_depth_of (RawStepKind-F.Read m k x)
+of_read m k x =
+    ap depth_of (rolls-Read m k x) ∙ fold-roll-RawStepKind Depth Depth Depth step_kind_depth block_depth_of step_depth_of (RawStepKind-F.Read m k x)
 
 pub of_size : (m k : RawExpr) (x : RawName) → depth_of (step.Size m k x) ≡ with_both (expr_depth m) (expr_depth k)
 unfolding roll-RawStepKind denote.Hole.Carrier.roll
-of_size m k x = ap depth_of (rolls-Size m k x) ∙ fold-roll-RawStepKind Depth Depth Depth step_kind_depth block_depth_of step_depth_of (RawStepKind-F.Size m k x)
+of_size m k x =
+    ap depth_of (rolls-Size m k x) ∙ fold-roll-RawStepKind Depth Depth Depth step_kind_depth block_depth_of step_depth_of (RawStepKind-F.Size m k x)
 
 pub of_total : (m k : RawExpr) (x : RawName) → depth_of (step.Total m k x) ≡ with_both (expr_depth m) (expr_depth k)
 unfolding roll-RawStepKind denote.Hole.Carrier.roll
-of_total m k x = ap depth_of (rolls-Total m k x) ∙ fold-roll-RawStepKind Depth Depth Depth step_kind_depth block_depth_of step_depth_of (RawStepKind-F.Total m k x)
+of_total m k x =
+    ap depth_of (rolls-Total m k x) ∙ fold-roll-RawStepKind Depth Depth Depth step_kind_depth block_depth_of step_depth_of (RawStepKind-F.Total m k x)
 
-pub of_cong : (m j k : RawExpr) (x : RawName) → depth_of (step.Cong m j k x) ≡ with_both (expr_depth m) (with_both (expr_depth j) (expr_depth k))
+pub of_cong : (m j k : RawExpr) (x : RawName)
+    → depth_of (step.Cong m j k x) ≡ with_both (expr_depth m) (with_both (expr_depth j) (expr_depth k))
 unfolding roll-RawStepKind denote.Hole.Carrier.roll
-of_cong m j k x = ap depth_of (rolls-Cong m j k x) ∙ fold-roll-RawStepKind Depth Depth Depth step_kind_depth block_depth_of step_depth_of (RawStepKind-F.Cong m j k x)
+of_cong m j k x =
+    ap depth_of (rolls-Cong m j k x) ∙ fold-roll-RawStepKind Depth Depth Depth step_kind_depth block_depth_of step_depth_of (RawStepKind-F.Cong m j k x)
