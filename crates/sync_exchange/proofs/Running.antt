@@ -2,20 +2,12 @@
 use Rattle.std.proofs.Common.{◌≡◌, ℕ, ◌+◌, ◌<◌, ℤ, Bool, List, [], length, map, drop, get_or, Ok, refl, sym, ap, ◌∙◌, nat_lt, slice_index_or, if◌then◌else◌}
 use Rattle.std.proofs.lemmas.List.{at_drop_more}
 use Rattle.sync_base.specs.Outcome.{◌>>=◌}
-use Rattle.sync_terms.specs.Maps as maps
-use Rattle.sync_terms.specs.Values.{Valuation}
 use Rattle.sync_machine.specs.declared.fields.Field.{Field}
-use Rattle.sync_base.specs.declared.strategies.Strategy.{Strategy}
-use Rattle.sync_base.specs.declared.strategies.Strategy.TheVariants.{Variable, Constant, NotTokenized, Option as OptionField, Map as MapField, Set, Multiset, Count, PersistentOption, PersistentMap, PersistentSet, PersistentCount, StorageMap}
-use Rattle.sync_machine.specs.Machines.{StepTree, OperationTree}
-use Rattle.sync_machine.specs.States.{Value, Mapped, State, strategy_at}
-use Rattle.sync_join.specs.declared.tokens.Token.{Token}
-use Rattle.sync_join.specs.Join.{entries_of, number_of, tokens_of, map_of}
+use Rattle.sync_machine.specs.Machines.{StepTree}
 use Rattle.sync_rules.specs.Slots.{SlotTree}
 use Rattle.sync_exchange.specs.declared.hands.XStop.{XStop}
-use Rattle.sync_exchange.specs.Exchange.{Exchanging, Answer, use_variable, use_variables, does, does_all, seen, argument, names_before}
+use Rattle.sync_exchange.specs.Exchange.{Exchanging, Answer, use_variable, use_variables, does, does_all}
 use Rattle.sync_exchange.specs.Outcomes.{Stops}
-use Rattle.sync_exchange.specs.Works.{seen_with, AreStores}
 use Rattle.sync_exchange.proofs.Asking.{stops-bind, stops-is}
 
 -- ---- the slots of variables

@@ -1,4 +1,4 @@
-use Rattle.std.proofs.Common.{ℤ, Option, IfOk, subst, sym, ap, ◌∙◌}
+use Rattle.std.proofs.Common.{◌≡◌, ℤ, Option, IfOk, subst, sym, ap, ◌∙◌}
 use Rattle.sync_terms.specs.Maps as maps
 use Rattle.sync_join.specs.Join.{entries_of}
 use Rattle.sync_exchange.specs.Works.{outer_meaning, outer_value}
