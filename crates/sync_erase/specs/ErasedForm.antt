@@ -1,10 +1,9 @@
 -- The erased form: the text of a program's code, a statement on each line, two spaces of indentation a level.
-use Rattle.std.specs.Prelude.{◌≡◌, ℕ, List, [], ◌∷◌, ◌++◌, codes, Option, Some, None, slice_get}
+use Rattle.std.specs.Prelude.{◌≡◌, ℕ, List, [], ◌∷◌, ◌++◌, codes, Option, Some, None}
 use Rattle.std.specs.Fmt.{decimal}
 use Rattle.std.specs.List.{flat_map}
-use Rattle.std.specs.Option.{option_map_or}
-use Rattle.sync_base.specs.declared.names.Name.{Name}
 use Rattle.sync_base.specs.declared.names.NameList.{NameList}
+use Rattle.sync_base.specs.Names.{spelling}
 use Rattle.sync_thread.specs.declared.operands.Calc.{Calc}
 use Rattle.sync_thread.specs.declared.program.CodeStmt.{CodeStmt}
 use Rattle.sync_thread.specs.Views.{code_stmt_tree}
@@ -19,23 +18,19 @@ use Rattle.sync_thread.specs.declared.operands.Rel.TheVariants as rel
 use Rattle.sync_thread.specs.declared.operands.WordOp.{WordOp}
 use Rattle.sync_thread.specs.declared.operands.WordOp.TheVariants.{Load, Store, Swap, Add, Sub, Cas}
 use Rattle.sync_thread.specs.Control.{Brace, Do, On, OnWhen, If, Loop, Next, Break, Meet, End}
-use Rattle.sync_thread.specs.Code.{CodeSet, CodeShared, CodeList, CodeThread, CodeTree, Read, Write, Peek, Operate, Print}
-
--- how the name with this number is spelled; a number that no name has is spelled by no byte
-abbrev pub name_text : NameList → ℕ → List ℕ
-name_text names number = option_map_or (λ (n : Name). n.bytes) (slice_get names.list number) []
+use Rattle.sync_thread.specs.Code.{CodeShared, CodeList, CodeThread, CodeTree, Read, Write, Peek, Operate, Print}
 
 abbrev pub operand_text : NameList → Opd → List ℕ
 operand_text names (Number n) = decimal n
-operand_text names (Local x) = name_text names x
+operand_text names (Local x) = spelling names x
 
 -- an element of an array
 abbrev pub element_text : NameList → ℕ → Opd → List ℕ
-element_text names x i = name_text names x ++ codes "[" ++ operand_text names i ++ codes "]"
+element_text names x i = spelling names x ++ codes "[" ++ operand_text names i ++ codes "]"
 
 -- what is given to a local
 abbrev pub given_text : NameList → ℕ → List ℕ
-given_text names x = name_text names x ++ codes " = "
+given_text names x = spelling names x ++ codes " = "
 
 abbrev pub maybe_given_text : NameList → Option ℕ → List ℕ
 maybe_given_text names (Some x) = given_text names x
@@ -73,7 +68,7 @@ step_text names (Read x c i) = given_text names x ++ codes "read " ++ element_te
 step_text names (Write c i a) = codes "write " ++ element_text names c i ++ codes " = " ++ operand_text names a
 step_text names (Peek x c i) = given_text names x ++ codes "peek " ++ element_text names c i
 step_text names (Operate x op w i) = maybe_given_text names x ++ operation_text names (element_text names w i) op
-step_text names (Print l a) = codes "print " ++ name_text names l ++ codes " " ++ operand_text names a
+step_text names (Print l a) = codes "print " ++ spelling names l ++ codes " " ++ operand_text names a
 
 -- a line with this indentation
 abbrev pub line_text : List ℕ → List ℕ → List ℕ
@@ -119,7 +114,7 @@ Prints names indent stmt old new =
 -- an array: its kind and name, its length and first value
 abbrev pub array_text : NameList → List ℕ → ℕ → ℕ → ℕ → List ℕ
 array_text names kind x len init =
-    line_text [] (kind ++ name_text names x ++ codes "[" ++ decimal len ++ codes "] = " ++ decimal init ++ codes ";")
+    line_text [] (kind ++ spelling names x ++ codes "[" ++ decimal len ++ codes "] = " ++ decimal init ++ codes ";")
 
 abbrev pub decl_text : NameList → CodeDecl → List ℕ
 decl_text names (decl.Word x n v) = array_text names (codes "word ") x n v
@@ -131,7 +126,7 @@ block_text names opening list =
     line_text [] (opening ++ codes " {") ++ list_text names (codes "  ") list ++ line_text [] (codes "}")
 
 abbrev pub thread_text : NameList → CodeThread → List ℕ
-thread_text names t = block_text names (codes "thread " ++ name_text names t.name) t.body
+thread_text names t = block_text names (codes "thread " ++ spelling names t.name) t.body
 
 abbrev pub final_text : NameList → Option CodeList → List ℕ
 final_text names (Some list) = block_text names (codes "final") list

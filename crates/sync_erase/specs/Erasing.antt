@@ -5,7 +5,8 @@ use Rattle.sync_thread.specs.declared.program.Atomic.{Atomic, fold-Atomic}
 use Rattle.sync_thread.specs.declared.program.CodeStmt.{CodeStmt}
 use Rattle.sync_thread.specs.Programs.{ListTree}
 use Rattle.sync_thread.specs.Code.{code_list}
-use Rattle.sync_thread.specs.Views.{Then, TailThen, kind_then, tail_then, atomic_then, list_then, stmt_then, when_then, code_before, code_stmt_tree}
+use Rattle.sync_thread.specs.Views.{Then, TailThen, kind_then, tail_then, atomic_then, list_then, stmt_then, when_then}
+use Rattle.sync_thread.specs.Views.{code_before, code_stmt_tree}
 
 -- an operation on a word, as what it puts before the rest of its list
 abbrev pub atomic_tree : Stored → Atomic → ℕ → Then

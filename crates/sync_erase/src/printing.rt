@@ -2,9 +2,13 @@
 ghost use Rattle.std.specs.Prelude.{◌≡◌, ◌++◌, ◌∷◌, [], codes, map, option_map, IfOk, OnOk};
 ghost use Rattle.std.specs.Fmt.{decimal};
 ghost use Rattle.std.specs.List.{flat_map};
+ghost use Rattle.sync_base.specs.Names.{spelling};
 ghost use Rattle.sync_thread.specs.Code.{Operate, Print, Write};
 ghost use Rattle.sync_thread.specs.Views.{code_list_tree, code_thread_tree, code_tree};
-ghost use Rattle.sync_erase.specs.ErasedForm.{Prints, array_text, calculation_text, code_text, condition_text, decl_text, deeper, element_text, final_text, given_text, line_text, list_text, maybe_given_text, name_text, operand_text, operation_text, relation_text, step_text, thread_text};
+ghost use Rattle.sync_erase.specs.ErasedForm.{Prints, array_text, calculation_text, code_text, condition_text};
+ghost use Rattle.sync_erase.specs.ErasedForm.{decl_text, deeper, element_text, final_text, given_text, line_text};
+ghost use Rattle.sync_erase.specs.ErasedForm.{list_text, maybe_given_text, operand_text, operation_text};
+ghost use Rattle.sync_erase.specs.ErasedForm.{relation_text, step_text, thread_text};
 
 use sqlite_items::Items;
 use std::alloc::{AllocError, Global};
@@ -40,21 +44,11 @@ fn line(indent: &[u8], words: &[u8], out: &mut Vec<u8>) -> Result<(), AllocError
     Ok(())
 }
 
-/// The spelling of the name with this number.
-fn spelling(names: &NameList, number: u32) -> &[u8]
-    ensures { result.now ≡ name_text names.now number }
-{
-    match names.list.get(number as usize) {
-        Some(name) => name.bytes.as_slice(),
-        None => &[],
-    }
-}
-
 /// A name.
 fn name(names: &NameList, number: u32, out: &mut Vec<u8>) -> Result<(), AllocError>
-    ensures { OnOk result (out.new.items ≡ out.old.items ++ name_text names.now number) }
+    ensures { OnOk result (out.new.items ≡ out.old.items ++ spelling names.now number) }
 {
-    put(spelling(names, number), out)
+    put(names.spelling(number), out)
 }
 
 /// A number.

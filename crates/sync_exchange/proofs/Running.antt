@@ -1,21 +1,13 @@
--- Slots and statements one after another, and what an exchange stands on.
+-- Slots and statements one after another.
 use Rattle.std.proofs.Common.{◌≡◌, ℕ, ◌+◌, ◌<◌, ℤ, Bool, List, [], length, map, drop, get_or, Ok, refl, sym, ap, ◌∙◌, nat_lt, slice_index_or, if◌then◌else◌}
 use Rattle.std.proofs.lemmas.List.{at_drop_more}
 use Rattle.sync_base.specs.Outcome.{◌>>=◌}
-use Rattle.sync_terms.specs.Maps as maps
-use Rattle.sync_terms.specs.Values.{Valuation}
 use Rattle.sync_machine.specs.declared.fields.Field.{Field}
-use Rattle.sync_base.specs.declared.strategies.Strategy.{Strategy}
-use Rattle.sync_base.specs.declared.strategies.Strategy.TheVariants.{Variable, Constant, NotTokenized, Option as OptionField, Map as MapField, Set, Multiset, Count, PersistentOption, PersistentMap, PersistentSet, PersistentCount, StorageMap}
-use Rattle.sync_machine.specs.Machines.{StepTree, OperationTree}
-use Rattle.sync_machine.specs.States.{Value, Mapped, State, strategy_at}
-use Rattle.sync_join.specs.declared.tokens.Token.{Token}
-use Rattle.sync_join.specs.Join.{entries_of, number_of, tokens_of, map_of}
+use Rattle.sync_machine.specs.Machines.{StepTree}
 use Rattle.sync_rules.specs.Slots.{SlotTree}
 use Rattle.sync_exchange.specs.declared.hands.XStop.{XStop}
-use Rattle.sync_exchange.specs.Exchange.{Exchanging, Answer, use_variable, use_variables, does, does_all, seen, argument, names_before}
+use Rattle.sync_exchange.specs.Exchange.{Exchanging, Answer, use_variable, use_variables, does, does_all}
 use Rattle.sync_exchange.specs.Outcomes.{Stops}
-use Rattle.sync_exchange.specs.Works.{seen_with, AreStores}
 use Rattle.sync_exchange.proofs.Asking.{stops-bind, stops-is}
 
 -- ---- the slots of variables
@@ -45,34 +37,3 @@ module _ {S : Type 0} (fits : ℤ → Bool) (fs : List Field) (view : S → Step
   steps-stop stop whole s inv =
       stops-is stop (does fits fs (view (get_or xs i d)) x >>= does_all fits fs (map view (drop (i + 1) xs))) whole (sym here-step ∙ inv)
       (stops-bind stop (does fits fs (view (get_or xs i d)) x) (does_all fits fs (map view (drop (i + 1) xs))) s)
-
--- ---- what symbols stand for before the first slot
-
-seen-same : (s : Strategy) (stores : List maps.Map) (records : List Value) (stored : List Token) (whole : State) (f : ℕ)
-    → (s ≡ StorageMap → slice_index_or stores f maps.nil ≡ map_of (tokens_of f stored))
-    → seen_with s stores (record { records = records; stored = [] }) whole f ≡ seen s (record { records = records; stored = stored }) whole f
-seen-same StorageMap stores records stored whole f h = ap Mapped (h refl)
-seen-same Constant stores records stored whole f h = refl
-seen-same NotTokenized stores records stored whole f h = refl
-seen-same PersistentOption stores records stored whole f h = refl
-seen-same PersistentMap stores records stored whole f h = refl
-seen-same PersistentSet stores records stored whole f h = refl
-seen-same PersistentCount stores records stored whole f h = refl
-seen-same Variable stores records stored whole f h = refl
-seen-same OptionField stores records stored whole f h = refl
-seen-same MapField stores records stored whole f h = refl
-seen-same Set stores records stored whole f h = refl
-seen-same Multiset stores records stored whole f h = refl
-seen-same Count stores records stored whole f h = refl
-
-pub names-same : (fs : List Field) (o : OperationTree) (args : List ℤ) (stores : List maps.Map) (records : List Value) (stored : List Token) (whole : State) → AreStores fs stored stores
-    → ◌≡◌ {A = Valuation}
-    (record {
-      number = λ x. if nat_lt x (length fs) then number_of (seen_with (strategy_at fs x) stores (record { records = records; stored = [] }) whole x) else argument o.params args x;
-      mapping = λ x. entries_of (seen_with (strategy_at fs x) stores (record { records = records; stored = [] }) whole x);
-    })
-    (names_before fs o args (record { records = records; stored = stored }) whole)
-names-same fs o args stores records stored whole h i = record {
-  number = λ x. if nat_lt x (length fs) then number_of (seen-same (strategy_at fs x) stores records stored whole x (h x) i) else argument o.params args x;
-  mapping = λ x. entries_of (seen-same (strategy_at fs x) stores records stored whole x (h x) i);
-}

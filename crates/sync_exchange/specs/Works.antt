@@ -10,7 +10,6 @@ use Rattle.sync_terms.specs.Trees.{Tree, Formula}
 use Rattle.sync_terms.specs.Values.{Valuation, num, mapped, truth, with_value}
 use Rattle.sync_machine.specs.declared.fields.Field.{Field}
 use Rattle.sync_base.specs.declared.strategies.Strategy.{Strategy}
-use Rattle.sync_base.specs.declared.strategies.Strategy.TheVariants.{StorageMap}
 use Rattle.sync_machine.specs.States.{Value, Number, Mapped, State, Sort, Numbers, Maps, strategy_at}
 use Rattle.sync_machine.specs.Machines.{PatternTree, Bind, Term, PlaceTree, ActTree, StepTree}
 use Rattle.sync_machine.specs.Statements.{one, or_one}
@@ -19,7 +18,7 @@ use Rattle.sync_entries.specs.Narrow.{is_narrow}
 use Rattle.sync_exchange_values.specs.Fitting.{number_fits, map_fits, form_fits}
 use Rattle.sync_join.specs.declared.tokens.Token.{Token}
 use Rattle.sync_join.specs.Shards.{Kept}
-use Rattle.sync_join.specs.Join.{entries_of, number_of, tokens_of, map_of}
+use Rattle.sync_join.specs.Join.{entries_of, number_of}
 use Rattle.sync_join.specs.Views.{value_tree}
 use Rattle.sync_rules.specs.Slots.{SlotTree, field_slot}
 use Rattle.sync_exchange.specs.declared.hands.Held.{Held}
@@ -72,24 +71,15 @@ revalued_as name n h = if nat_eq name h.name then record h { token = record h.to
 
 -- ---- what symbols stand for
 
--- a stored field's map is at hand; all else is seen as ever
-abbrev pub seen_with : Strategy → List maps.Map → Kept → State → ℕ → Value
-seen_with StorageMap stores kept whole f = Mapped (slice_index_or stores f maps.nil)
-seen_with s stores kept whole f = seen s kept whole f
-
 abbrev pub outer_value : Outer → ℕ → Value
 outer_value o x =
-    seen_with (strategy_at o.fields.now x) o.stores.now (record { records = map value_tree o.records.now; stored = [] }) (map value_tree o.whole.now) x
+    seen (strategy_at o.fields.now x) (record { records = map value_tree o.records.now; stored = o.stored.now }) (map value_tree o.whole.now) x
 
 abbrev pub outer_number : Outer → ℕ → ℤ
 outer_number o x = if nat_lt x (length o.fields.now) then number_of (outer_value o x) else argument (symbols_of o.params.now) o.args.now x
 
 abbrev pub outer_meaning : Outer → Valuation
 outer_meaning o = record { number = outer_number o; mapping = λ x. entries_of (outer_value o x) }
-
--- the stored objects of each field of a store as a map
-abbrev pub AreStores : List Field → List Token → List maps.Map → Type 0
-AreStores fs stored stores = (f : ℕ) → strategy_at fs f ≡ StorageMap → slice_index_or stores f maps.nil ≡ map_of (tokens_of f stored)
 
 -- symbols that have come to stand for numbers, the later ones before the earlier
 abbrev pub known_over : List Known → Valuation → Valuation
@@ -159,13 +149,13 @@ abbrev pub goes_through : (ℤ → Bool) → List Field → List SlotTree → Li
 goes_through fits fs slots steps x = use_variables slots x >>= does_all fits fs steps
 
 -- what symbols stand for before the first slot, from plain lists
-abbrev pub meaning_of : List Field → List Sym → List ℤ → List StoredValue → List maps.Map → List StoredValue → Valuation
-meaning_of fs ps args rs stores whole = record {
+abbrev pub meaning_of : List Field → List Sym → List ℤ → List StoredValue → List Token → List StoredValue → Valuation
+meaning_of fs ps args rs stored whole = record {
   number = λ x. if nat_lt x (length fs) then number_of (value x) else argument (symbols_of ps) args x;
   mapping = λ x. entries_of (value x);
 } where
   value : ℕ → Value
-  value x = seen_with (strategy_at fs x) stores (record { records = map value_tree rs; stored = [] }) (map value_tree whole) x
+  value x = seen (strategy_at fs x) (record { records = map value_tree rs; stored = stored }) (map value_tree whole) x
 
 -- ---- what the parts of the code say
 

@@ -12,7 +12,6 @@ use crate::cases::Case;
 use crate::changes::{made, settle};
 use crate::hands::{Bound, Hand, Names, XStop};
 use crate::scopes::Outer;
-use crate::stores::stores_of;
 use crate::works::{Finished, Work};
 use sqlite_items::Items;
 use std::alloc::Global;
@@ -108,13 +107,12 @@ fn run<'x>(
     let operation = &m.ops.as_slice()[op as usize];
     let fields = m.fields.as_slice();
     let records = rest.records.as_slice();
-    let stores = stores_of(alloc, fields, rest.stored.as_slice())?;
     let outer = Outer {
         fields,
         params: operation.params.as_slice(),
         args,
         records,
-        stores: stores.as_slice(),
+        stored: rest.stored.as_slice(),
         whole,
     };
     let case = Case {

@@ -11,7 +11,6 @@ mod moves;
 mod scopes;
 mod splitting;
 mod statements;
-mod stores;
 mod works;
 
 pub use exchanging::exchange;

@@ -1,14 +1,17 @@
 //! What symbols stand for in an exchange.
-ghost use Rattle.std.specs.Prelude.{◌≡◌, pos, map, slice_index_or, IfSome, IfNone};
+ghost use Rattle.std.specs.Prelude.{◌≡◌, pos, map, slice_index_or, IfOk, IfSome, IfNone};
 ghost use Rattle.sync_terms.specs.Maps as maps;
+ghost use Rattle.sync_machine.specs.States as states;
 ghost use Rattle.sync_machine.specs.Views.{symbols_of};
 ghost use Rattle.sync_join.specs.Join as shards;
 ghost use Rattle.sync_join.specs.Views.{value_tree};
 ghost use Rattle.sync_exchange.specs.Exchange as exchanges;
 ghost use Rattle.sync_exchange.specs.Works.{outer_meaning, outer_number, outer_value, known_over, last_known, value_in_list};
 
+use std::alloc::Global;
+use sync_base::NoMemory;
 use sync_exchange_values::Meanings;
-use sync_join::{Entries, Value};
+use sync_join::{Entries, Token, Value, map_of_tokens};
 use sync_machine::{Field, Strategy, strategy_at};
 use sync_terms::Sym;
 
@@ -26,8 +29,7 @@ pub(crate) struct Outer<'a> {
     pub params: &'a [Sym],
     pub args: &'a [i128],
     pub records: &'a [Value],
-    /// The stored objects of each field as a map.
-    pub stores: &'a [Entries],
+    pub stored: &'a [Token],
     pub whole: &'a [Value],
 }
 
@@ -75,6 +77,28 @@ fn argument(params: &[Sym], args: &[i128], x: u32) -> i128
 }
 
 impl Outer<'_> {
+    /// The values among which a field's is, by its strategy. None is a field whose value is that of its stored objects.
+    fn values(&self, x: u32) -> Option<&[Value]>
+        ensures some { IfSome result (λ vs. outer_value self.now x ≡ value_in_list (map value_tree vs.now) x) }
+        ensures none { IfNone result (outer_value self.now x ≡ states.Mapped (shards.map_of (shards.tokens_of x self.now.stored.now))) }
+    {
+        match strategy_at(self.fields, x) {
+            Strategy::Constant
+            | Strategy::NotTokenized
+            | Strategy::PersistentOption
+            | Strategy::PersistentMap
+            | Strategy::PersistentSet
+            | Strategy::PersistentCount => Some(self.records),
+            Strategy::StorageMap => None,
+            Strategy::Variable
+            | Strategy::Option
+            | Strategy::Map
+            | Strategy::Set
+            | Strategy::Multiset
+            | Strategy::Count => Some(self.whole),
+        }
+    }
+
     /// The number that a symbol stands for.
     fn number(&self, x: u32) -> i128
         ensures { result ≡ outer_number self.now x }
@@ -82,42 +106,32 @@ impl Outer<'_> {
         if x as usize >= self.fields.len() {
             return argument(self.params, self.args, x);
         }
-        match strategy_at(self.fields, x) {
-            Strategy::Constant
-            | Strategy::NotTokenized
-            | Strategy::PersistentOption
-            | Strategy::PersistentMap
-            | Strategy::PersistentSet
-            | Strategy::PersistentCount => number_in(self.records, x),
-            Strategy::StorageMap => 0,
-            Strategy::Variable
-            | Strategy::Option
-            | Strategy::Map
-            | Strategy::Set
-            | Strategy::Multiset
-            | Strategy::Count => number_in(self.whole, x),
+        match self.values(x) {
+            Some(values) => number_in(values, x),
+            None => 0,
         }
     }
 
-    /// The map that a symbol stands for. None is the map without a key.
+    /// The map that a symbol stands for, where it is at hand.
     fn map(&self, x: u32) -> Option<&Entries>
-        ensures map { IfSome result (λ m. m.now ≡ shards.entries_of (outer_value self.now x)) }
-        ensures none { IfNone result (shards.entries_of (outer_value self.now x) ≡ maps.nil) }
+        ensures { IfSome result (λ m. m.now ≡ shards.entries_of (outer_value self.now x)) }
     {
-        match strategy_at(self.fields, x) {
-            Strategy::Constant
-            | Strategy::NotTokenized
-            | Strategy::PersistentOption
-            | Strategy::PersistentMap
-            | Strategy::PersistentSet
-            | Strategy::PersistentCount => map_in(self.records, x),
-            Strategy::StorageMap => self.stores.get(x as usize),
-            Strategy::Variable
-            | Strategy::Option
-            | Strategy::Map
-            | Strategy::Set
-            | Strategy::Multiset
-            | Strategy::Count => map_in(self.whole, x),
+        match self.values(x) {
+            Some(values) => map_in(values, x),
+            None => None,
+        }
+    }
+
+    /// The map that a symbol stands for, made anew: stored objects are no map before one asks for it.
+    fn made(&self, alloc: Global, x: u32) -> Result<Entries, NoMemory>
+        ensures { IfOk result (λ m. m ≡ shards.entries_of (outer_value self.now x)) }
+    {
+        match self.values(x) {
+            Some(values) => match map_in(values, x) {
+                Some(map) => map.copy(),
+                None => Ok(Entries::new(alloc)),
+            },
+            None => map_of_tokens(alloc, self.stored, x),
         }
     }
 }
@@ -149,6 +163,13 @@ impl Meanings for Scope<'_> {
         match known_as(self.known, x.0) {
             Some(_) => None,
             None => self.outer.map(x.0),
+        }
+    }
+
+    fn made(&self, alloc: Global, x: Sym) -> Result<Entries, NoMemory> {
+        match known_as(self.known, x.0) {
+            Some(_) => Ok(Entries::new(alloc)),
+            None => self.outer.made(alloc, x.0),
         }
     }
 }

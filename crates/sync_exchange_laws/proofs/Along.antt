@@ -1,99 +1,109 @@
 -- What each statement that was done found and left, under the valuation of the step.
 use Rattle.std.proofs.Common.{◌≡◌, ℕ, ℤ, Bool, true, List, [], ◌∷◌, ◌++◌, length, map, Some, Ok, refl, sym, ap, subst, ◌∙◌}
-use Rattle.std.specs.List.{range_with_len}
-use Rattle.sync_base.specs.Outcome.{◌>>=◌}
+use Rattle.std.specs.List.{AllByRecursion, range_with_len}
 use Rattle.sync_terms.specs.Trees.{Tree, Name}
 use Rattle.sync_terms.specs.Values.{Valuation, truth}
 use Rattle.sync_machine.specs.declared.fields.Field.{Field}
 use Rattle.sync_machine.specs.Machines.{PlaceTree, ActTree, StepTree}
 use Rattle.sync_machine.specs.Machines as acts
-use Rattle.sync_machine.specs.Naming.{bound_by, bound_names}
+use Rattle.sync_machine.specs.Naming.{bound_by}
 use Rattle.sync_machine.specs.Statements.{binds, safety, field_of}
-use Rattle.sync_machine.specs.States.{Value, sort_of, strategy_at, advanced, first_values, AreGiven, IsKeptSafe}
+use Rattle.sync_machine.specs.States.{Value, sort_of, strategy_at, strategy_of, current_of, advanced, IsMet}
 use Rattle.sync_rules.specs.Locality.{place_names_only}
 use Rattle.sync_rules.specs.Shapes.{fits}
 use Rattle.sync_join.specs.declared.tokens.Token.{Token}
 use Rattle.sync_join.specs.Shards.{perm}
 use Rattle.sync_exchange.specs.declared.hands.XStop.TheVariants.{Width, RequireFalse}
-use Rattle.sync_exchange.specs.Exchange.{Exchanging, named, held_as, next_name, stored_at, withdrawn, permission, token_of, key_at, amount_at, is_asked, after_reading, after_taking, after_seeing, after_giving, binding, storing, raising, started, updated, use_variables, variable_slots, beginning, does, does_all, outcome, tokens_in}
+use Rattle.sync_exchange.specs.Exchange.{Exchanging, named, held_as, next_name, stored_at, withdrawn, permission, token_of, key_at, amount_at, is_asked, after_reading, after_taking, after_seeing, after_giving, binding, storing, raising, started, updated, does}
 use Rattle.sync_exchange.proofs.Terms.{truth-same, value-same}
-use Rattle.sync_exchange.proofs.Passing.{unless-ok, ok_is, bind-ok, asked-token, asked-object}
+use Rattle.sync_exchange.proofs.Passing.{unless-ok, ok_is, asked-token, asked-object}
 use Rattle.sync_exchange.proofs.Lawful.{reads_only, place-key, place-asked, place-amount}
 use Rattle.sync_exchange.proofs.OneStrategy.{nothing-bound}
 use Rattle.sync_exchange.proofs.Standing.{IsReady, binding-own}
 use Rattle.sync_exchange.proofs.Going.{Walk}
-use Rattle.sync_exchange.proofs.Answering.{all-answered, used-bind-nothing}
-use Rattle.sync_exchange.proofs.Beginning.{valuation, same-outside, at-state, trust}
-use Rattle.sync_exchange.proofs.Rules.{regular}
-use Rattle.sync_exchange.proofs.Transitions.{outcome-ok, laws, given-args, walk}
-use Rattle.sync_exchange.proofs.Whole.{state-length, first-names}
-use Rattle.sync_exchange_laws.specs.Along.{ExchangesGoAlong, key_under, value_under, GoesUnder, Along}
+use Rattle.sync_exchange_laws.specs.Conditions.{names_at}
+use Rattle.sync_exchange_laws.specs.Along.{ExchangesGoAlong, key_under, value_under, IsThere, left_under, AreThere, all_left, ended, AssertHolds}
+use Rattle.sync_exchange_laws.proofs.Ending.{walked-at}
 
 -- a held token is the one that the next slot names
-named-is : (x : Exchanging) (t : Token) → held_as (next_name x.tokens) x.hand ≡ Some t → named x ≡ Ok t
+pub named-is : (x : Exchanging) (t : Token) → held_as (next_name x.tokens) x.hand ≡ Some t → named x ≡ Ok t
 named-is x t e = rw e refl
 
-token-is : (t : Token) (f : ℕ) (k n : ℤ) → f ≡ t.field → t.key ≡ k → t.value ≡ n → t ≡ token_of f k n
+pub token-is : (t : Token) (f : ℕ) (k n : ℤ) → f ≡ t.field → t.key ≡ k → t.value ≡ n → t ≡ token_of f k n
 token-is t f k n field key value i = record { field = sym field i; key = key i; value = value i }
 
 module _ (fit : ℤ → Bool) (fs : List Field) (v : Valuation) (q : ℕ → Bool) (x y : Exchanging) (cur : List Tree) where
   -- the value that a place asks for, where it is bound too
-  asked-is : (a : ActTree) (p : PlaceTree) (n : ℤ) (z : Exchanging) → IsReady fs v q x y cur a → (place_names_only q p ≡ true)
-      → is_asked p n x ≡ true → binding (binds p) n z ≡ y → ((w : ℕ) → binds p ≡ Some w → bound_by a ≡ Some w) → n ≡ value_under v p
+  asked-is : (a : ActTree) (p : PlaceTree) (n : ℤ) (z : Exchanging) → IsReady fs v q x y cur a
+      → (place_names_only q p ≡ true)
+      → is_asked p n x ≡ true → binding (binds p) n z ≡ y → ((w : ℕ) → binds p ≡ Some w → bound_by a ≡ Some w)
+      → n ≡ value_under v p
   asked-is a p n z r reads is answer binds_it =
       place-asked q v p n x r.same reads is
       (λ w b. sym (binding-own (binds p) n z w b) ∙ ap (λ (u : Exchanging). u.names.number w) answer ∙ r.bound w (binds_it w b))
 
-  pub goes-under : (line : ℕ) (a : ActTree) → IsReady fs v q x y cur a → does fit fs (record { act = a; line = line }) x ≡ Ok y → GoesUnder fs v (record { act = a; line = line }) x y
+  pub goes-under : (line : ℕ) (a : ActTree) → IsReady fs v q x y cur a
+      → does fit fs (record { act = a; line = line }) x ≡ Ok y → IsThere v a x × (left_under fs v a x ≡ y)
   unfolding does reads_only bound_by fits safety field_of
   goes-under line (acts.Require form) r e =
       let a = unless-ok Width _ _ y e in
       let b = unless-ok (RequireFalse line) (truth x.names form) (Ok x) y a.1 in
       (sym (truth-same q x.names v r.same form r.lawful.reads) ∙ b.0, ok_is x y b.1)
-  goes-under line (acts.Assert form) r e = (r.safe, ok_is x y e)
-  goes-under line (acts.HaveVariable f) r e = ok_is x y e
+  goes-under line (acts.Assert form) r e = (tt, ok_is x y e)
+  goes-under line (acts.HaveVariable f) r e = (tt, ok_is x y e)
   goes-under line (acts.Init f t) r e =
       let a = unless-ok Width _ _ y e in
-      ap (λ (w : Value). started (strategy_at fs f) f w x) (sym (value-same q x.names v r.same (sort_of (strategy_at fs f)) t r.lawful.reads)) ∙ ok_is _ y a.1
+      (tt, ap (λ (w : Value). started (strategy_at fs f) f w x) (sym (value-same q x.names v r.same (sort_of (strategy_at fs f)) t r.lawful.reads)) ∙ ok_is _ y a.1)
   goes-under line (acts.Update f t) r e =
       let a = unless-ok Width _ _ y e in
-      ap (λ (w : Value). updated (strategy_at fs f) f w x) (sym (value-same q x.names v r.same (sort_of (strategy_at fs f)) t r.lawful.reads)) ∙ ok_is _ y a.1
+      (tt, ap (λ (w : Value). updated (strategy_at fs f) f w x) (sym (value-same q x.names v r.same (sort_of (strategy_at fs f)) t r.lawful.reads)) ∙ ok_is _ y a.1)
   goes-under line (acts.Remove f p) r e =
       let a = asked-token fit f p x (λ (t : Token). binding (binds p) t.value (after_taking x)) y e in
       let key = a.key ∙ place-key q v p x r.same r.lawful.reads in
-      let value = asked-is (acts.Remove f p) p a.token.value (after_taking x) r r.lawful.reads a.value a.answer (λ w b. b) in (
+      let value =
+      asked-is (acts.Remove f p) p a.token.value (after_taking x) r r.lawful.reads a.value a.answer (λ w b. b) in (
         named-is x a.token a.held ∙ ap Ok (token-is a.token f (key_under v p) (value_under v p) a.field key value),
         ap (λ (n : ℤ). binding (binds p) n (after_taking x)) (sym value) ∙ a.answer,
       )
   goes-under line (acts.Have f p) r e =
       let a = asked-token fit f p x (λ (t : Token). binding (binds p) t.value (after_reading x)) y e in
       let key = a.key ∙ place-key q v p x r.same r.lawful.reads in
-      let value = asked-is (acts.Have f p) p a.token.value (after_reading x) r r.lawful.reads a.value a.answer (λ w b. b) in (
+      let value =
+      asked-is (acts.Have f p) p a.token.value (after_reading x) r r.lawful.reads a.value a.answer (λ w b. b) in (
         named-is x a.token a.held ∙ ap Ok (token-is a.token f (key_under v p) (value_under v p) a.field key value),
         ap (λ (n : ℤ). binding (binds p) n (after_reading x)) (sym value) ∙ a.answer,
       )
   goes-under line (acts.Add f p) r e =
       let a = unless-ok Width _ _ y e in
       let key = place-key q v p x r.same r.lawful.reads in
-      let value = place-amount q v p x r.same r.lawful.reads (nothing-bound (strategy_at fs f) p r.lawful.fit) in
-      ap (λ (k : ℤ). raising fs f k (value_under v p) (after_giving (token_of f k (value_under v p)) x)) (sym key)
-      ∙ ap (λ (n : ℤ). raising fs f (key_at p x) n (after_giving (token_of f (key_at p x) n) x)) (sym value) ∙ ok_is _ y a.1
+      let value = place-amount q v p x r.same r.lawful.reads (nothing-bound (strategy_at fs f) p r.lawful.fit) in (
+        tt,
+        ap (λ (k : ℤ). raising fs f k (value_under v p) (after_giving (token_of f k (value_under v p)) x)) (sym key)
+            ∙ ap (λ (n : ℤ). raising fs f (key_at p x) n (after_giving (token_of f (key_at p x) n) x)) (sym value)
+            ∙ ok_is _ y a.1,
+      )
   goes-under line (acts.Deposit f p) r e =
       let z = storing (x.kept.stored ++ token_of f (key_at p x) (amount_at p x) ∷ []) (after_taking x) in
       let a = asked-token fit perm p x (λ (t : Token). z) y e in
       let none = nothing-bound (strategy_at fs f) p r.lawful.fit in
       let key = place-key q v p x r.same r.lawful.reads in
       let amount = place-amount q v p x r.same r.lawful.reads none in
-      let value = place-asked q v p a.token.value x r.same r.lawful.reads a.value (λ w b. let c = sym b ∙ none in absurd (cc)) in (
-        named-is x a.token a.held ∙ ap Ok (token-is a.token perm (key_under v p) (value_under v p) a.field (a.key ∙ key) value),
+      let value =
+      place-asked q v p a.token.value x r.same r.lawful.reads a.value
+      (λ w b. let c = sym b ∙ none in absurd (cc)) in (
+        named-is x a.token a.held
+            ∙ ap Ok (token-is a.token perm (key_under v p) (value_under v p) a.field (a.key ∙ key) value),
         ap (λ (k : ℤ). storing (x.kept.stored ++ token_of f k (value_under v p) ∷ []) (after_taking x)) (sym key)
-            ∙ ap (λ (n : ℤ). storing (x.kept.stored ++ token_of f (key_at p x) n ∷ []) (after_taking x)) (sym amount) ∙ a.answer,
+            ∙ ap (λ (n : ℤ). storing (x.kept.stored ++ token_of f (key_at p x) n ∷ []) (after_taking x)) (sym amount)
+            ∙ a.answer,
       )
   goes-under line (acts.Withdraw f p) r e =
       let left : ℤ → ℤ → Exchanging = λ k n. storing (withdrawn f k x.kept.stored) (after_giving (permission k n) x) in
       let a = asked-object fit f p x (λ (n : ℤ). binding (binds p) n (left (key_at p x) n)) y e in
       let key = place-key q v p x r.same r.lawful.reads in
-      let value = asked-is (acts.Withdraw f p) p a.number (left (key_at p x) a.number) r r.lawful.reads a.value a.answer (λ w b. b) in (
+      let value =
+      asked-is (acts.Withdraw f p) p a.number (left (key_at p x) a.number) r r.lawful.reads a.value a.answer
+      (λ w b. b) in (
         ap (λ (k : ℤ). stored_at f k x.kept.stored) (sym key) ∙ a.stored ∙ ap Some value,
         ap (λ (k : ℤ). binding (binds p) (value_under v p) (left k (value_under v p))) (sym key)
             ∙ ap (λ (n : ℤ). binding (binds p) n (left (key_at p x) n)) (sym value) ∙ a.answer,
@@ -106,41 +116,55 @@ module _ (fit : ℤ → Bool) (fs : List Field) (v : Valuation) (q : ℕ → Boo
         ap (λ (n : ℤ). binding (binds p) n (after_seeing x)) (sym value) ∙ a.answer,
       )
 
-pub all-along : (fit : ℤ → Bool) (fs : List Field) (v : Valuation) (others : List Token) (ss : List StepTree) (x y : Exchanging) (cur : List Tree) → Walk fit fs v others cur ss x y → Along fs v ss x y
+-- an assert is true, since its safety condition is
+assert-holds : (fs : List Field) (v : Valuation) (cur : List Tree) (a : ActTree)
+    → IsMet v (safety (strategy_of fs a) (current_of cur a) a) → AssertHolds v a
+unfolding safety
+assert-holds fs v cur (acts.Assert form) h = h
+assert-holds fs v cur (acts.Require form) h = tt
+assert-holds fs v cur (acts.Init f t) h = tt
+assert-holds fs v cur (acts.Update f t) h = tt
+assert-holds fs v cur (acts.HaveVariable f) h = tt
+assert-holds fs v cur (acts.Add f p) h = tt
+assert-holds fs v cur (acts.Remove f p) h = tt
+assert-holds fs v cur (acts.Have f p) h = tt
+assert-holds fs v cur (acts.Deposit f p) h = tt
+assert-holds fs v cur (acts.Withdraw f p) h = tt
+assert-holds fs v cur (acts.Guard f p) h = tt
+
+-- all that was found and left, under the valuation of the step
+pub record WentUnder (fs : List Field) (v : Valuation) (ss : List StepTree) (x y : Exchanging) : Type 0 where
+  pub there : AreThere fs v ss x
+  pub leaves : all_left fs v ss x ≡ y
+  pub asserts : AllByRecursion (λ (s : StepTree). AssertHolds v s.act) ss
+
+pub all-along : (fit : ℤ → Bool) (fs : List Field) (v : Valuation) (others : List Token) (ss : List StepTree) (x y : Exchanging) (cur : List Tree)
+    → Walk fit fs v others cur ss x y → WentUnder fs v ss x y
 unfolding Walk
-all-along fit fs v others [] x y cur w = w.1
+all-along fit fs v others [] x y cur w = record { there = tt; leaves = w.1; asserts = tt }
 all-along fit fs v others (s ∷ ss) x y cur w =
-    (w.0, goes-under fit fs v w.1.reads x w.0 cur s.line s.act w.1.ready w.1.did, all-along fit fs v others ss w.0 y (advanced fs cur s.act) w.2)
+    let one = goes-under fit fs v w.1.reads x w.0 cur s.line s.act w.1.ready w.1.did in
+    let rest = all-along fit fs v others ss w.0 y (advanced fs cur s.act) w.2 in
+    record {
+      there = (one.0, subst (AreThere fs v ss) (sym one.1) rest.there);
+      leaves = ap (all_left fs v ss) one.1 ∙ rest.leaves;
+      asserts = (assert-holds fs v cur s.act w.1.ready.safe, rest.asserts);
+    }
 
 -- ---- whole exchanges
 
 pub exchanges-go-along : ExchangesGoAlong
-exchanges-go-along fit m proved o has other args long tokens given hand names others kept sound s joined reached whole either x e =
-    let rules = regular m proved.symbols proved.named proved.strategies o has in
-    let start = beginning m.fields o args tokens given whole hand kept in
-    let r = use_variables (variable_slots m.fields o) start >>= does_all fit m.fields o.steps in
-    let out = outcome-ok r x e in
-    let y = out.0 in
-    let a = bind-ok (use_variables (variable_slots m.fields o) start) (does_all fit m.fields o.steps) y out.1 in
-    let t = trust m.fields o s whole other rules.rules either in
-    let v = valuation m.fields s y.names in
-    let at = at-state m.fields s y.names (state-length m.fields (tokens_in hand ++ others) kept s joined) in
-    let args_are = given-args fit m o args tokens given hand others kept s whole joined sound other names rules t a.0 y a.1 a.2 long in
-    let firsts : first_values m.fields o.mode ≡ map Name (range_with_len 0 (length m.fields)) = first-names m.fields o.mode other in
-    let safe = subst (λ c. IsKeptSafe m.fields v c o.steps) firsts (proved.holds.safe s reached o has other args v at args_are) in
-    let w = walk fit m o args tokens given hand others kept s whole joined sound other names rules t a.0 y a.1 a.2 safe in
-    let lawful = laws fit m o args tokens given hand others kept s whole joined sound other names rules t a.0 y a.1 a.2 in
-    let answers = all-answered fit m.fields rules.few t.test o.params v [] o.steps a.0 y lawful a.2 (λ z outside. (same-outside m.fields s y.names z outside).number) in
-    let none-yet : start.bound ≡ a.0.bound = used-bind-nothing (variable_slots m.fields o) start a.0 a.1 in
-    let values : x.bound ≡ answers.values = out.2.bound ∙ answers.bound ∙ ap (λ (bs : List ℤ). bs ++ answers.values) (sym none-yet) in
+exchanges-go-along fit m proved o has other args long tokens given hand names others kept sound s joined reached whole
+    either x e =
+    let w =
+    walked-at fit m proved o has other args long tokens given hand names others kept sound s joined reached whole
+    either x e in
+    let went =
+    all-along fit m.fields (names_at m.fields s o args x.bound) others o.steps w.begun w.end
+    (map Name (range_with_len 0 (length m.fields))) w.walk in
     record {
-      names = v;
-      before = at;
-      given_are = args_are;
-      answered = subst (λ (bs : List ℤ). AreGiven (bound_names o.steps) bs v) (sym values) answers.given;
-      begun = a.0;
-      ended = y;
-      first = a.1;
-      along = all-along fit m.fields v others o.steps a.0 y (map Name (range_with_len 0 (length m.fields))) w;
-      leaves = sym (ok_is _ x (ap outcome (sym out.1) ∙ e));
+      before = w.before;
+      named_as = w.named_as;
+      asserts = went.asserts;
+      along = record { begun = w.begun; first = w.first; found = went.there; leaves = w.leaves ∙ ap ended (sym went.leaves) };
     }

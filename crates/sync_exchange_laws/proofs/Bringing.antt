@@ -21,7 +21,7 @@ use Rattle.sync_join.proofs.Maps.{equal}
 use Rattle.sync_exchange.specs.declared.hands.XStop.{XStop}
 use Rattle.sync_exchange.specs.declared.hands.XStop.TheVariants.{Width, Differs, RequireFalse, StoreEmpty}
 use Rattle.sync_base.specs.Outcome.{◌>>=◌}
-use Rattle.sync_exchange.specs.Exchange.{Exchanging, Answer, place_fits, unless, is_at_place, key_at, amount_at, is_asked, stored_at, asked_token, asked_object, does}
+use Rattle.sync_exchange.specs.Exchange.{Exchanging, Answer, named, place_fits, unless, is_at_place, key_at, amount_at, is_asked, stored_at, asked_token, asked_object, does}
 use Rattle.sync_exchange.proofs.Terms.{Same}
 use Rattle.sync_exchange.proofs.Lawful.{IsLawful, reads_only, place-key, place-amount}
 use Rattle.sync_exchange.proofs.OneStrategy.{storage-only, withdraw-guard, stored-map}
@@ -34,17 +34,19 @@ use Rattle.sync_exchange_laws.specs.Progress.{HasAsked, IsBrought}
 abbrev pub Succeeds : {A : Type 0} → Result A XStop → Type 0
 Succeeds {A} r = (y : A) × (r ≡ Ok y)
 
-passed : (stop : XStop) (b : Bool) (y : Exchanging) → b ≡ true → unless stop b (Ok y) ≡ Ok y
+pub passed : (stop : XStop) (b : Bool) (y : Exchanging) → b ≡ true → unless stop b (Ok y) ≡ Ok y
 passed stop b y e = ap (λ c. unless stop c (Ok y)) e
 
+pub token-asked : (f : ℕ) (p : PlaceTree) (x : Exchanging) (next : Token → Exchanging) (t : Token) → named x ≡ Ok t
+    → (is_at_place f (key_at p x) t && is_asked p t.value x) ≡ true → asked_token unbounded f p x next ≡ Ok (next t)
+token-asked f p x next t there asks =
+    let asked : Token → Answer = λ u. unless Width (place_fits unbounded p x) (unless (Differs x.slot) (is_at_place f (key_at p x) u && is_asked p u.value x) (Ok (next u))) in
+    ap (λ r. r >>= asked) there
+    ∙ ap (λ b. unless Width b (unless (Differs x.slot) (is_at_place f (key_at p x) t && is_asked p t.value x) (Ok (next t)))) (place-fit p x)
+    ∙ passed (Differs x.slot) (is_at_place f (key_at p x) t && is_asked p t.value x) (next t) asks
+
 brought-token : (f : ℕ) (p : PlaceTree) (x : Exchanging) (next : Token → Exchanging) → HasAsked f p x → Succeeds (asked_token unbounded f p x next)
-brought-token f p x next h =
-    let asked : Token → Answer = λ t. unless Width (place_fits unbounded p x) (unless (Differs x.slot) (is_at_place f (key_at p x) t && is_asked p t.value x) (Ok (next t))) in (
-      next h.0,
-      ap (λ r. r >>= asked) h.1
-          ∙ ap (λ b. unless Width b (unless (Differs x.slot) (is_at_place f (key_at p x) h.0 && is_asked p h.0.value x) (Ok (next h.0)))) (place-fit p x)
-          ∙ passed (Differs x.slot) (is_at_place f (key_at p x) h.0 && is_asked p h.0.value x) (next h.0) h.2,
-    )
+brought-token f p x next h = (next h.0, token-asked f p x next h.0 h.1 h.2)
 
 -- ---- an object that the safety condition of a statement says is there
 
@@ -79,7 +81,7 @@ stored-cases v cur key (Some (Bind y)) h =
     let s = some-there (finmap.get (mapped v cur) (num v (key_of p))) h in
     record { number = s.0; there = s.1; asked = λ none. absurd (cc) }
 
-is-asked-cases : (key : Option Tree) (o : Option PatternTree) (n : ℤ) (x : Exchanging)
+pub is-asked-cases : (key : Option Tree) (o : Option PatternTree) (n : ℤ) (x : Exchanging)
     → (bound_in o ≡ None → n ≡ amount_at (record { key = key; value = o }) x) → is_asked (record { key = key; value = o }) n x ≡ true
 is-asked-cases key None n x h =
     let m : ℤ = amount_at (record { key = key; value = None }) x in ap (int_eq m) (h refl) ∙ int_eq_equiv.refl m
@@ -87,15 +89,13 @@ is-asked-cases key (Some (Term t)) n x h =
     let m : ℤ = amount_at (record { key = key; value = Some (Term t) }) x in ap (int_eq m) (h refl) ∙ int_eq_equiv.refl m
 is-asked-cases key (Some (Bind y)) n x h = refl
 
-brought-object : (f : ℕ) (p : PlaceTree) (x : Exchanging) (n : ℤ) (next : ℤ → Exchanging) → stored_at f (key_at p x) x.kept.stored ≡ Some n
-    → is_asked p n x ≡ true → Succeeds (asked_object unbounded f p x next)
-brought-object f p x n next there asked = (
-  next n,
-  ap (λ b. unless Width b (asked_object_found (stored_at f (key_at p x) x.kept.stored))) (place-fit p x) ∙ ap asked_object_found there ∙ passed (Differs x.slot) (is_asked p n x) (next n) asked,
-) where
-  asked_object_found : Option ℤ → Answer
-  asked_object_found None = Err (StoreEmpty x.slot)
-  asked_object_found (Some m) = unless (Differs x.slot) (is_asked p m x) (Ok (next m))
+pub object-asked : (f : ℕ) (p : PlaceTree) (x : Exchanging) (n : ℤ) (next : ℤ → Exchanging) → stored_at f (key_at p x) x.kept.stored ≡ Some n
+    → is_asked p n x ≡ true → asked_object unbounded f p x next ≡ Ok (next n)
+object-asked f p x n next there asks =
+    ap (λ b. unless Width b (found (stored_at f (key_at p x) x.kept.stored))) (place-fit p x) ∙ ap found there ∙ passed (Differs x.slot) (is_asked p n x) (next n) asks where
+      found : Option ℤ → Answer
+      found None = Err (StoreEmpty x.slot)
+      found (Some m) = unless (Differs x.slot) (is_asked p m x) (Ok (next m))
 
 module _ (fs : List Field) (v : Valuation) (others : List Token) (q : ℕ → Bool) (x : Exchanging) (cur : List Tree) (stands : IsUnderWay fs v others x cur) (same : Same q x.names v) where
   object-there : (f : ℕ) (p : PlaceTree) (next : ℤ → Exchanging) → f < length fs → strategy_at fs f ≡ StorageMap → place_names_only q p ≡ true → Holds v (storage (get_or cur f Nil) p)
@@ -108,8 +108,7 @@ module _ (fs : List Field) (v : Valuation) (others : List Token) (q : ℕ → Bo
       let there : stored_at f (key_at p x) x.kept.stored ≡ Some s.number =
       stored-object f (key_at p x) x.kept.stored ∙ sym (object-map_of (key_at p x) (tokens_of f x.kept.stored))
       ∙ ap (λ m. finmap.get m (key_at p x)) parts.1 ∙ ap (finmap.get (mapped v (get_or cur f Nil))) key ∙ s.there in
-      brought-object f p x s.number next there
-      (is-asked-cases p.key p.value s.number x (λ none. s.asked none ∙ sym (place-amount q v p x same reads none)))
+      (next s.number, object-asked f p x s.number next there (is-asked-cases p.key p.value s.number x (λ none. s.asked none ∙ sym (place-amount q v p x same reads none))))
 
   pub one-succeeds : (line : ℕ) (a : ActTree) → IsLawful fs q a → IsMet v (safety (strategy_of fs a) (current_of cur a) a) → IsBrought (record { act = a; line = line }) x
       → Succeeds (does unbounded fs (record { act = a; line = line }) x)

@@ -6,9 +6,14 @@ pub mod Onlys
 pub mod Testing
 pub mod Widening
 pub mod Bringing
+pub mod Slotting
 pub mod Stopping
 pub mod Progressing
 pub mod Handling
+pub mod Ending
 pub mod Along
+pub mod Guarding
+pub mod Returning
+pub mod Substituting
 mod Examples
 mod Meeting

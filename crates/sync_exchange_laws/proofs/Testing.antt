@@ -21,7 +21,7 @@ later-in : (a b : Bool) → (a || b) ≡ true → a ≡ false → b ≡ true
 later-in true b e f = absurd (cc)
 later-in false b e f = e
 
-argument-front : (ps qs : List ℕ) (ns ms : List ℤ) (x : ℕ) → length ns ≡ length ps → is_in x ps ≡ true → argument (ps ++ qs) (ns ++ ms) x ≡ argument ps ns x
+pub argument-front : (ps qs : List ℕ) (ns ms : List ℤ) (x : ℕ) → length ns ≡ length ps → is_in x ps ≡ true → argument (ps ++ qs) (ns ++ ms) x ≡ argument ps ns x
 unfolding argument
 argument-front [] qs ns ms x long e = absurd cc
 argument-front (p ∷ ps) qs [] ms x long e = absurd (omega arith)

@@ -3,3 +3,5 @@ pub mod Conditions
 pub mod Widths
 pub mod Progress
 pub mod Along
+pub mod Guards
+pub mod Terms

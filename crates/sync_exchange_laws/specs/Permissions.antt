@@ -27,9 +27,11 @@ stored_often k n (t ∷ ts) = (if is_content k n t then 1 else 0) + stored_often
 abbrev pub there_often : ℤ → ℤ → List Token → Kept → ℕ
 there_often k n bag kept = often (permission k n) bag + stored_often k n kept.stored
 
--- Every exchange of a transition or property keeps how often each content of each cell is there, whatever the others hold.
+-- Every exchange of a transition or property keeps how often each content of each cell is there, whatever the others
+-- hold.
 abbrev pub PermissionsStay : Type 0
-PermissionsStay = (fits : ℤ → Bool) (m : MachineTree) → IsProved m → (o : OperationTree) → Contains m.ops o → (IsInit o → ⊥)
+PermissionsStay = (fits : ℤ → Bool) (m : MachineTree) → IsProved m → (o : OperationTree) → Contains m.ops o
+    → (IsInit o → ⊥)
     → (args : List ℤ) → length args ≡ length o.params
     → (tokens given : List ℕ) (hand : List Held) → AreNames m.fields o tokens given hand
     → (others : List Token) (kept : Kept) → AreSoundShards m.fields (tokens_in hand ++ others) kept
@@ -40,7 +42,8 @@ PermissionsStay = (fits : ℤ → Bool) (m : MachineTree) → IsProved m → (o 
 
 -- So does the exchange of an init.
 abbrev pub FirstPermissionsStay : Type 0
-FirstPermissionsStay = (fits : ℤ → Bool) (m : MachineTree) → IsProved m → (o : OperationTree) → Contains m.ops o → IsInit o
+FirstPermissionsStay = (fits : ℤ → Bool) (m : MachineTree) → IsProved m → (o : OperationTree) → Contains m.ops o
+    → IsInit o
     → (args : List ℤ) → length args ≡ length o.params
     → (tokens given : List ℕ) (hand : List Held) → AreNames m.fields o tokens given hand
     → ArePermissions (tokens_in hand) → (kept : Kept) → AreBlank m.fields kept.records → kept.stored ≡ []
@@ -49,7 +52,8 @@ FirstPermissionsStay = (fits : ℤ → Bool) (m : MachineTree) → IsProved m �
 
 -- So does every move of any holder: an exchange, a split, a merger and a copy.
 abbrev pub MovesKeepPermissions : Type 0
-MovesKeepPermissions = (fits : ℤ → Bool) (m : MachineTree) → IsProved m → (move : Move) (old new : Holders) → IsMove fits m old move new
+MovesKeepPermissions = (fits : ℤ → Bool) (m : MachineTree) → IsProved m → (move : Move) (old new : Holders)
+    → IsMove fits m old move new
     → AreApart old.hands → AreSoundShards m.fields (all_tokens old) old.kept
     → (s : State) → join_of m.fields (all_tokens old) old.kept ≡ Some s → IsReached m s
     → (k n : ℤ) → there_often k n (all_tokens new) new.kept ≡ there_often k n (all_tokens old) old.kept
@@ -70,7 +74,8 @@ pub record IsOnly (k c : ℤ) (bag : List Token) (kept : Kept) : Type 0 where
   pub once : there_often k c bag kept ≡ 1
   pub no_other : (n : ℤ) → (n ≡ c → ⊥) → there_often k n bag kept ≡ 0
 
--- Where a permission of the cell is in the bag, it is the only one: there is no second, and nothing of the cell is stored.
+-- Where a permission of the cell is in the bag, it is the only one: there is no second, and nothing of the cell is
+-- stored.
 abbrev pub PermissionIsOnly : Type 0
 PermissionIsOnly = (k c n : ℤ) (xs ys : List Token) (kept : Kept) → IsOnly k c (xs ++ permission k n ∷ ys) kept
     → (n ≡ c) × ((m : ℤ) → there_often k m (xs ++ ys) kept ≡ 0)

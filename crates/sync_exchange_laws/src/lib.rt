@@ -1,10 +1,12 @@
 //! Laws of exchanges that what stands on them needs: they do nothing, and their clauses are proved.
 #![tactic(auto)]
 
-ghost use Rattle.sync_exchange_laws.specs.Along.{ExchangesGoAlong};
-ghost use Rattle.sync_exchange_laws.specs.Conditions.{ConditionsMakeSteps};
+ghost use Rattle.sync_exchange_laws.specs.Along.{ExchangesGoAlong, ExchangesFollow};
+ghost use Rattle.sync_exchange_laws.specs.Conditions.{ConditionsMakeSteps, ExchangesMeetConditions};
+ghost use Rattle.sync_exchange_laws.specs.Guards.{PropertiesShowGuards};
 ghost use Rattle.sync_exchange_laws.specs.Permissions.{PermissionsStay, FirstPermissionsStay, MovesKeepPermissions, WritesKeepShards, PermissionIsOnly, StoredIsOnly};
 ghost use Rattle.sync_exchange_laws.specs.Progress.{Progresses, StopsAreHolders};
+ghost use Rattle.sync_exchange_laws.specs.Terms.{TermsAreExchanged, ExchangesOfTermsFollow};
 ghost use Rattle.sync_exchange_laws.specs.Widths.{WidthsAgree};
 
 /// Every exchange keeps how often each content of each cell is there, as a permission or stored.
@@ -37,7 +39,8 @@ pub fn stored_is_only()
     ensures { StoredIsOnly }
 {}
 
-/// Where the conditions of a transition or property hold at a state, as computed, it is a step to the state that is computed.
+/// Where the conditions of a transition or property hold at a state, as computed, it is a step to the state that is
+/// computed.
 pub fn conditions_make_steps()
     ensures { ConditionsMakeSteps }
 {}
@@ -52,12 +55,42 @@ pub fn exchanges_progress()
     ensures { Progresses }
 {}
 
-/// An exchange answers a token that is missing, a token or an object that differs, or a require that is false, and nothing else.
+/// An exchange answers a token that is missing or differs, at a slot that names one, or a require that is false, and
+/// nothing else.
 pub fn stops_are_holders()
     ensures { StopsAreHolders }
 {}
 
-/// An exchange that succeeds goes along one valuation: each token and object has the key and the value of its terms there.
+/// An exchange of a transition or property that succeeds goes along one valuation: each token and object has the key
+/// and the value of its terms there.
 pub fn exchanges_go_along()
     ensures { ExchangesGoAlong }
+{}
+
+/// An exchange of a transition or property that succeeds is a step with the values that it answers: its conditions
+/// hold, as computed, and what is left is of the state that is computed.
+pub fn exchanges_meet_conditions()
+    ensures { ExchangesMeetConditions }
+{}
+
+/// The exchange of a property leaves what is kept, and what it guards is stored, with the content that its terms have.
+pub fn properties_show_guards()
+    ensures { PropertiesShowGuards }
+{}
+
+/// And where one can go along the valuation of a list of values for its bound names, it succeeds, and answers these.
+pub fn exchanges_follow()
+    ensures { ExchangesFollow }
+{}
+
+/// Behind the tokens of variables: under a valuation under which the dues of an exchange of terms hold, and stored
+/// objects are those of the terms, each statement finds what it asks, and what is left has the values of the terms.
+pub fn terms_are_exchanged()
+    ensures { TermsAreExchanged }
+{}
+
+/// So the exchange of a transition or property succeeds where its variables' tokens are there, the terms of its names
+/// have the values of state, arguments and bound values, and the dues hold; and it leaves the values of the terms.
+pub fn exchanges_of_terms_follow()
+    ensures { ExchangesOfTermsFollow }
 {}

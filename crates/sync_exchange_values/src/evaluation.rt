@@ -47,7 +47,7 @@ impl<'a, M: Meanings> Evaluation<'a, M> {
         }
     }
 
-    /// The answer of a term where a map is wanted. A named map is not copied.
+    /// The answer of a term where a map is wanted. A named map that is at hand is not copied.
     #[cycle(terms)]
     fn ask(&self, m: TermId, question: Question) -> Result<i128, EvalStop>
         requires { IsTerm self.now.terms.now m }
@@ -56,10 +56,10 @@ impl<'a, M: Meanings> Evaluation<'a, M> {
         match self.terms.term(m) {
             Node::Name(x) => match self.names.map(x) {
                 Some(map) => question.of(map),
-                None => {
-                    let empty = Entries::new(self.alloc);
-                    question.of(&empty)
-                }
+                None => match self.names.made(self.alloc, x) {
+                    Ok(map) => question.of(&map),
+                    Err(_) => Err(EvalStop::Memory),
+                },
             },
             _ => match self.map(m) {
                 Ok(map) => question.of(&map),
@@ -77,10 +77,10 @@ impl<'a, M: Meanings> Evaluation<'a, M> {
         match self.terms.term(t) {
             Node::Name(x) => match self.names.map(x) {
                 Some(map) => copied(map),
-                None => {
-                    let empty = Entries::new(self.alloc);
-                    copied(&empty)
-                }
+                None => match self.names.made(self.alloc, x) {
+                    Ok(map) => copied(&map),
+                    Err(_) => Err(EvalStop::Memory),
+                },
             },
             Node::Put(m, k, w) => put(self.map(m), self.number(k), self.number(w)),
             Node::Del(m, k) => removed(self.map(m), self.number(k)),

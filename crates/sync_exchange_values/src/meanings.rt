@@ -1,8 +1,9 @@
 //! What symbols stand for.
-ghost use Rattle.std.specs.Prelude.{◌≡◌, IfSome, IfNone};
-ghost use Rattle.sync_terms.specs.Maps as maps;
+ghost use Rattle.std.specs.Prelude.{◌≡◌, IfOk, IfSome};
 ghost use Rattle.sync_terms.specs.Values.{Valuation};
 
+use std::alloc::Global;
+use sync_base::NoMemory;
 use sync_entries::Entries;
 use sync_terms::Sym;
 
@@ -14,8 +15,11 @@ pub trait Meanings {
     fn number(&self, x: Sym) -> i128
         ensures { result ≡ (meaning self.now).number x.0 };
 
-    /// The map that a symbol stands for. None is the map without a key.
+    /// The map that a symbol stands for, where it is at hand.
     fn map(&self, x: Sym) -> Option<&Entries>
-        ensures map { IfSome result (λ m. m.now ≡ (meaning self.now).mapping x.0) }
-        ensures none { IfNone result ((meaning self.now).mapping x.0 ≡ maps.nil) };
+        ensures { IfSome result (λ m. m.now ≡ (meaning self.now).mapping x.0) };
+
+    /// The map that a symbol stands for, made anew.
+    fn made(&self, alloc: Global, x: Sym) -> Result<Entries, NoMemory>
+        ensures { IfOk result (λ m. m ≡ (meaning self.now).mapping x.0) };
 }

@@ -16,18 +16,18 @@ use Rattle.sync_kernel.specs.Branches.{said_fact, facts_in, IsSaid, AreSaid, sai
 use Rattle.sync_kernel.specs.Facts.{Fact, fact_of, denial, facts_size}
 use Rattle.sync_kernel.specs.Hypotheses.{AreReady, known_in}
 use Rattle.sync_kernel.specs.Literals.{literal_form}
-use Rattle.sync_kernel.specs.Seen.{IsSeen}
+use Rattle.sync_kernel.specs.Notes.{AreNotes}
 use Rattle.sync_kernel.proofs.Adding.{start_fact, started_facts}
 use Rattle.sync_kernel.proofs.Checking.{begins_before}
 use Rattle.sync_kernel.proofs.Fitting.{facts-more, AreSaid-more, AreSaid-push, size-in, Begins-refl, Begins-push}
-use Rattle.sync_kernel.proofs.Seeing.{seen_grows}
+use Rattle.sync_kernel.proofs.Noting.{notes_grow}
 
 -- ---- over a store that grows
 
 pub AreReady-more : (s t : Stored) (h : Hypotheses) → Extends s t → AreReady s h → AreReady t h
 AreReady-more s t h e r = record {
   said = AreSaid-more s t h.branch e r.said;
-  seen = seen_grows s t h.branch h.branch h.seen e r.said (Begins-refl h.branch) r.seen;
+  notes = notes_grow s t h.branch h.branch h.notes e r.said (Begins-refl h.branch) r.notes;
 }
 
 pub known_in-more : (s t : Stored) (h : Hypotheses) → Extends s t → AreReady s h → known_in t h ≡ known_in s h
@@ -36,18 +36,18 @@ known_in-more s t h e r = facts-more s t h.branch e r.said
 
 -- ---- none, and one more
 
-pub none_ready : (s : Stored) (h : Hypotheses) → h.branch ≡ [] → IsSeen s (facts_in s h.branch) h.seen → AreReady s h
-none_ready s h is seen = record { said = subst (AreSaid s) (sym is) tt; seen = seen }
+pub none_ready : (s : Stored) (h : Hypotheses) → h.branch ≡ [] → AreNotes s (facts_in s h.branch) h.notes → AreReady s h
+none_ready s h is notes = record { said = subst (AreSaid s) (sym is) tt; notes = notes }
 
 pub none_known : (s : Stored) (h : Hypotheses) → h.branch ≡ [] → known_in s h ≡ []
 unfolding known_in
 none_known s h is = ap (facts_in s) is
 
-pub more_ready : (s : Stored) (old new : Hypotheses) (x : Said) → new.branch ≡ old.branch ++ x ∷ [] → new.seen ≡ old.seen → IsSaid s x → AreReady s old → AreReady s new
+pub more_ready : (s : Stored) (old new : Hypotheses) (x : Said) → new.branch ≡ old.branch ++ x ∷ [] → new.notes ≡ old.notes → IsSaid s x → AreReady s old → AreReady s new
 more_ready s old new x is same said r = record {
   said = subst (AreSaid s) (sym is) (AreSaid-push s old.branch x r.said said);
-  seen = subst (IsSeen s (facts_in s new.branch)) (sym same) (seen_grows s s old.branch new.branch old.seen (Extends-refl s) r.said
-      (subst (Begins old.branch) (sym is) (Begins-push old.branch old.branch x (Begins-refl old.branch))) r.seen);
+  notes = subst (AreNotes s (facts_in s new.branch)) (sym same) (notes_grow s s old.branch new.branch old.notes (Extends-refl s) r.said
+      (subst (Begins old.branch) (sym is) (Begins-push old.branch old.branch x (Begins-refl old.branch))) r.notes);
 }
 
 pub hyp_fact : (s : Stored) (x : Said) (h : Hyp) → x.name ≡ h.name → x.params ≡ h.params → x.says ≡ record { form = h.form; negated = false } → said_fact s x ≡ fact_of s h
@@ -71,14 +71,14 @@ begun s h new x claim is name params form = started_facts s h.branch new x (fact
 pub cut_is : (h : Hypotheses) (pushed ys new : List Said) (x : Said) (len : ℕ) → len ≡ length h.branch → pushed ≡ h.branch ++ x ∷ [] → Begins pushed ys → new ≡ take len ys → new ≡ h.branch
 cut_is h pushed ys new x len is push begins cut = cut ∙ ap (λ (n : ℕ). take n ys) is ∙ begins_before h.branch ys x (subst (λ (zs : List Said). Begins zs ys) push begins)
 
-pub begun_seen : (s : Stored) (h : Hypotheses) (new : List Said) (x : Said) → new ≡ h.branch ++ x ∷ [] → AreReady s h → IsSeen s (facts_in s new) h.seen
-begun_seen s h new x is r =
-    seen_grows s s h.branch new h.seen (Extends-refl s) r.said (subst (Begins h.branch) (sym is) (Begins-push h.branch h.branch x (Begins-refl h.branch))) r.seen
+pub begun_notes : (s : Stored) (h : Hypotheses) (new : List Said) (x : Said) → new ≡ h.branch ++ x ∷ [] → AreReady s h → AreNotes s (facts_in s new) h.notes
+begun_notes s h new x is r =
+    notes_grow s s h.branch new h.notes (Extends-refl s) r.said (subst (Begins h.branch) (sym is) (Begins-push h.branch h.branch x (Begins-refl h.branch))) r.notes
 
-pub cut_ready : (s t : Stored) (old new : Hypotheses) (ys : List Said) (len : ℕ) → Extends s t → AreReady s old → new.branch ≡ old.branch → new.branch ≡ take len ys → IsSeen t (take len (facts_in t ys)) new.seen → AreReady t new
-cut_ready s t old new ys len e r is cut seen = record {
+pub cut_ready : (s t : Stored) (old new : Hypotheses) (ys : List Said) (len : ℕ) → Extends s t → AreReady s old → new.branch ≡ old.branch → new.branch ≡ take len ys → AreNotes t (take len (facts_in t ys)) new.notes → AreReady t new
+cut_ready s t old new ys len e r is cut notes = record {
   said = subst (AreSaid t) (sym is) (AreSaid-more s t old.branch e r.said);
-  seen = subst (λ (fs : List Fact). IsSeen t fs new.seen) (take-map (said_fact t) len ys ∙ ap (facts_in t) (sym cut)) seen;
+  notes = subst (λ (fs : List Fact). AreNotes t fs new.notes) (take-map (said_fact t) len ys ∙ ap (facts_in t) (sym cut)) notes;
 }
 
 pub cut_known : (s t : Stored) (old new : Hypotheses) → Extends s t → AreReady s old → new.branch ≡ old.branch → known_in t new ≡ known_in s old

@@ -1,4 +1,4 @@
--- The lines that a sum has computed, while it computes one more.
+-- The lines that sums have computed, while one more is computed.
 use Rattle.std.proofs.Common.{◌≡◌, ℕ, Bool, true, false, cond, Option, Some, None, refl, sym, ap, subst, ◌∙◌}
 use Rattle.std.specs.Prelude.{nat_eq, option_map, if◌then◌else◌}
 use Rattle.std.specs.Bool.{beq}
@@ -11,9 +11,11 @@ use Rattle.sync_kernel.specs.declared.literals.Literal.{Literal}
 use Rattle.sync_kernel.specs.declared.branches.Known.{Known}
 use Rattle.sync_kernel.specs.declared.rows.Shape.{Shape}
 use Rattle.sync_kernel.specs.Shapes.{row_shaped}
-use Rattle.sync_kernel.specs.Literals.{literal_form, same_literal}
+use Rattle.sync_kernel.specs.Literals.{literal_form, IsLiteral, same_literal}
 use Rattle.sync_kernel.specs.Rows.{Row, row_of}
-use Rattle.sync_kernel.specs.SumLines.{IsRowLine, AreLines}
+use Rattle.sync_terms.proofs.Extending.{Extends-refl}
+use Rattle.sync_kernel.specs.declared.lines.Lines.{Lines}
+use Rattle.sync_kernel.specs.SumLines.{IsRowLine, WasLine, line_in, WereLines}
 
 same_sign : (a b : Bool) → beq a b ≡ true → a ≡ b
 same_sign true true e = refl
@@ -26,17 +28,21 @@ literal_is a b e =
     let p = and_parts (nat_eq a.form.0 b.form.0) (beq a.negated b.negated) e in
     ap (λ (n : ℕ). record { form = record { 0 = n }; negated = a.negated }) (eqb-true a.form.0 b.form.0 p.0) ∙ ap (λ (x : Bool). record { form = b.form; negated = x }) (same_sign a.negated b.negated p.1)
 
-pub no_lines : (s : Stored) (lines : Literal → Option Line) → ((l : Literal) → lines l ≡ None) → AreLines s lines
+pub no_lines : (s : Stored) (lines : Lines) → ((l : Literal) → line_in lines l ≡ None) → WereLines s lines
 no_lines s lines e = λ l x h. absurd (cc (e l))
 
-pub lines_more : (s : Stored) (old new : Literal → Option Line) (says : Literal) (row : Line) → AreLines s old → ((l : Literal) → new l ≡ cond (same_literal says l) (Some row) (old l)) → IsRowLine s (row_of (literal_form s says)) row → AreLines s new
+-- the line of a literal of the store
+pub is_line : (s : Stored) (l : Literal) (x : Line) → IsLiteral s l → IsRowLine s (row_of (literal_form s l)) x → WasLine s l x
+is_line s l x stored h = record { first = s; grew = Extends-refl s; stored = stored; line = h }
+
+pub lines_more : (s : Stored) (old new : Lines) (says : Literal) (row : Line) → WereLines s old → ((l : Literal) → line_in new l ≡ cond (same_literal says l) (Some row) (line_in old l)) → WasLine s says row → WereLines s new
 lines_more s old new says row h is r = λ l x e. by l x (same_literal says l) refl e
   where
-    by : (l : Literal) (x : Line) (b : Bool) → same_literal says l ≡ b → new l ≡ Some x → IsRowLine s (row_of (literal_form s l)) x
+    by : (l : Literal) (x : Line) (b : Bool) → same_literal says l ≡ b → line_in new l ≡ Some x → WasLine s l x
     by l x true q e =
-        let same : row ≡ x = cc (sym (cond-true (same_literal says l) (Some row) (old l) q) ∙ sym (is l) ∙ e) in
-        subst (λ (y : Line). IsRowLine s (row_of (literal_form s l)) y) same (subst (λ (k : Literal). IsRowLine s (row_of (literal_form s k)) row) (literal_is says l q) r)
-    by l x false q e = h l x (sym (cond-false (same_literal says l) (Some row) (old l) q) ∙ sym (is l) ∙ e)
+        let same : row ≡ x = cc (sym (cond-true (same_literal says l) (Some row) (line_in old l) q) ∙ sym (is l) ∙ e) in
+        subst (λ (y : Line). WasLine s l y) same (subst (λ (k : Literal). WasLine s k row) (literal_is says l q) r)
+    by l x false q e = h l x (sym (cond-false (same_literal says l) (Some row) (line_in old l) q) ∙ sym (is l) ∙ e)
 
 pub row_line : (s : Stored) (o : Option Row) (r : Row) (x : Line) → o ≡ Some r → IsRowLine s o x → IsLineOf s r.line x × Narrow r.line
 row_line s o r x e h = let p : IsRowLine s (Some r) x = subst (λ (y : Option Row). IsRowLine s y x) e h in p

@@ -22,4 +22,6 @@ pub mod SameSteps
 pub mod Trailing
 pub mod Closed
 pub mod Seeing
+pub mod Renewing
+pub mod Noting
 pub mod Assuming

@@ -13,5 +13,6 @@ pub mod Opposed
 pub mod SumLines
 pub mod Trails
 pub mod Seen
+pub mod Notes
 pub mod Hypotheses
 pub mod MapFacts

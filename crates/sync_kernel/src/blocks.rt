@@ -7,12 +7,12 @@ ghost use Rattle.sync_kernel.specs.Literals.{literal_form, IsLiteral};
 ghost use Rattle.sync_kernel.specs.Branches.{facts_in, AreSaid, Begins};
 ghost use Rattle.sync_kernel.specs.Scripts.{then_of, IsStepOf, with_fact, after, block_fault};
 ghost use Rattle.sync_kernel.specs.Holding.{StepPasses};
-ghost use Rattle.sync_kernel.specs.Seen.{IsSeen};
+ghost use Rattle.sync_kernel.specs.Notes.{AreNotes};
 
 use crate::branches::Branch;
 use crate::literals::Literal;
+use crate::notes::Notes;
 use crate::sames::same;
-use crate::seen::Seen;
 use crate::steps::{Left, MapFact, cut, inst, learn, parts, said, split};
 use crate::stops::refusal;
 use crate::sums::sum;
@@ -26,15 +26,15 @@ pub(crate) fn check_block(
     alloc: Global,
     terms: &mut Terms,
     branch: &mut Branch,
-    seen: &mut Seen,
+    notes: &mut Notes,
     block: &Block,
 ) -> Result<(), Stop>
     requires branch { AreSaid terms.old branch.old }
-    requires seen { IsSeen terms.old (facts_in terms.old branch.old) seen.old }
+    requires notes { AreNotes terms.old (facts_in terms.old branch.old) notes.old }
     requires script { IsScriptOf terms.old block.now }
     ensures exact { Passes result (block_fault (facts_in terms.old branch.old) (plan_of terms.old block.now)) }
     ensures begins { OnOk result (Begins branch.old branch.new) }
-    ensures seen { OnOk result (IsSeen terms.new (facts_in terms.new branch.new) seen.new) }
+    ensures notes { OnOk result (AreNotes terms.new (facts_in terms.new branch.new) notes.new) }
     ensures keeps { Extends terms.old terms.new }
 {
     let mut left = Left::Open;
@@ -42,7 +42,7 @@ pub(crate) fn check_block(
         if left == Left::Closed {
             return Err(refusal(step.line, Rule::K9));
         }
-        left = check_step(alloc, terms, branch, seen, step)?;
+        left = check_step(alloc, terms, branch, notes, step)?;
     }
     if left == Left::Open {
         return Err(refusal(block.end_line, Rule::K9));
@@ -56,25 +56,25 @@ fn check_case(
     alloc: Global,
     terms: &mut Terms,
     branch: &mut Branch,
-    seen: &mut Seen,
+    notes: &mut Notes,
     name: u32,
     says: Literal,
     block: &Block,
 ) -> Result<(), Stop>
     requires branch { AreSaid terms.old branch.old }
-    requires seen { IsSeen terms.old (facts_in terms.old branch.old) seen.old }
+    requires notes { AreNotes terms.old (facts_in terms.old branch.old) notes.old }
     requires says { IsLiteral terms.old says }
     requires script { IsScriptOf terms.old block.now }
     ensures exact { Passes result (block_fault (with_fact (facts_in terms.old branch.old) name (literal_form terms.old says)) (plan_of terms.old block.now)) }
     ensures branch { OnOk result (branch.new ≡ branch.old) }
-    ensures seen { OnOk result (IsSeen terms.new (facts_in terms.new branch.new) seen.new) }
+    ensures notes { OnOk result (AreNotes terms.new (facts_in terms.new branch.new) notes.new) }
     ensures keeps { Extends terms.old terms.new }
 {
     let len = branch.len();
     branch.push(said(alloc, terms, name, says))?;
-    check_block(alloc, terms, branch, seen, block)?;
+    check_block(alloc, terms, branch, notes, block)?;
     branch.cut_back(len);
-    seen.cut_back(len);
+    notes.cut_back(len);
     Ok(())
 }
 
@@ -84,26 +84,33 @@ fn check_step(
     alloc: Global,
     terms: &mut Terms,
     branch: &mut Branch,
-    seen: &mut Seen,
+    notes: &mut Notes,
     step: &ScriptStep,
 ) -> Result<Left, Stop>
     requires branch { AreSaid terms.old branch.old }
-    requires seen { IsSeen terms.old (facts_in terms.old branch.old) seen.old }
+    requires notes { AreNotes terms.old (facts_in terms.old branch.old) notes.old }
     requires step { IsStepOf terms.old step.now }
     ensures exact { (rest : Plan) → StepPasses result (block_fault (facts_in terms.old branch.old) (then_of terms.old step.now rest)) (block_fault (facts_in terms.new branch.new) rest) (after rest) }
     ensures said { OnOk result (AreSaid terms.new branch.new) }
     ensures begins { OnOk result (Begins branch.old branch.new) }
-    ensures seen { OnOk result (IsSeen terms.new (facts_in terms.new branch.new) seen.new) }
+    ensures notes { OnOk result (AreNotes terms.new (facts_in terms.new branch.new) notes.new) }
     ensures keeps { Extends terms.old terms.new }
 {
     let line = step.line;
     match &step.what {
         StepKind::Same => {
-            same(alloc, terms, branch, seen, line)?;
+            same(alloc, terms, branch, &mut notes.seen, line)?;
             return Ok(Left::Closed);
         }
         StepKind::Sum(list) => {
-            sum(alloc, terms, branch, line, list.as_slice())?;
+            sum(
+                alloc,
+                terms,
+                branch,
+                &mut notes.lines,
+                line,
+                list.as_slice(),
+            )?;
             return Ok(Left::Closed);
         }
         StepKind::Inst(hyp, list, name) => {
@@ -114,13 +121,13 @@ fn check_step(
         }
         StepKind::Split(hyp, name, first, second) => {
             let cases = split(terms, branch, *hyp, line)?;
-            check_case(alloc, terms, branch, seen, *name, cases.left, first)?;
-            check_case(alloc, terms, branch, seen, *name, cases.right, second)?;
+            check_case(alloc, terms, branch, notes, *name, cases.left, first)?;
+            check_case(alloc, terms, branch, notes, *name, cases.right, second)?;
             return Ok(Left::Closed);
         }
         StepKind::Cut(form, name, block) => {
             let cases = cut(terms, branch, *form, line)?;
-            check_case(alloc, terms, branch, seen, *name, cases.left, block)?;
+            check_case(alloc, terms, branch, notes, *name, cases.left, block)?;
             branch.push(said(alloc, terms, *name, cases.right))?;
         }
         StepKind::Read(map, key, name) => {

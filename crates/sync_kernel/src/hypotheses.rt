@@ -6,16 +6,16 @@ ghost use Rattle.sync_kernel.specs.Facts.{fact_of, facts_size};
 
 use crate::branches::{Branch, Said};
 use crate::literals::Literal;
-use crate::seen::Seen;
+use crate::notes::Notes;
 use crate::sequents::Hyp;
 use std::alloc::{AllocError, Global};
 use sync_terms::Terms;
 
-/// Hypotheses by their names, newest last, from which scripts may prove, and what `same` has seen of them.
+/// Hypotheses by their names, newest last, from which scripts may prove, and what is kept beside them from one proof to the next.
 #[derive(Drop)]
 pub struct Hypotheses {
     pub(crate) branch: Branch,
-    pub(crate) seen: Seen,
+    pub(crate) notes: Notes,
 }
 
 impl Hypotheses {
@@ -28,7 +28,7 @@ impl Hypotheses {
     {
         Hypotheses {
             branch: Branch::new(alloc),
-            seen: Seen::new(alloc),
+            notes: Notes::new(alloc),
         }
     }
 

@@ -6,6 +6,7 @@ mod branches;
 mod hypotheses;
 mod lines;
 mod literals;
+mod notes;
 mod provers;
 mod rows;
 mod sames;

@@ -1,12 +1,11 @@
-//! The lines of a sum's facts, each computed once.
+//! The lines of the facts that sums have used, each computed once.
 ghost use Rattle.std.specs.Prelude.{◌≡◌, Err, Some, OnOk, IsSome};
-ghost use Rattle.std.specs.HashMap.{get};
 ghost use Rattle.sync_linear.specs.declared.stops.LinearStop.TheVariants.{Width};
 ghost use Rattle.sync_linear.specs.Forms.{Narrow};
-ghost use Rattle.sync_kernel.specs.Literals.{literal_form, same_literal};
+ghost use Rattle.sync_terms.specs.Stored.{Stored};
+ghost use Rattle.sync_kernel.specs.Literals.{literal_form, IsLiteral};
 ghost use Rattle.sync_kernel.specs.Rows.{row_of};
 ghost use Rattle.sync_kernel.specs.Shapes.{shaped, row_shaped};
-ghost use Rattle.sync_kernel.specs.SumLines.{AreLines};
 
 use crate::literals::Literal;
 use crate::rows::Shape;
@@ -15,30 +14,66 @@ use std::collections::HashMap;
 use sync_linear::{Linear, LinearStop};
 use sync_terms::Terms;
 
-/// Computes the line of what is said, if it was not computed before.
-pub(crate) fn keep_line(
-    alloc: Global,
-    terms: &Terms,
-    lines: &mut HashMap<Literal, Linear>,
-    says: Literal,
-    shape: Shape,
-) -> Result<(), LinearStop>
-    requires shape { shaped terms.now shape }
-    requires row { row_of (literal_form terms.now says) ≡ Some (row_shaped terms.now shape) }
-    requires lines { AreLines terms.now (get same_literal lines.old) }
-    ensures lines { AreLines terms.now (get same_literal lines.new) }
-    ensures there { OnOk result (IsSome (get same_literal lines.new says)) }
-    ensures width { result ≡ Err Width → Narrow (row_shaped terms.now shape).line → ⊥ }
-{
-    if lines.contains_key(&says) {
-        return Ok(());
+/// The most nodes of formulas whose lines one sum leaves to the next.
+const MOST_KEPT: u64 = 262_144;
+
+/// The lines that are kept, and the number of nodes of their formulas, as far as the type goes.
+#[derive(Drop)]
+pub(crate) struct Lines {
+    pub kept: HashMap<Literal, Linear>,
+    pub nodes: u64,
+}
+
+impl Lines {
+    ghost use Rattle.sync_kernel.specs.SumLines.{line_in, WereLines};
+
+    /// No lines.
+    pub(crate) fn new(alloc: Global) -> Lines
+        ensures { (s : Stored) → WereLines s result }
+    {
+        Lines {
+            kept: HashMap::new(alloc),
+            nodes: 0,
+        }
     }
-    let line = match shape.line(alloc, terms) {
-        Ok(line) => line,
-        Err(stop) => return Err(stop),
-    };
-    match lines.insert(says, line) {
-        Ok(_) => Ok(()),
-        Err(_) => Err(LinearStop::Memory),
+
+    /// Drops the lines where they are large together.
+    pub(crate) fn limit(&mut self, alloc: Global)
+        ensures { (s : Stored) → WereLines s self.old → WereLines s self.new }
+    {
+        if self.nodes > MOST_KEPT {
+            *self = Lines::new(alloc);
+        }
+    }
+
+    /// Computes the line of what is said, if it was not computed before.
+    pub(crate) fn keep(
+        &mut self,
+        alloc: Global,
+        terms: &Terms,
+        says: Literal,
+        shape: Shape,
+    ) -> Result<(), LinearStop>
+        requires stored { IsLiteral terms.now says }
+        requires shape { shaped terms.now shape }
+        requires row { row_of (literal_form terms.now says) ≡ Some (row_shaped terms.now shape) }
+        requires lines { WereLines terms.now self.old }
+        ensures lines { WereLines terms.now self.new }
+        ensures there { OnOk result (IsSome (line_in self.new says)) }
+        ensures width { result ≡ Err Width → Narrow (row_shaped terms.now shape).line → ⊥ }
+    {
+        if self.kept.contains_key(&says) {
+            return Ok(());
+        }
+        let line = match shape.line(alloc, terms) {
+            Ok(line) => line,
+            Err(stop) => return Err(stop),
+        };
+        let size = says.size(terms);
+        self.nodes = self.nodes.saturating_add(size);
+        match self.kept.insert(says, line) {
+            Ok(_) => Ok(()),
+            Err(_) => Err(LinearStop::Memory),
+        }
     }
 }

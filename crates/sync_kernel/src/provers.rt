@@ -68,9 +68,9 @@ pub fn prove_from(
     let len = hyps.branch.len();
     let denied = Literal::denial(terms, claim);
     hyps.branch.push(Said::new(terms, HypName::Denied, Items::new(alloc), denied))?;
-    check_block(alloc, terms, &mut hyps.branch, &mut hyps.seen, &s.block)?;
+    check_block(alloc, terms, &mut hyps.branch, &mut hyps.notes, &s.block)?;
     hyps.branch.cut_back(len);
-    hyps.seen.cut_back(len);
+    hyps.notes.cut_back(len);
     Ok(())
 }
 

@@ -1,6 +1,6 @@
 //! Formulas as lines.
 ghost use Rattle.std.specs.Prelude.{◌≡◌, Err, Some, IfOk, OnOk, IfSome, option_map};
-ghost use Rattle.sync_terms.specs.Stored.{Stored, IsTerm, HasParts, form_shape};
+ghost use Rattle.sync_terms.specs.Stored.{Stored, IsTerm, IsShared, HasParts, form_shape};
 ghost use Rattle.sync_linear.specs.declared.stops.LinearStop.TheVariants.{Width};
 ghost use Rattle.sync_linear.specs.Forms.{Narrow};
 ghost use Rattle.sync_linear.specs.Stores.{IsLineOf};
@@ -104,6 +104,7 @@ pub(crate) fn shape_of(terms: &Terms, says: Literal) -> Option<Shape>
     requires { IsLiteral terms.now says }
     ensures row { option_map (row_shaped terms.now) result ≡ row_of (literal_form terms.now says) }
     ensures stored { IfSome result (shaped terms.now) }
+    ensures shared { IsShared terms.now }
 {
     let node = terms.form(says.form);
     if says.negated {

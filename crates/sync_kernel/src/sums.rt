@@ -1,27 +1,24 @@
 //! The step `sum`.
-ghost use Rattle.std.specs.Prelude.{◌≡◌, Option, None, IfSome, option_map, if◌then◌else◌};
-ghost use Rattle.std.specs.HashMap.{get};
+ghost use Rattle.std.specs.Prelude.{◌≡◌, Option, None, IfSome, OnSome, OnOk, option_map, if◌then◌else◌};
 ghost use Rattle.std.specs.List.{list_all};
 ghost use Rattle.sync_base.specs.Outcome.{Passes};
-ghost use Rattle.sync_terms.specs.Stored.{Stored};
+ghost use Rattle.sync_terms.specs.Stored.{Stored, IsShared};
 ghost use Rattle.sync_terms.specs.Trees.{Tree};
 ghost use Rattle.sync_linear.specs.Stores.{IsLineOf};
 ghost use Rattle.sync_kernel.specs.Facts.{Fact};
 ghost use Rattle.sync_kernel.specs.Branches.{facts_in, AreSaid};
-ghost use Rattle.sync_kernel.specs.Literals.{literal_form, IsLiteral, same_literal};
-ghost use Rattle.sync_kernel.specs.SumLines.{AreLines};
+ghost use Rattle.sync_kernel.specs.Literals.{literal_form, IsLiteral};
+ghost use Rattle.sync_kernel.specs.SumLines.{WereLines};
 ghost use Rattle.sync_kernel.specs.Rows.{row_of};
 ghost use Rattle.sync_kernel.specs.Shapes.{shaped, row_shaped};
 ghost use Rattle.sync_kernel.specs.Steps.{at_line, is_bound, is_turned, with_part as part_added, one_apart as has_one_apart, closes as is_closed, sum_fault};
 ghost use Rattle.sync_kernel.specs.Holding.{IsKnown, StepGives};
 
 use crate::branches::{Branch, Known};
-use crate::lines::keep_line;
-use crate::literals::Literal;
+use crate::lines::Lines;
 use crate::rows::{Kind, Shape, Used, shape_of};
 use crate::stops::{refusal, too_wide};
 use std::alloc::Global;
-use std::collections::HashMap;
 use sync_base::{Rule, Stop};
 use sync_linear::{Change, Linear};
 use sync_terms::{Part, Terms};
@@ -48,6 +45,7 @@ fn shape_known(terms: &Terms, known: Known) -> Option<Shape>
     requires { IsLiteral terms.now known.says }
     ensures row { option_map (row_shaped terms.now) result ≡ (if known.plain then row_of (literal_form terms.now known.says) else None) }
     ensures stored { IfSome result (shaped terms.now) }
+    ensures shared { OnSome result (IsShared terms.now) }
 {
     if known.plain {
         shape_of(terms, known.says)
@@ -60,15 +58,15 @@ fn shape_known(terms: &Terms, known: Known) -> Option<Shape>
 fn with_part(
     alloc: Global,
     terms: &Terms,
-    lines: &mut HashMap<Literal, Linear>,
+    lines: &mut Lines,
     known: Option<Known>,
     part: &Part,
     total: Linear,
     line: u32,
 ) -> Result<Summed, Stop>
     requires known { IfSome known (λ k. IsLiteral terms.now k.says) }
-    requires lines { AreLines terms.now (get same_literal lines.old) }
-    ensures lines { AreLines terms.now (get same_literal lines.new) }
+    requires lines { WereLines terms.now lines.old }
+    ensures lines { WereLines terms.now lines.new }
     ensures part { (sum : Tree) (fact : Option Fact) → IsLineOf terms.now sum total → IsKnown terms.now known fact → StepGives terms.now line result (part_added fact sum part.now) }
 {
     let Some(known) = known else {
@@ -80,10 +78,10 @@ fn with_part(
     if turned(shape.kind, part) {
         return Err(refusal(line, Rule::K6));
     }
-    if let Err(stop) = keep_line(alloc, terms, lines, known.says, shape) {
+    if let Err(stop) = lines.keep(alloc, terms, known.says, shape) {
         return Err(too_wide(stop, line));
     }
-    let row = lines.get(&known.says).unwrap();
+    let row = lines.kept.get(&known.says).unwrap();
     match total.changed(Change::Times(part.times), row) {
         Ok(total) => Ok(Summed {
             total,
@@ -146,18 +144,21 @@ pub(crate) fn sum(
     alloc: Global,
     terms: &Terms,
     branch: &Branch,
+    lines: &mut Lines,
     line: u32,
     parts: &[Part],
 ) -> Result<(), Stop>
-    requires { AreSaid terms.now branch.now }
-    ensures { Passes result (at_line line (sum_fault (facts_in terms.now branch.now) parts.now)) }
+    requires said { AreSaid terms.now branch.now }
+    requires lines { WereLines terms.now lines.old }
+    ensures exact { Passes result (at_line line (sum_fault (facts_in terms.now branch.now) parts.now)) }
+    ensures lines { OnOk result (WereLines terms.now lines.new) }
 {
+    lines.limit(alloc);
     let mut total = Linear::zero(alloc);
     let mut used = Vec::new(alloc);
-    let mut lines = HashMap::new(alloc);
     for part in parts {
         let known = branch.known(part.hyp);
-        let next = with_part(alloc, terms, &mut lines, known, part, total, line)?;
+        let next = with_part(alloc, terms, lines, known, part, total, line)?;
         total = next.total;
         used.push(next.used)?;
     }

@@ -1,6 +1,8 @@
 pub mod Held
 pub mod SignLen
 pub mod Numbers
+pub mod Endings
+pub mod Digits
 pub mod Within
 pub mod Matches
 pub mod Parting

@@ -10,6 +10,9 @@ use crate::lexemes::Kind;
 use crate::punctuation::sign_len;
 use sync_base::{LARGEST, LONGEST_NAME, Rule};
 
+/// How many digits 2^127 - 1 has: numbers of fewer digits are below it.
+const LARGEST_DIGITS: usize = 39;
+
 /// The longest thing at the front of a text, with its length in bytes.
 pub(crate) enum Piece {
     /// A blank or a comment.
@@ -46,7 +49,27 @@ fn name_piece(bytes: &[u8]) -> Piece
     }
 }
 
+fn digits_len(bytes: &[u8]) -> usize
+    ensures { result ≡ prefix_len is_ascii_digit bytes.now }
+{
+    bytes
+        .iter()
+        .take_while(|byte| byte.is_ascii_digit())
+        .count()
+}
+
 fn number_piece(bytes: &[u8]) -> Piece
+    ensures { result ≡ number_piece (take_while is_ascii_digit bytes.now) }
+{
+    let len = digits_len(bytes);
+    if len < LARGEST_DIGITS {
+        Piece::Match(Kind::Number, len)
+    } else {
+        long_number_piece(bytes)
+    }
+}
+
+fn long_number_piece(bytes: &[u8]) -> Piece
     ensures { result ≡ number_piece (take_while is_ascii_digit bytes.now) }
 {
     let mut value: u128 = 0;

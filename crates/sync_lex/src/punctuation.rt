@@ -1,7 +1,9 @@
 //! Which sign that is no reserved word stands at the front of bytes.
-ghost use Rattle.std.specs.Prelude.{◌≡◌, map};
+ghost use Rattle.std.specs.Prelude.{◌≡◌, ◌∷◌, [], Some, IfSome, map};
 ghost use Rattle.sync_lex.specs.Punctuation.{begins_any, sign_len};
-ghost use Rattle.sync_lex.specs.Signs.{singles, doubles, spelling_of};
+ghost use Rattle.sync_lex.specs.Signs.{singles, doubles, spelling_of, sign_of};
+
+use crate::signs::Sign;
 
 const SINGLES: [u8; 20] = *b"{}()[],;:?@$!*/%+-=<";
 
@@ -41,5 +43,45 @@ pub(crate) fn sign_len(bytes: &[u8]) -> usize
         1
     } else {
         0
+    }
+}
+
+/// The sign that a byte alone is.
+#[tactic(auto, unfolding(crate::specs::Signs::sign_of, crate::specs::Signs::spelling_of))]
+fn single_at(byte: u8) -> Option<Sign>
+    ensures { IfSome result (λ s. sign_of (byte ∷ []) ≡ Some s) }
+{
+    match byte {
+        b'{' => Some(Sign::OpenBrace),
+        b'}' => Some(Sign::CloseBrace),
+        b'(' => Some(Sign::OpenRound),
+        b')' => Some(Sign::CloseRound),
+        b'[' => Some(Sign::OpenSquare),
+        b']' => Some(Sign::CloseSquare),
+        b',' => Some(Sign::Comma),
+        b';' => Some(Sign::Semicolon),
+        b':' => Some(Sign::Colon),
+        b'?' => Some(Sign::Question),
+        b'@' => Some(Sign::Label),
+        b'$' => Some(Sign::Dollar),
+        b'!' => Some(Sign::Bang),
+        b'*' => Some(Sign::Star),
+        b'/' => Some(Sign::Slash),
+        b'%' => Some(Sign::Percent),
+        b'+' => Some(Sign::Plus),
+        b'-' => Some(Sign::Minus),
+        b'=' => Some(Sign::Equal),
+        b'<' => Some(Sign::Below),
+        _ => None,
+    }
+}
+
+/// The sign that the bytes are, where it is of one byte. Such signs need no look-up.
+pub(crate) fn single_of(bytes: &[u8]) -> Option<Sign>
+    ensures { IfSome result (λ s. sign_of bytes.now ≡ Some s) }
+{
+    match bytes {
+        [byte] => single_at(*byte),
+        _ => None,
     }
 }

@@ -2,6 +2,8 @@
 ghost use Rattle.std.specs.Prelude.{◌≡◌};
 ghost use Rattle.sync_lex.specs.Signs.{is_same, spelling_of, sign_of};
 
+use crate::bytes::ends_in_digit;
+
 /// A sign or a reserved word.
 #[derive(Clone, Copy, PartialEq, Eq, Debug)]
 pub enum Sign {
@@ -428,6 +430,9 @@ impl Sign {
 pub fn sign_of(bytes: &[u8]) -> Option<Sign>
     ensures { result ≡ sign_of bytes.now }
 {
+    if ends_in_digit(bytes) {
+        return None;
+    }
     SIGNS
         .iter()
         .copied()

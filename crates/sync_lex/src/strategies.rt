@@ -2,6 +2,7 @@
 ghost use Rattle.std.specs.Prelude.{◌≡◌};
 ghost use Rattle.sync_lex.specs.Strategies.{spelling_of, strategy_of};
 
+use crate::bytes::ends_in_digit;
 use sync_base::Strategy;
 
 const STRATEGIES: [Strategy; 13] = [
@@ -47,6 +48,9 @@ pub fn strategy_name(strategy: Strategy) -> &'static str
 pub fn strategy_of(bytes: &[u8]) -> Option<Strategy>
     ensures { result ≡ strategy_of bytes.now }
 {
+    if ends_in_digit(bytes) {
+        return None;
+    }
     STRATEGIES
         .iter()
         .copied()

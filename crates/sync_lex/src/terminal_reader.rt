@@ -1,14 +1,15 @@
 //! From bytes to terminals.
-ghost use Rattle.std.specs.Prelude.{◌≡◌, false, IfOk, OnOk};
+ghost use Rattle.std.specs.Prelude.{◌≡◌, ◌≤◌, ◌<◌, ◌-◌, false, length, IfOk, OnOk};
 ghost use Rattle.std.specs.HashMap.{get_by};
 ghost use Rattle.std.specs.List.{list_any};
 ghost use Rattle.std.specs.Str.{bytes_eq};
 ghost use Rattle.sync_base.specs.Outcome.{Gives};
-ghost use Rattle.sync_lex.specs.Terminals.{bytes_at, number_of, said, named, spells, Recalls, terminals_of, terminals_in};
+ghost use Rattle.sync_lex.specs.Terminals.{bytes_at, number_of, decimal_after, said, named, spells, Recalls, terminals_of, terminals_in};
 ghost use Rattle.sync_lex.specs.Signs.{sign_of};
 
 use crate::lexemes::{Kind, Lexeme};
 use crate::lexer::lex;
+use crate::punctuation::single_of;
 use crate::signs::sign_of;
 use crate::strategies::strategy_of;
 use crate::terminals::{Terminal, TerminalKind, Terminals};
@@ -16,6 +17,9 @@ use sqlite_items::Items;
 use std::alloc::Global;
 use std::collections::HashMap;
 use sync_base::{LARGEST, Name, NameList, NoMemory, Stop};
+
+/// So many digits make a number of 64 bits, whatever bytes they are.
+const SHORT: usize = 17;
 
 #[tactic(auto, unfolding(crate::specs::Terminals::bytes_at))]
 fn bytes_at<'a>(text: &'a [u8], lexeme: Lexeme) -> &'a [u8]
@@ -30,10 +34,32 @@ fn bytes_at<'a>(text: &'a [u8], lexeme: Lexeme) -> &'a [u8]
     }
 }
 
+fn digit_of(byte: u8) -> u64
+    ensures exact { result ≡ byte - 48 }
+    ensures small { result < 256 }
+{
+    u64::from(byte.saturating_sub(b'0'))
+}
+
+/// The number of at most 17 digits.
+fn short_number_of(digits: &[u8]) -> u64
+    requires { length digits.now ≤ SHORT }
+    ensures { result ≡ decimal_after 0 digits.now }
+{
+    let mut number = 0;
+    for digit in digits {
+        number = number * 10 + digit_of(*digit);
+    }
+    number
+}
+
 #[tactic(auto, unfolding(crate::specs::Terminals::number_of))]
 fn number_of(digits: &[u8]) -> u128
     ensures { result ≡ number_of digits.now }
 {
+    if digits.len() <= SHORT {
+        return u128::from(short_number_of(digits));
+    }
     let mut number: u128 = 0;
     for digit in digits {
         let value = u128::from(digit.saturating_sub(b'0'));
@@ -80,6 +106,9 @@ fn said<'a>(
     if kind == Kind::Number {
         return Ok(TerminalKind::Number(number_of(bytes)));
     }
+    if let Some(sign) = single_of(bytes) {
+        return Ok(TerminalKind::Sign(sign));
+    }
     if let Some(what) = met.get(bytes) {
         return Ok(*what);
     }
@@ -99,7 +128,7 @@ fn terminals_of(
 {
     let mut met: HashMap<&[u8], TerminalKind> = HashMap::new(alloc);
     let mut names = Items::new(alloc);
-    let mut list = Items::new(alloc);
+    let mut list = Vec::with_capacity(alloc, lexemes.len())?;
     for lexeme in lexemes {
         let bytes = bytes_at(text, *lexeme);
         let what = said(alloc, &mut met, &mut names, lexeme.kind, bytes)?;
@@ -108,7 +137,7 @@ fn terminals_of(
             line: lexeme.line,
         })?;
     }
-    Ok((list, names))
+    Ok((Items::from_vec(list), names))
 }
 
 /// The terminals of a text, or the first rule L that it breaks.

@@ -48,8 +48,9 @@ fn keyed<'a>(
     Ok((RawPlace::Key(key), terminals))
 }
 
+/// A value in round brackets, or a key in square ones, maybe with its value.
 #[tactic(auto, unfolding(crate::specs::Machines::place_at))]
-fn place<'a>(alloc: Global, terminals: &'a [Terminal], left: u32) -> Read<'a, RawPlace>
+pub fn place<'a>(alloc: Global, terminals: &'a [Terminal], left: u32) -> Read<'a, RawPlace>
     ensures { Reads (λ x. (x.0, x.1.now)) result (place_at left terminals.now) }
 {
     if begins_with(terminals, Sign::OpenRound) {

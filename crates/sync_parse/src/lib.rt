@@ -7,7 +7,9 @@ mod script_reader;
 mod scripts;
 mod trees;
 
-pub use machine_reader::parse;
+pub use act_reader::place;
+pub use machine_reader::{machine, parse, proofs, refusal_of, version};
+pub use script_reader::script;
 pub use scripts::{
     RawBlock, RawHypName, RawPart, RawScript, RawScriptStep, RawStepKind, RawSubject,
 };

@@ -182,8 +182,9 @@ fn invariants<'a>(
     Ok((held, rest))
 }
 
+/// `machine`, its name, its fields, operations and invariants.
 #[tactic(auto, unfolding(crate::specs::Machines::machine_at))]
-fn machine<'a>(alloc: Global, terminals: &'a [Terminal], left: u32) -> Read<'a, RawMachine>
+pub fn machine<'a>(alloc: Global, terminals: &'a [Terminal], left: u32) -> Read<'a, RawMachine>
     ensures { Reads (λ x. (x.0, x.1.now)) result (machine_at left terminals.now) }
 {
     let (line, rest) = sign(terminals, left, Sign::Machine)?;
@@ -256,7 +257,7 @@ fn proof_row<'a>(alloc: Global, terminals: &'a [Terminal], left: u32) -> Read<'a
 
 /// The proofs, or none where they do not begin.
 #[tactic(auto, unfolding(crate::specs::Machines::proofs_at))]
-fn proofs<'a>(alloc: Global, terminals: &'a [Terminal], left: u32) -> Read<'a, Items<RawProof>>
+pub fn proofs<'a>(alloc: Global, terminals: &'a [Terminal], left: u32) -> Read<'a, Items<RawProof>>
     ensures { Reads (λ x. (x.0, x.1.now)) result (proofs_at left terminals.now) }
 {
     if !begins_with(terminals, Sign::Proofs) {
@@ -269,9 +270,9 @@ fn proofs<'a>(alloc: Global, terminals: &'a [Terminal], left: u32) -> Read<'a, I
     Ok((proofs, rest))
 }
 
-/// `version` and the number 1.
+/// `version` and the number 1; the line of `version`.
 #[tactic(auto, unfolding(crate::specs::Machines::version_at))]
-fn version<'a>(terminals: &'a [Terminal], left: u32) -> Read<'a, u32>
+pub fn version<'a>(terminals: &'a [Terminal], left: u32) -> Read<'a, u32>
     ensures { Reads (λ x. (x.0, x.1.now)) result (version_at left terminals.now) }
 {
     let (line, rest) = sign(terminals, left, Sign::Version)?;
@@ -303,7 +304,7 @@ fn text_of(alloc: Global, terminals: &[Terminal]) -> Result<(RawMachine, Items<R
 
 /// The rule that a fault breaks, in a text whose last line this is.
 #[tactic(auto, unfolding(crate::specs::Faults::refusal_of))]
-fn refusal_of(last_line: u32, fault: Fault) -> Refusal
+pub fn refusal_of(last_line: u32, fault: Fault) -> Refusal
     ensures { result ≡ refusal_of last_line fault }
 {
     let (line, rule) = match fault {

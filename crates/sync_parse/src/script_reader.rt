@@ -360,7 +360,7 @@ fn block<'a>(alloc: Global, terminals: &'a [Terminal], left: u32) -> Read<'a, Ra
 
 /// `by` and a block.
 #[tactic(auto, unfolding(crate::specs::Scripts::script_at))]
-pub(crate) fn script<'a>(alloc: Global, terminals: &'a [Terminal], left: u32) -> Read<'a, RawScript>
+pub fn script<'a>(alloc: Global, terminals: &'a [Terminal], left: u32) -> Read<'a, RawScript>
     ensures { Reads (λ x. (x.0, x.1.now)) result (script_at left terminals.now) }
 {
     let (line, rest) = sign(terminals, left, Sign::By)?;

@@ -1,5 +1,6 @@
--- What is spelled as an expression is read, where it is not too deep.
-use Rattle.std.proofs.Common.{◌≡◌, ℕ, zero, suc, ◌-◌, ◌<◌, ◌==◌, ◌||◌, Bool, true, false, if◌then◌else◌, List, [], ◌∷◌, Ok, Err, Option, Some, None, is_some, refl, sym, ap, ◌∙◌, subst, arith}
+-- What is spelled as an expression is read exactly where it fits its place, and is else refused for depth.
+use Rattle.std.proofs.Common.{◌≡◌, ℕ, zero, suc, ◌+◌, ◌-◌, ◌<◌, ◌≤◌, ◌==◌, ◌||◌, Bool, true, false, if◌then◌else◌, List, [], ◌∷◌, map, Ok, Err, Option, Some, None, is_some, refl, sym, ap, ◌∙◌, subst, arith}
+use Rattle.std.proofs.lemmas.Bool.{eqb-true}
 use Rattle.sync_base.proofs.Basics.{some_is, not_true}
 use Rattle.sync_base.specs.Outcome as outcome
 use Rattle.sync_lex.specs.declared.signs.Sign.{Sign}
@@ -22,27 +23,35 @@ use Rattle.sync_parse_exprs.specs.declared.expressions.Function.TheVariants as f
 use Rattle.sync_parse_exprs.specs.declared.expressions.Operator.{Operator}
 use Rattle.sync_parse_exprs.specs.declared.expressions.Operator.TheVariants as operator
 use Rattle.sync_parse_exprs.specs.Terminals.{Read, Reader, first_line, listed, in_round}
-use Rattle.sync_parse_exprs.specs.Expressions.{placed, whole, special_of, function_of, relation_of, sum_of, and_of, or_of, factor_of, factor_said, begins_operand, sign_operand, operand_said, operand, prefixed, unary_with, unary, times, product, chain, chained, sums, related, relation, ands, ors, implied, implies, inside, expr_at, exprs_at}
+use Rattle.sync_parse_exprs.specs.Expressions.{signed, placed, whole, special_of, function_of, relation_of, sum_of, and_of, or_of, factor_of, factor_said, begins_operand, sign_operand, operand_said, operand, prefixed, unary_with, unary, times, product, chain, chained, sums, related, relation, ands, ors, implied, implies, inside, expr_at, exprs_at}
 use Rattle.sync_parse_grammar.specs.Relations.{Spelled, The, AName, ANumber, Yields, ◌>>=◌, Either, the_one, the_other, InRound}
 use Rattle.sync_parse_grammar.specs.Expressions.{placed_at, Whole, NoNumber, Operand, Unary, Product, Chain, Chained, Joins, SumSign, Sum, RelationSign, Relation, And, Or, Implied, Nested, AnExpr, Args}
 use Rattle.sync_parse_grammar.proofs.Clears.{code, front, front_of, Set, any, only, both, others, In, only_in, among_in, both_in, others_in, others_first, not_both, Starts, starts_then, starts_the, follows_starts, follows_yields, follows_or, head_is, tail_is}
 use Rattle.sync_parse_grammar.proofs.ExpressionsSound.{Table, whole_is, or_table, and_table, sum_table, relation_table}
 use Rattle.sync_parse_grammar.proofs.ExpressionsClear.{Inner, operands, begins, times_sign, sum_signs, relation_signs, and_signs, or_signs, operators, relations, relations_in, starts_operand, starts_whole, number_alone, nested_inner, starts_nested, sum_fork, relation_fork, joins_fork, no_operator, implies_follows, follows_chain_case}
 use Rattle.sync_parse_grammar.proofs.Counting.{silent_nested, silent_expr}
-use Rattle.sync_parse_grammar.proofs.Completes.{Met, gives, Complete, Shrinks, complete_yields, complete_then, complete_next, complete_here, met_if, met_else, met_within, says, is_it, complete_the, complete_name, complete_number, front_case, pair_is, complete_round}
+use Rattle.sync_parse_grammar.specs.Shallow.{flat, with_all, in_brackets, Run, signs, implications, extent, expr_depth}
+use Rattle.sync_parse_grammar.specs.Shallow as shallow
+use Rattle.sync_parse_grammar.proofs.Depths.{Fits, fits_room, fits_flat, fits_both, both_first, both_second, fits_within, within_fits, each_fits, fits_each, FitsKind, FitsExpr, fits_placed, placed_fits, IsSingle, IsLonger, of_number, of_name, of_param, of_nil, of_special, of_bracketed, of_call, of_not, of_minus, of_times, single_fits, fits_single, run_of, run_placed}
+use Rattle.sync_parse_grammar.proofs.Runs.{operand_run, own_run, product_run, Links, sum_links, and_links, or_links, relation_two, relation_run, and_run, or_run, fits_longer, longer_fits, signs_small, of_implies, implications_small, linked_fits, fits_behind, linked_run, linked_small, chain_back}
+use Rattle.sync_parse_grammar.proofs.Completes.{Met, gives, met_as, too_deep, Complete, Shrinks, shows_then, shows_yields, complete_yields, complete_spelled, complete_then, complete_part, complete_next, complete_here, met_if, met_else, met_within, says, is_it, complete_the, complete_name, complete_factor, front_case, pair_is, Round, complete_round}
 
 -- ---- whole expressions
 
-whole_case : {m : Spelled RawExprKind} {ts rest : List Terminal} {e : RawExpr} (r : Read RawExprKind) → Whole m ts rest e → ((x : RawExprKind) → m ts rest x → Met r (x, rest))
-    → Met {A = RawExpr × List Terminal} (outcome.◌>>=◌ r (λ x. Ok (placed x.0 (first_line ts), x.1))) (e, rest)
-whole_case {ts = ts} (Ok v) d met =
+whole_case : {m : Spelled RawExprKind} (left : ℕ) {ts rest : List Terminal} {e : RawExpr} (r : Read RawExprKind) → Whole m ts rest e → ((x : RawExprKind) → m ts rest x → Met r (x, rest) (FitsKind left x))
+    → Met {A = RawExpr × List Terminal} (outcome.◌>>=◌ r (λ x. Ok (placed x.0 (first_line ts), x.1))) (e, rest) (FitsExpr left e)
+whole_case left {ts = ts} (Ok v) d met =
     let x = whole_is d in
     let h = (met x.0 x.1).is in
-    gives (ap (λ z. placed z.0 (first_line ts)) h ∙ sym x.2) (ap (λ z. z.1) h)
-whole_case (Err f) d met = let x = whole_is d in record { is = (met x.0 x.1).is }
+    gives (ap (λ z. placed z.0 (first_line ts)) h.0 ∙ sym x.2) (ap (λ z. z.1) h.0) (subst (FitsExpr left) (sym x.2) (fits_placed left x.0 (first_line ts) h.1))
+whole_case left {ts = ts} (Err f) d met =
+    let x = whole_is d in
+    let h = (met x.0 x.1).is in
+    record { is = (h.0, λ fits. h.1 (placed_fits left x.0 (first_line ts) (subst (FitsExpr left) x.2 fits))) }
 
-pub complete_whole : {q : Set} {m : Spelled RawExprKind} {read : Reader RawExprKind} → ((ts : List Terminal) → Complete q m ts (read ts)) → (ts : List Terminal) → Complete q (Whole m) ts (whole read ts)
-complete_whole {read = read} c ts = record { at = λ e rest d after. whole_case (read ts) d (λ x k. (c ts).at x rest k after) }
+pub complete_whole : {q : Set} {m : Spelled RawExprKind} {read : Reader RawExprKind} (left : ℕ) → ((ts : List Terminal) → Complete q m (FitsKind left) ts (read ts)) → (ts : List Terminal)
+    → Complete q (Whole m) (FitsExpr left) ts (whole read ts)
+complete_whole {read = read} left c ts = record { at = λ e rest d after. whole_case left (read ts) d (λ x k. (c ts).at x rest k after) }
 
 -- ---- operands
 
@@ -50,17 +59,33 @@ complete_whole {read = read} c ts = record { at = λ e rest d after. whole_case 
 pub record Inside (m : Spelled RawExprKind) (left : ℕ) (inner : Reader RawExprKind) : Type 0 where
   pub known : Inner m m
   pub shrinks : Shrinks m
-  pub complete : 0 < left → (ts : List Terminal) → Complete (others operators) m ts (inner ts)
+  pub complete : 0 < left → (ts : List Terminal) → Complete (others operators) m (FitsKind (left - 1)) ts (inner ts)
 
 shrinks_whole : {m : Spelled RawExprKind} → Shrinks m → Shrinks (Whole m)
 shrinks_whole s = record { at = λ ts rest e d. let x = whole_is d in s.at ts rest x.0 x.1 }
 
+-- an operand of one lexeme fits where there is a level left
+lexeme_fits : (left : ℕ) (x : RawExprKind) → IsSingle x flat → 0 < left → FitsKind left x
+lexeme_fits left x i room = single_fits left x flat i (fits_flat left room)
+
+pub round_fits : (left : ℕ) (args : List RawExpr) → Round left (FitsExpr (left - 1)) args → Fits left (in_brackets (with_all (map expr_depth args)))
+round_fits left args r = fits_within left (with_all (map expr_depth args)) (each_fits (left - 1) expr_depth args r.0 r.1)
+
+pub fits_round : (left : ℕ) (args : List RawExpr) → Fits left (in_brackets (with_all (map expr_depth args))) → Round left (FitsExpr (left - 1)) args
+fits_round left args fits = let h = within_fits left (with_all (map expr_depth args)) fits in (fits_room h, fits_each (left - 1) expr_depth args h)
+
+call_fits : (left : ℕ) (f : Function) (line : ℕ) (args : List RawExpr) → Round left (FitsExpr (left - 1)) args → FitsKind left (kind.Call f line args)
+call_fits left f line args r = single_fits left (kind.Call f line args) _ (of_call f line args) (round_fits left args r)
+
+fits_call : (left : ℕ) (f : Function) (line : ℕ) (args : List RawExpr) → FitsKind left (kind.Call f line args) → Round left (FitsExpr (left - 1)) args
+fits_call left f line args fits = fits_round left args (fits_single left (kind.Call f line args) _ (of_call f line args) fits)
+
 call_read : {m : Spelled RawExprKind} {left : ℕ} {inner : Reader RawExprKind} → Inside m left inner → (f : Function) (line : ℕ) (ws : List Terminal) (args : List RawExpr) (rest : List Terminal) → InRound (Whole m) ws rest args
-    → Met {A = RawExprKind × List Terminal} (outcome.◌>>=◌ (in_round left (listed (whole inner) sign.CloseRound) ws) (λ x. Ok (kind.Call f line x.0, x.1))) (kind.Call f line args, rest)
+    → Met {A = RawExprKind × List Terminal} (outcome.◌>>=◌ (in_round left (listed (whole inner) sign.CloseRound) ws) (λ x. Ok (kind.Call f line x.0, x.1))) (kind.Call f line args, rest) (FitsKind left (kind.Call f line args))
 call_read {left = left} {inner = inner} i f line ws args rest d =
     go (in_round left (listed (whole inner) sign.CloseRound) ws)
     ((complete_round {q = any} left (whole inner) (λ room. record {
-      complete = complete_whole (i.complete room);
+      complete = complete_whole (left - 1) (i.complete room);
       shrinks = shrinks_whole i.shrinks;
       comma = refl;
       end = only_in _ refl;
@@ -68,9 +93,10 @@ call_read {left = left} {inner = inner} i f line ws args rest d =
     })
     (starts_whole i.known.left) (among_in {q = others (only (code sign.CloseRound))} (code sign.Bang ∷ code sign.Minus ∷ operands) refl) ws).at args rest d refl)
   where
-    go : (r : Read (List RawExpr)) → Met r (args, rest) → Met {A = RawExprKind × List Terminal} (outcome.◌>>=◌ r (λ x. Ok (kind.Call f line x.0, x.1))) (kind.Call f line args, rest)
-    go (Ok v) met = gives (ap (λ z. kind.Call f line z.0) met.is) (ap (λ z. z.1) met.is)
-    go (Err g) met = record { is = met.is }
+    go : (r : Read (List RawExpr)) → Met r (args, rest) (Round left (FitsExpr (left - 1)) args)
+        → Met {A = RawExprKind × List Terminal} (outcome.◌>>=◌ r (λ x. Ok (kind.Call f line x.0, x.1))) (kind.Call f line args, rest) (FitsKind left (kind.Call f line args))
+    go (Ok v) met = gives (ap (λ z. kind.Call f line z.0) met.is.0) (ap (λ z. z.1) met.is.0) (call_fits left f line args met.is.1)
+    go (Err g) met = record { is = (met.is.0, λ fits. met.is.1 (fits_call left f line args fits)) }
 
 -- one of the terminals of a table
 special_cases : (P : Sign → Type 0) → P sign.Value → P sign.Index → P sign.Old → P sign.New → P sign.Wrap → (s : Sign) (x : Special) → special_of s ≡ Some x → P s
@@ -108,64 +134,76 @@ function_cases P a b c d e f g h s x found =
     pick : (t : Sign) (y : Function) (other : Option Function) → (if is_same s t then Some y else other) ≡ Some x → P t → (other ≡ Some x → P s) → P s
     pick t y other = pick_case t y other (is_same s t) refl
 
-special_read : (inner : Reader RawExprKind) (left line : ℕ) (ws : List Terminal) (s : Sign) (x : Special) → special_of s ≡ Some x → Met (sign_operand inner left s line ws) (kind.Special x line, ws)
+special_read : (inner : Reader RawExprKind) (left line : ℕ) (ws : List Terminal) (s : Sign) (x : Special) → special_of s ≡ Some x
+    → Met (sign_operand inner left s line ws) (kind.Special x line, ws) (FitsKind left (kind.Special x line))
 unfolding sign_operand begins_operand special_of function_of
 special_read inner left line ws s x found =
-    special_cases (λ t. (y : Special) → special_of t ≡ Some y → Met (sign_operand inner left t line ws) (kind.Special y line, ws))
-    (λ y e. met_within left line λ room. gives (ap (λ z. kind.Special z line) (some_is e)) refl)
-    (λ y e. met_within left line λ room. gives (ap (λ z. kind.Special z line) (some_is e)) refl)
-    (λ y e. met_within left line λ room. gives (ap (λ z. kind.Special z line) (some_is e)) refl)
-    (λ y e. met_within left line λ room. gives (ap (λ z. kind.Special z line) (some_is e)) refl)
-    (λ y e. met_within left line λ room. gives (ap (λ z. kind.Special z line) (some_is e)) refl)
+    special_cases (λ t. (y : Special) → special_of t ≡ Some y → Met (sign_operand inner left t line ws) (kind.Special y line, ws) (FitsKind left (kind.Special y line)))
+    (λ y e. met_within left line fits_room λ room. gives (ap (λ z. kind.Special z line) (some_is e)) refl (lexeme_fits left _ (of_special y line) room))
+    (λ y e. met_within left line fits_room λ room. gives (ap (λ z. kind.Special z line) (some_is e)) refl (lexeme_fits left _ (of_special y line) room))
+    (λ y e. met_within left line fits_room λ room. gives (ap (λ z. kind.Special z line) (some_is e)) refl (lexeme_fits left _ (of_special y line) room))
+    (λ y e. met_within left line fits_room λ room. gives (ap (λ z. kind.Special z line) (some_is e)) refl (lexeme_fits left _ (of_special y line) room))
+    (λ y e. met_within left line fits_room λ room. gives (ap (λ z. kind.Special z line) (some_is e)) refl (lexeme_fits left _ (of_special y line) room))
     s x found x found
+
+-- the same, where the function is known by its sign
+call_as : {m : Spelled RawExprKind} {left : ℕ} {inner : Reader RawExprKind} → Inside m left inner → (line : ℕ) (ws : List Terminal) (args : List RawExpr) (rest : List Terminal) → InRound (Whole m) ws rest args
+    → (f g : Function) → f ≡ g → Met {A = RawExprKind × List Terminal} (outcome.◌>>=◌ (in_round left (listed (whole inner) sign.CloseRound) ws) (λ x. Ok (kind.Call f line x.0, x.1))) (kind.Call g line args, rest) (FitsKind left (kind.Call g line args))
+call_as {left = left} {inner = inner} i line ws args rest d f g e =
+    subst (λ z. Met {A = RawExprKind × List Terminal} (outcome.◌>>=◌ (in_round left (listed (whole inner) sign.CloseRound) ws) (λ x. Ok (kind.Call f line x.0, x.1))) (kind.Call z line args, rest) (FitsKind left (kind.Call z line args)))
+    e (call_read i f line ws args rest d)
 
 function_read : {m : Spelled RawExprKind} {left : ℕ} (inner : Reader RawExprKind) → Inside m left inner → (line : ℕ) (ws : List Terminal) (args : List RawExpr) (rest : List Terminal) → InRound (Whole m) ws rest args
-    → (s : Sign) (x : Function) → function_of s ≡ Some x → Met (sign_operand inner left s line ws) (kind.Call x line args, rest)
+    → (s : Sign) (x : Function) → function_of s ≡ Some x → Met (sign_operand inner left s line ws) (kind.Call x line args, rest) (FitsKind left (kind.Call x line args))
 unfolding sign_operand begins_operand special_of function_of
 function_read {left = left} inner i line ws args rest d s x found =
-    function_cases (λ t. (y : Function) → function_of t ≡ Some y → Met (sign_operand inner left t line ws) (kind.Call y line args, rest))
-    (λ y e. met_within left line λ room. subst (λ z. Met {A = RawExprKind × List Terminal} (outcome.◌>>=◌ (in_round left (listed (whole inner) sign.CloseRound) ws) (λ x. Ok (kind.Call function.Get line x.0, x.1))) (kind.Call z line args, rest)) (some_is e) (call_read i function.Get line ws args rest d))
-    (λ y e. met_within left line λ room. subst (λ z. Met {A = RawExprKind × List Terminal} (outcome.◌>>=◌ (in_round left (listed (whole inner) sign.CloseRound) ws) (λ x. Ok (kind.Call function.Has line x.0, x.1))) (kind.Call z line args, rest)) (some_is e) (call_read i function.Has line ws args rest d))
-    (λ y e. met_within left line λ room. subst (λ z. Met {A = RawExprKind × List Terminal} (outcome.◌>>=◌ (in_round left (listed (whole inner) sign.CloseRound) ws) (λ x. Ok (kind.Call function.Size line x.0, x.1))) (kind.Call z line args, rest)) (some_is e) (call_read i function.Size line ws args rest d))
-    (λ y e. met_within left line λ room. subst (λ z. Met {A = RawExprKind × List Terminal} (outcome.◌>>=◌ (in_round left (listed (whole inner) sign.CloseRound) ws) (λ x. Ok (kind.Call function.Sum line x.0, x.1))) (kind.Call z line args, rest)) (some_is e) (call_read i function.Sum line ws args rest d))
-    (λ y e. met_within left line λ room. subst (λ z. Met {A = RawExprKind × List Terminal} (outcome.◌>>=◌ (in_round left (listed (whole inner) sign.CloseRound) ws) (λ x. Ok (kind.Call function.Put line x.0, x.1))) (kind.Call z line args, rest)) (some_is e) (call_read i function.Put line ws args rest d))
-    (λ y e. met_within left line λ room. subst (λ z. Met {A = RawExprKind × List Terminal} (outcome.◌>>=◌ (in_round left (listed (whole inner) sign.CloseRound) ws) (λ x. Ok (kind.Call function.Del line x.0, x.1))) (kind.Call z line args, rest)) (some_is e) (call_read i function.Del line ws args rest d))
-    (λ y e. met_within left line λ room. subst (λ z. Met {A = RawExprKind × List Terminal} (outcome.◌>>=◌ (in_round left (listed (whole inner) sign.CloseRound) ws) (λ x. Ok (kind.Call function.Bump line x.0, x.1))) (kind.Call z line args, rest)) (some_is e) (call_read i function.Bump line ws args rest d))
-    (λ y e. met_within left line λ room. subst (λ z. Met {A = RawExprKind × List Terminal} (outcome.◌>>=◌ (in_round left (listed (whole inner) sign.CloseRound) ws) (λ x. Ok (kind.Call function.Held line x.0, x.1))) (kind.Call z line args, rest)) (some_is e) (call_read i function.Held line ws args rest d))
+    function_cases (λ t. (y : Function) → function_of t ≡ Some y → Met (sign_operand inner left t line ws) (kind.Call y line args, rest) (FitsKind left (kind.Call y line args)))
+    (λ y e. met_within left line fits_room λ room. call_as i line ws args rest d function.Get y (some_is e))
+    (λ y e. met_within left line fits_room λ room. call_as i line ws args rest d function.Has y (some_is e))
+    (λ y e. met_within left line fits_room λ room. call_as i line ws args rest d function.Size y (some_is e))
+    (λ y e. met_within left line fits_room λ room. call_as i line ws args rest d function.Sum y (some_is e))
+    (λ y e. met_within left line fits_room λ room. call_as i line ws args rest d function.Put y (some_is e))
+    (λ y e. met_within left line fits_room λ room. call_as i line ws args rest d function.Del y (some_is e))
+    (λ y e. met_within left line fits_room λ room. call_as i line ws args rest d function.Bump y (some_is e))
+    (λ y e. met_within left line fits_room λ room. call_as i line ws args rest d function.Held y (some_is e))
     s x found x found
 
-param_read : (inner : Reader RawExprKind) (left line : ℕ) (ws : List Terminal) (x : RawExprKind) (rest : List Terminal) → (AName >>= λ y. Yields (kind.Param line y)) ws rest x → Met (sign_operand inner left sign.Dollar line ws) (x, rest)
+param_read : (inner : Reader RawExprKind) (left line : ℕ) (ws : List Terminal) (x : RawExprKind) (rest : List Terminal) → (AName >>= λ y. Yields (kind.Param line y)) ws rest x
+    → Met (sign_operand inner left sign.Dollar line ws) (x, rest) (FitsKind left x)
 unfolding sign_operand begins_operand special_of function_of
-param_read inner left line ws x rest d = met_within left line λ room. (complete_next {q = any} (complete_name left ws) λ v. complete_yields).at x rest d refl
+param_read inner left line ws x rest d = met_within left line fits_room λ room.
+    (complete_next {q = any} {T = FitsKind left} (complete_name left room ws) λ v. complete_yields (lexeme_fits left _ (of_param line v.0) room)).at x rest d refl
 
-nil_read : (inner : Reader RawExprKind) (left line : ℕ) (ws : List Terminal) → Met (sign_operand inner left sign.Nil line ws) (kind.Nil, ws)
+nil_read : (inner : Reader RawExprKind) (left line : ℕ) (ws : List Terminal) → Met (sign_operand inner left sign.Nil line ws) (kind.Nil, ws) (FitsKind left kind.Nil)
 unfolding sign_operand begins_operand special_of function_of
-nil_read inner left line ws = met_within left line λ room. gives refl refl
+nil_read inner left line ws = met_within left line fits_room λ room. gives refl refl (lexeme_fits left _ of_nil room)
 
 starts_close : Starts (The sign.CloseRound) (only (code sign.CloseRound))
 starts_close = starts_the
 
-bracket_read : {m : Spelled RawExprKind} {left : ℕ} (inner : Reader RawExprKind) → Inside m left inner → (line : ℕ) (ws : List Terminal) (x : RawExprKind) (rest : List Terminal) → (Whole m >>= λ y. The sign.CloseRound >>= λ e. Yields (kind.Bracketed y)) ws rest x
-    → Met (sign_operand inner left sign.OpenRound line ws) (x, rest)
+bracket_read : {m : Spelled RawExprKind} {left : ℕ} (inner : Reader RawExprKind) → Inside m left inner → (line : ℕ) (ws : List Terminal) (x : RawExprKind) (rest : List Terminal)
+    → (Whole m >>= λ y. The sign.CloseRound >>= λ e. Yields (kind.Bracketed y)) ws rest x → Met (sign_operand inner left sign.OpenRound line ws) (x, rest) (FitsKind left x)
 unfolding sign_operand begins_operand special_of function_of
-bracket_read {left = left} inner i line ws x rest d = met_within left line λ room.
-    (complete_then {q = any} (others operators) (complete_whole (i.complete room) ws) (λ v. complete_next (complete_the (left - 1) sign.CloseRound v.1) λ c. complete_yields)
-    (λ y. follows_starts (starts_then starts_close) (only_in _ refl))).at x rest d refl
+bracket_read {left = left} inner i line ws x rest d = met_within left line fits_room λ room.
+    (complete_then {q = any} {S = FitsExpr (left - 1)} {T = FitsKind left} (others operators) (complete_whole (left - 1) (i.complete room) ws)
+    (λ v fits. complete_next (complete_the (left - 1) (fits_room fits) sign.CloseRound v.1) λ c. complete_yields (single_fits left _ _ (of_bracketed v.0) (fits_within left (expr_depth v.0) fits)))
+    (λ y. follows_starts (starts_then starts_close) (only_in _ refl))
+    (λ y. shows_then λ c. shows_yields λ fits. within_fits left (expr_depth y) (fits_single left _ _ (of_bracketed y) fits))).at x rest d refl
 
 -- the derivation's first terminal is the terminal that is read
-moved : (inner : Reader RawExprKind) (left : ℕ) (w v : Terminal) (ws vs : List Terminal) (s : Sign) (x : RawExprKind) (rest : List Terminal) → ◌≡◌ {A = List Terminal} (w ∷ ws) (v ∷ vs) → v.what ≡ what.Sign s
-    → Met (sign_operand inner left s w.line ws) (x, rest) → Met (operand_said inner left w.line ws w.what) (x, rest)
-moved inner left w v ws vs s x rest e is met = subst (λ z. Met (operand_said inner left w.line ws z) (x, rest)) (sym (says w v ws vs (what.Sign s) e is)) met
+moved : {S : Type 0} (inner : Reader RawExprKind) (left : ℕ) (w v : Terminal) (ws vs : List Terminal) (s : Sign) (x : RawExprKind) (rest : List Terminal) → ◌≡◌ {A = List Terminal} (w ∷ ws) (v ∷ vs) → v.what ≡ what.Sign s
+    → Met (sign_operand inner left s w.line ws) (x, rest) S → Met (operand_said inner left w.line ws w.what) (x, rest) S
+moved {S = S} inner left w v ws vs s x rest e is met = subst (λ z. Met (operand_said inner left w.line ws z) (x, rest) S) (sym (says w v ws vs (what.Sign s) e is)) met
 
 operand_case : {m : Spelled RawExprKind} (left : ℕ) (inner : Reader RawExprKind) → Inside m left inner → (w : Terminal) (ws : List Terminal) (x : RawExprKind) (rest : List Terminal) → NoNumber m (w ∷ ws) rest x
-    → Met (operand_said inner left w.line ws w.what) (x, rest)
+    → Met (operand_said inner left w.line ws w.what) (x, rest) (FitsKind left x)
 unfolding NoNumber
 operand_case left inner i w ws x rest (the_one d) =
     let e : ◌≡◌ {A = List Terminal} (w ∷ ws) (d.one.terminal ∷ d.middle) = d.one.stands in
     let line = ap (λ (z : Terminal). z.line) (head_is w d.one.terminal ws d.middle e) in
     let value : kind.Name (record { name = d.one.number; line = w.line }) ≡ x = (λ k. kind.Name (record { name = d.one.number; line = line k })) ∙ ap kind.Name (sym d.one.name_is) ∙ sym d.next.is in
-    subst (λ z. Met (operand_said inner left w.line ws z) (x, rest)) (sym (says w d.one.terminal ws d.middle (what.Name d.one.number d.one.strategy) e d.one.is))
-    (met_within left w.line λ room. gives value (tail_is w d.one.terminal ws d.middle e ∙ d.next.none))
+    subst (λ z. Met (operand_said inner left w.line ws z) (x, rest) (FitsKind left x)) (sym (says w d.one.terminal ws d.middle (what.Name d.one.number d.one.strategy) e d.one.is))
+    (met_within left w.line fits_room λ room. gives value (tail_is w d.one.terminal ws d.middle e ∙ d.next.none) (subst (FitsKind left) value (lexeme_fits left _ (of_name _) room)))
 operand_case left inner i w ws x rest (the_other (the_one d)) =
     let e : ◌≡◌ {A = List Terminal} (w ∷ ws) (d.one.terminal ∷ d.middle) = d.one.stands in
     let line : d.value ≡ w.line = d.one.line_is ∙ ap (λ (z : Terminal). z.line) (sym (head_is w d.one.terminal ws d.middle e)) in
@@ -174,13 +212,13 @@ operand_case left inner i w ws x rest (the_other (the_one d)) =
     moved inner left w d.one.terminal ws d.middle sign.Dollar x rest e d.one.is (param_read inner left w.line ws x rest next)
 operand_case left inner i w ws x rest (the_other (the_other (the_one d))) =
     let e : ◌≡◌ {A = List Terminal} (w ∷ ws) (d.one.terminal ∷ d.middle) = d.one.stands in
-    let met = subst (λ z. Met (sign_operand inner left sign.Nil w.line ws) z) (pair_is (sym d.next.is) (tail_is w d.one.terminal ws d.middle e ∙ d.next.none)) (nil_read inner left w.line ws) in
+    let met = subst (λ z. Met (sign_operand inner left sign.Nil w.line ws) z (FitsKind left z.0)) (pair_is (sym d.next.is) (tail_is w d.one.terminal ws d.middle e ∙ d.next.none)) (nil_read inner left w.line ws) in
     moved inner left w d.one.terminal ws d.middle sign.Nil x rest e d.one.is met
 operand_case left inner i w ws x rest (the_other (the_other (the_other (the_one d)))) =
     let e : ◌≡◌ {A = List Terminal} (w ∷ ws) (d.one.terminal ∷ d.middle) = d.one.stands in
     let line : w.line ≡ d.value.1 = ap (λ (z : Terminal). z.line) (head_is w d.one.terminal ws d.middle e) ∙ sym d.one.line_is in
     let value : kind.Special d.value.0 w.line ≡ x = ap (kind.Special d.value.0) line ∙ sym d.next.is in
-    let met = subst (λ z. Met (sign_operand inner left d.one.sign w.line ws) z) (pair_is value (tail_is w d.one.terminal ws d.middle e ∙ d.next.none))
+    let met = subst (λ z. Met (sign_operand inner left d.one.sign w.line ws) z (FitsKind left z.0)) (pair_is value (tail_is w d.one.terminal ws d.middle e ∙ d.next.none))
     (special_read inner left w.line ws d.one.sign d.value.0 d.one.found) in
     moved inner left w d.one.terminal ws d.middle d.one.sign x rest e d.one.is met
 operand_case {m = m} left inner i w ws x rest (the_other (the_other (the_other (the_other (the_one d))))) =
@@ -188,7 +226,7 @@ operand_case {m = m} left inner i w ws x rest (the_other (the_other (the_other (
     let line : w.line ≡ d.value.1 = ap (λ (z : Terminal). z.line) (head_is w d.one.terminal ws d.middle e) ∙ sym d.one.line_is in
     let value : kind.Call d.value.0 w.line d.next.value ≡ x = ap (λ l. kind.Call d.value.0 l d.next.value) line ∙ sym d.next.next.is in
     let args = subst (λ us. InRound (Whole m) us d.next.middle d.next.value) (sym (tail_is w d.one.terminal ws d.middle e)) d.next.one in
-    let met = subst (λ z. Met (sign_operand inner left d.one.sign w.line ws) z) (pair_is value d.next.next.none)
+    let met = subst (λ z. Met (sign_operand inner left d.one.sign w.line ws) z (FitsKind left z.0)) (pair_is value d.next.next.none)
     (function_read inner i w.line ws d.next.value d.next.middle args d.one.sign d.value.0 d.one.found) in
     moved inner left w d.one.terminal ws d.middle d.one.sign x rest e d.one.is met
 operand_case {m = m} left inner i w ws x rest (the_other (the_other (the_other (the_other (the_other d))))) =
@@ -196,16 +234,17 @@ operand_case {m = m} left inner i w ws x rest (the_other (the_other (the_other (
     let next = subst (λ us. (Whole m >>= λ y. The sign.CloseRound >>= λ e. Yields (kind.Bracketed y)) us rest x) (sym (tail_is w d.one.terminal ws d.middle e)) d.next in
     moved inner left w d.one.terminal ws d.middle sign.OpenRound x rest e d.one.is (bracket_read inner i w.line ws x rest next)
 
-complete_operand_case : {m : Spelled RawExprKind} (left : ℕ) (inner : Reader RawExprKind) → Inside m left inner → (ts : List Terminal) (x : RawExprKind) (rest : List Terminal) → Operand m ts rest x → Met (operand inner left ts) (x, rest)
+complete_operand_case : {m : Spelled RawExprKind} (left : ℕ) (inner : Reader RawExprKind) → Inside m left inner → (ts : List Terminal) (x : RawExprKind) (rest : List Terminal) → Operand m ts rest x
+    → Met (operand inner left ts) (x, rest) (FitsKind left x)
 unfolding operand Operand
 complete_operand_case left inner i [] x rest d = let h = (among_in {q = others (only 0)} operands refl).at 0 ((starts_operand i.known).at [] rest x d) in absurd cc
 complete_operand_case left inner i (w ∷ ws) x rest (the_one d) =
     let e : ◌≡◌ {A = List Terminal} (w ∷ ws) (d.one.terminal ∷ d.middle) = d.one.stands in
-    subst (λ z. Met (operand_said inner left w.line ws z) (x, rest)) (sym (says w d.one.terminal ws d.middle (what.Number d.value) e d.one.is))
-    (met_within left w.line λ room. gives (sym d.next.is) (tail_is w d.one.terminal ws d.middle e ∙ d.next.none))
+    subst (λ z. Met (operand_said inner left w.line ws z) (x, rest) (FitsKind left x)) (sym (says w d.one.terminal ws d.middle (what.Number d.value) e d.one.is))
+    (met_within left w.line fits_room λ room. gives (sym d.next.is) (tail_is w d.one.terminal ws d.middle e ∙ d.next.none) (subst (FitsKind left) (sym d.next.is) (lexeme_fits left _ (of_number _) room)))
 complete_operand_case left inner i (w ∷ ws) x rest (the_other d) = operand_case left inner i w ws x rest d
 
-pub complete_operand : {m : Spelled RawExprKind} (left : ℕ) (inner : Reader RawExprKind) → Inside m left inner → (ts : List Terminal) → Complete any (Operand m) ts (operand inner left ts)
+pub complete_operand : {m : Spelled RawExprKind} (left : ℕ) (inner : Reader RawExprKind) → Inside m left inner → (ts : List Terminal) → Complete any (Operand m) (FitsKind left) ts (operand inner left ts)
 complete_operand left inner i ts = record { at = λ x rest d e. complete_operand_case left inner i ts x rest d }
 
 -- ---- prefix signs
@@ -213,51 +252,113 @@ complete_operand left inner i ts = record { at = λ x rest d e. complete_operand
 sign_no : (w : Terminal) (s : Sign) → others (only (code s)) (front_of w.what) ≡ true → is_sign w s ≡ false
 sign_no w s e = front_case s w.what ∙ not_true (only (code s) (front_of w.what)) e
 
-prefix_read : (left : ℕ) (many : Bool) (again : Reader RawExprKind) (make : RawExpr → RawExprKind) (line : ℕ) (us : List Terminal) (x : RawExprKind) (rest : List Terminal) → (many ≡ false → Met (again us) (x, rest))
-    → Met (prefixed left many again make line us) (make (placed_at x us), rest)
-prefix_read left many again make line us x rest met = go (left == 0) many met
+-- S holds of what stands behind a prefix sign exactly where T holds of the whole, unless it is one sign too many
+prefix_read : {S T : Type 0} (left : ℕ) (many : Bool) (again : Reader RawExprKind) (make : RawExpr → RawExprKind) (line : ℕ) (us : List Terminal) (x : RawExprKind) (rest : List Terminal)
+    → (T → 0 < left) → (T → many ≡ false) → (many ≡ false → S → T) → (many ≡ false → T → S) → (many ≡ false → Met (again us) (x, rest) S) → Met (prefixed left many again make line us) (make (placed_at x us), rest) T
+prefix_read {S = S} {T = T} left many again make line us x rest room few to from met = go (left == 0) many refl few to from met
   where
-    read : (r : Read RawExprKind) → Met r (x, rest) → Met {A = RawExprKind × List Terminal} (outcome.◌>>=◌ {A = RawExpr × List Terminal} (outcome.◌>>=◌ r (λ y. Ok (placed y.0 (first_line us), y.1))) (λ y. Ok (make y.0, y.1))) (make (placed_at x us), rest)
-    read (Ok v) h = gives (ap (λ z. make (placed z.0 (first_line us))) h.is) (ap (λ z. z.1) h.is)
-    read (Err f) h = record { is = h.is }
+    read : (S → T) → (T → S) → (r : Read RawExprKind) → Met r (x, rest) S
+        → Met {A = RawExprKind × List Terminal} (outcome.◌>>=◌ {A = RawExpr × List Terminal} (outcome.◌>>=◌ r (λ y. Ok (placed y.0 (first_line us), y.1))) (λ y. Ok (make y.0, y.1))) (make (placed_at x us), rest) T
+    read to from (Ok v) h = gives (ap (λ z. make (placed z.0 (first_line us))) h.is.0) (ap (λ z. z.1) h.is.0) (to h.is.1)
+    read to from (Err f) h = record { is = (h.is.0, λ t. h.is.1 (from t)) }
 
-    go : (c many : Bool) → (many ≡ false → Met (again us) (x, rest)) → Met {A = RawExprKind × List Terminal} (if c || many then Err (fault.Deep line) else outcome.◌>>=◌ (whole again us) (λ y. Ok (make y.0, y.1))) (make (placed_at x us), rest)
-    go true many met = record { is = tt }
-    go false true met = record { is = tt }
-    go false false met = read (again us) (met refl)
+    none : left ≡ 0 → T → ⊥
+    none e t = let k : 0 < left = room t in omega (arith, k, e)
+
+    go : (c many : Bool) → (left == 0) ≡ c → (T → many ≡ false) → (many ≡ false → S → T) → (many ≡ false → T → S) → (many ≡ false → Met (again us) (x, rest) S)
+        → Met {A = RawExprKind × List Terminal} (if c || many then Err (fault.Deep line) else outcome.◌>>=◌ (whole again us) (λ y. Ok (make y.0, y.1))) (make (placed_at x us), rest) T
+    go true many e few to from met = too_deep (none (eqb-true left 0 e))
+    go false true e few to from met = too_deep (λ t. let k : true ≡ false = few t in absurd cc)
+    go false false e few to from met = read (to refl) (from refl) (again us) (met refl)
+
+-- what fits a place with so many prefix signs left
+abbrev FitsRun : ℕ → ℕ → RawExprKind → Type 0
+FitsRun left run x = (run_of signs x ≤ run) × FitsKind left x
+
+-- what makes an expression of a prefix sign and what stands behind it
+record Prefix (make : RawExpr → RawExprKind) : Type 0 where
+  is : (a : RawExpr) → IsLonger (make a) signs (extent a) (expr_depth a)
+
+prefix_signs : (make : RawExpr → RawExprKind) → Prefix make → (x : RawExprKind) (line : ℕ) → run_of signs (make (placed x line)) ≡ suc (run_of signs x)
+prefix_signs make p x line = own_run signs _ _ _ (p.is (placed x line)) ∙ ap suc (run_placed signs x line)
+
+-- a prefix sign before what fits
+prefix_fits : (left run below : ℕ) (make : RawExpr → RawExprKind) → Prefix make → (x : RawExprKind) (line : ℕ) → run ≤ 64 → run ≡ suc below → FitsRun left below x → FitsRun left run (make (placed x line))
+prefix_fits left run below make p x line small is fits =
+    let few : run_of signs x ≤ below = fits.0 in
+    let e : run_of signs (make (placed x line)) ≡ suc (run_of signs x) = prefix_signs make p x line in
+    let own : (extent (placed x line)).run signs ≡ run_of signs x = run_placed signs x line in
+    (omega (arith, few, e, is), fits_longer left signs _ _ _ (p.is (placed x line)) (omega (arith, few, own, is, small)) (fits_placed left x line fits.1))
+
+fits_behind_sign : (left run below : ℕ) (make : RawExpr → RawExprKind) → Prefix make → (x : RawExprKind) (line : ℕ) → run ≡ suc below → FitsRun left run (make (placed x line)) → FitsRun left below x
+fits_behind_sign left run below make p x line is fits =
+    let few : run_of signs (make (placed x line)) ≤ run = fits.0 in
+    let e : run_of signs (make (placed x line)) ≡ suc (run_of signs x) = prefix_signs make p x line in
+    (omega (arith, few, e, is), placed_fits left x line (longer_fits left signs _ _ _ (p.is (placed x line)) fits.1))
+
+-- where a run of so many signs goes on
+record Going (run below : ℕ) (many : Bool) : Type 0 where
+  small : run ≤ 64
+  less : many ≡ false → run ≡ suc below
+  few : 0 < run → many ≡ false
+
+sign_read : (left run below : ℕ) (many : Bool) → Going run below many → (again : Reader RawExprKind) (make : RawExpr → RawExprKind) → Prefix make → (line : ℕ) (us : List Terminal) (x : RawExprKind) (rest : List Terminal)
+    → (many ≡ false → Met (again us) (x, rest) (FitsRun left below x)) → Met (prefixed left many again make line us) (make (placed_at x us), rest) (FitsRun left run (make (placed_at x us)))
+sign_read left run below many go again make p line us x rest met = prefix_read left many again make line us x rest (λ fits. fits_room fits.1) few
+    (λ free fits. prefix_fits left run below make p x (first_line us) go.small (go.less free) fits) (λ free fits. fits_behind_sign left run below make p x (first_line us) (go.less free) fits) met
+  where
+    few : FitsRun left run (make (placed_at x us)) → many ≡ false
+    few fits =
+        let most : run_of signs (make (placed_at x us)) ≤ run = fits.0 in
+        let e : run_of signs (make (placed_at x us)) ≡ suc (run_of signs x) = prefix_signs make p x (first_line us) in
+        go.few (omega (arith, most, e))
 
 -- a run's first sign, or its operand
-unary_read : {m : Spelled RawExprKind} (left : ℕ) (inner : Reader RawExprKind) → Inside m left inner → (many : Bool) (again : Reader RawExprKind)
-    → ((ts : List Terminal) (x : RawExprKind) (rest : List Terminal) → many ≡ false → Unary m ts rest x → Met (again ts) (x, rest))
-    → (ts : List Terminal) (x : RawExprKind) (rest : List Terminal) → Unary m ts rest x → Met (unary_with inner left many again ts) (x, rest)
-unary_read left inner i many again more [] x rest (Unary.operand d) = let h = (among_in {q = others (only 0)} operands refl).at 0 ((starts_operand i.known).at [] rest x d) in absurd cc
-unary_read left inner i many again more [] x rest (Unary.negated p d) = let h : ◌≡◌ {A = List Terminal} [] _ = p.stands in absurd cc
-unary_read left inner i many again more [] x rest (Unary.minus p d) = let h : ◌≡◌ {A = List Terminal} [] _ = p.stands in absurd cc
-unary_read left inner i many again more (w ∷ ws) x rest (Unary.operand d) =
+unary_read : {m : Spelled RawExprKind} (left : ℕ) (inner : Reader RawExprKind) → Inside m left inner → (run below : ℕ) (many : Bool) → Going run below many → (again : Reader RawExprKind)
+    → ((ts : List Terminal) (x : RawExprKind) (rest : List Terminal) → many ≡ false → Unary m ts rest x → Met (again ts) (x, rest) (FitsRun left below x))
+    → (ts : List Terminal) (x : RawExprKind) (rest : List Terminal) → Unary m ts rest x → Met (unary_with inner left many again ts) (x, rest) (FitsRun left run x)
+unary_read left inner i run below many go again more [] x rest (Unary.operand d) = let h = (among_in {q = others (only 0)} operands refl).at 0 ((starts_operand i.known).at [] rest x d) in absurd cc
+unary_read left inner i run below many go again more [] x rest (Unary.negated p d) = let h : ◌≡◌ {A = List Terminal} [] _ = p.stands in absurd cc
+unary_read left inner i run below many go again more [] x rest (Unary.minus p d) = let h : ◌≡◌ {A = List Terminal} [] _ = p.stands in absurd cc
+unary_read {m = m} left inner i run below many go again more (w ∷ ws) x rest (Unary.operand d) =
     let at = (starts_operand i.known).at (w ∷ ws) rest x d in
+    let none : run_of signs x ≡ 0 = operand_run m signs (w ∷ ws) rest x d in
     met_else _ (is_sign w sign.Bang) (sign_no w sign.Bang ((among_in {q = others (only (code sign.Bang))} operands refl).at (front_of w.what) at))
     (met_else _ (is_sign w sign.Minus) (sign_no w sign.Minus ((among_in {q = others (only (code sign.Minus))} operands refl).at (front_of w.what) at))
-    (complete_operand_case left inner i (w ∷ ws) x rest d))
-unary_read left inner i many again more (w ∷ ws) x rest (Unary.negated {us = us} {x = y} p d) =
+    (met_as (operand inner left (w ∷ ws)) (λ fits. (omega (arith, none), fits)) (λ fits. fits.1) (complete_operand_case left inner i (w ∷ ws) x rest d)))
+unary_read left inner i run below many go again more (w ∷ ws) x rest (Unary.negated {us = us} {x = y} p d) =
     let e : ◌≡◌ {A = List Terminal} (w ∷ ws) (p.terminal ∷ us) = p.stands in
     let tail = tail_is w p.terminal ws us e in
     met_if _ (is_sign w sign.Bang) (is_it w sign.Bang (says w p.terminal ws us (what.Sign sign.Bang) e p.is))
-    (subst (λ vs. Met (prefixed left many again kind.Not w.line vs) (kind.Not (placed_at y us), rest)) (sym tail) (prefix_read left many again kind.Not w.line us y rest (λ few. more us y rest few d)))
-unary_read left inner i many again more (w ∷ ws) x rest (Unary.minus {us = us} {x = y} p d) =
+    (subst (λ vs. Met (prefixed left many again kind.Not w.line vs) (kind.Not (placed_at y us), rest) (FitsRun left run (kind.Not (placed_at y us)))) (sym tail)
+    (sign_read left run below many go again kind.Not (record { is = of_not }) w.line us y rest (λ few. more us y rest few d)))
+unary_read left inner i run below many go again more (w ∷ ws) x rest (Unary.minus {us = us} {x = y} p d) =
     let e : ◌≡◌ {A = List Terminal} (w ∷ ws) (p.terminal ∷ us) = p.stands in
     let tail = tail_is w p.terminal ws us e in
     let is = says w p.terminal ws us (what.Sign sign.Minus) e p.is in
     met_else _ (is_sign w sign.Bang) (sign_no w sign.Bang (ap (λ z. others (only (code sign.Bang)) (front_of z)) is))
     (met_if _ (is_sign w sign.Minus) (is_it w sign.Minus is)
-    (subst (λ vs. Met (prefixed left many again kind.Minus w.line vs) (kind.Minus (placed_at y us), rest)) (sym tail) (prefix_read left many again kind.Minus w.line us y rest (λ few. more us y rest few d))))
+    (subst (λ vs. Met (prefixed left many again kind.Minus w.line vs) (kind.Minus (placed_at y us), rest) (FitsRun left run (kind.Minus (placed_at y us)))) (sym tail)
+    (sign_read left run below many go again kind.Minus (record { is = of_minus }) w.line us y rest (λ few. more us y rest few d))))
 
-unary_run : {m : Spelled RawExprKind} (left : ℕ) (inner : Reader RawExprKind) → Inside m left inner → (run : ℕ) (ts : List Terminal) (x : RawExprKind) (rest : List Terminal) → Unary m ts rest x → Met (unary inner left run ts) (x, rest)
+last_sign : Going 0 0 true
+last_sign = record { small = omega arith; less = λ e. absurd cc; few = λ e. absurd (omega (arith, e)) }
+
+more_signs : (run : ℕ) → suc run ≤ 64 → Going (suc run) run false
+more_signs run small = record { small = small; less = λ e. refl; few = λ e. refl }
+
+unary_run : {m : Spelled RawExprKind} (left : ℕ) (inner : Reader RawExprKind) → Inside m left inner → (run : ℕ) → run ≤ 64 → (ts : List Terminal) (x : RawExprKind) (rest : List Terminal) → Unary m ts rest x
+    → Met (unary inner left run ts) (x, rest) (FitsRun left run x)
 unfolding unary
-unary_run left inner i zero ts x rest d = unary_read left inner i true (λ ws. Err fault.Ended) (λ ts x rest few d. absurd cc) ts x rest d
-unary_run left inner i (suc run) ts x rest d = unary_read left inner i false (unary inner left run) (λ ts x rest few d. unary_run left inner i run ts x rest d) ts x rest d
+unary_run left inner i zero small ts x rest d = unary_read left inner i 0 0 true last_sign (λ ws. Err fault.Ended) (λ ts x rest few d. absurd cc) ts x rest d
+unary_run left inner i (suc run) small ts x rest d =
+    unary_read left inner i (suc run) run false (more_signs run small) (unary inner left run) (λ ts x rest few d. unary_run left inner i run (omega (arith, small)) ts x rest d) ts x rest d
 
-pub complete_unary : {m : Spelled RawExprKind} (left : ℕ) (inner : Reader RawExprKind) → Inside m left inner → (run : ℕ) (ts : List Terminal) → Complete any (Unary m) ts (unary inner left run ts)
-complete_unary left inner i run ts = record { at = λ x rest d e. unary_run left inner i run ts x rest d }
+pub complete_unary : {m : Spelled RawExprKind} (left : ℕ) (inner : Reader RawExprKind) → Inside m left inner → (ts : List Terminal) → Complete any (Unary m) (FitsKind left) ts (unary inner left 64 ts)
+complete_unary left inner i ts = record {
+  at = λ x rest d e.
+      met_as (unary inner left 64 ts) (λ fits. fits.1) (λ fits. (signs_small left ts rest x d fits, fits)) (unary_run left inner i 64 (omega arith) ts x rest d);
+}
 
 -- ---- products
 
@@ -295,15 +396,17 @@ factor_there (w ∷ star ∷ ws) us vs n line d p =
     go false e f = absurd cc
 
 product_case : {m : Spelled RawExprKind} (left : ℕ) (inner : Reader RawExprKind) → Inside m left inner → (ts : List Terminal) (x : RawExprKind) (rest : List Terminal) → Product m ts rest x → others times_sign (front rest) ≡ true
-    → Met (product inner left ts) (x, rest)
+    → Met (product inner left ts) (x, rest) (FitsKind left x)
 unfolding product Product
-product_case left inner i ts x rest (the_one d) e = subst (λ f. Met (times inner left f ts) (x, rest)) (sym (factor_case i.known ts x rest d e)) (unary_run left inner i 64 ts x rest d)
+product_case left inner i ts x rest (the_one d) e = subst (λ f. Met (times inner left f ts) (x, rest) (FitsKind left x)) (sym (factor_case i.known ts x rest d e)) ((complete_unary left inner i ts).at x rest d refl)
 product_case left inner i ts x rest (the_other d) e =
-    subst (λ f. Met (times inner left f ts) (x, rest)) (sym (factor_there ts d.middle d.next.middle d.value d.next.value d.one d.next.one))
-    ((complete_next {q = any} (complete_number left ts) λ n. complete_next (complete_the left sign.Star n.1) λ star.
-    complete_next (complete_whole (complete_unary left inner i 64) star.1) λ x. complete_yields).at x rest d refl)
+    subst (λ f. Met (times inner left f ts) (x, rest) (FitsKind left x)) (sym (factor_there ts d.middle d.next.middle d.value d.next.value d.one d.next.one))
+    ((complete_part {q = any} {T = FitsKind left} (complete_factor left ts)
+    (λ n room. complete_next (complete_the left room sign.Star n.1) λ star.
+    complete_part (complete_whole left (complete_unary left inner i) star.1) (λ y fits. complete_yields (single_fits left _ _ (of_times (signed n.0) y.0) fits)) (λ y. shows_yields λ fits. fits_single left _ _ (of_times (signed n.0) y) fits))
+    (λ n. shows_then λ star. shows_then λ y. shows_yields λ fits. fits_room fits)).at x rest d refl)
 
-pub complete_product : {m : Spelled RawExprKind} (left : ℕ) (inner : Reader RawExprKind) → Inside m left inner → (ts : List Terminal) → Complete (others times_sign) (Product m) ts (product inner left ts)
+pub complete_product : {m : Spelled RawExprKind} (left : ℕ) (inner : Reader RawExprKind) → Inside m left inner → (ts : List Terminal) → Complete (others times_sign) (Product m) (FitsKind left) ts (product inner left ts)
 complete_product left inner i ts = record { at = λ x rest d e. product_case left inner i ts x rest d e }
 
 -- ---- chains
@@ -319,47 +422,58 @@ none_here : {Op : Spelled Operator} {op : Terminal → Option Operator} {r : Set
 none_here k w ws e None is = is
 none_here {r = r} k w ws e (Some o) is = not_both (r (front (w ∷ ws))) (k.starts.at (w ∷ ws) ws o (k.table.has w ws o is)) e
 
-whole_bind : {B : Type 0} {x : B × List Terminal} (f : RawExpr × List Terminal → Read B) (r : Read RawExpr) (y : RawExpr) (vs : List Terminal) → Met r (y, vs) → Met (f (y, vs)) x → Met (outcome.◌>>=◌ r f) x
-whole_bind {x = x} f (Ok v) y vs met next = subst (λ z. Met (f z) x) (sym met.is) next
-whole_bind f (Err g) y vs met next = record { is = met.is }
+whole_bind : {B : Type 0} {x : B × List Terminal} {S T : Type 0} (f : RawExpr × List Terminal → Read B) (r : Read RawExpr) (y : RawExpr) (vs : List Terminal) → Met r (y, vs) S → (T → S) → (S → Met (f (y, vs)) x T)
+    → Met (outcome.◌>>=◌ r f) x T
+whole_bind {x = x} {T = T} f (Ok v) y vs met back next = subst (λ z. Met (f z) x T) (sym met.is.0) (next met.is.1)
+whole_bind f (Err g) y vs met back next = record { is = (met.is.0, λ t. met.is.1 (back t)) }
 
-chain_case : {q p r : Set} {Op : Spelled Operator} {m : Spelled RawExprKind} (op : Terminal → Option Operator) (item : Reader RawExprKind) → Operators Op op r → ((ts : List Terminal) → Complete p m ts (item ts))
-    → In r p → In q p → In q (others r)
-    → (start : List Terminal) (count : ℕ) (held : RawExprKind) (ts : List Terminal) (x : RawExprKind) (rest : List Terminal) → Chain Op m start held ts rest x → q (front rest) ≡ true
-    → Met (chain op item (first_line start) count held ts) (x, rest)
+-- a chain of this kind goes on behind what is held, which fits, and is as long as all operators that have come
+chain_case : {q p r : Set} {Op : Spelled Operator} {m : Spelled RawExprKind} (left : ℕ) (s : Run) → Links Op s → (op : Terminal → Option Operator) (item : Reader RawExprKind) → Operators Op op r
+    → ((ts : List Terminal) → Complete p m (FitsKind left) ts (item ts)) → In r p → In q p → In q (others r)
+    → (start : List Terminal) (count : ℕ) (held : RawExprKind) → FitsKind left held → run_of s held + count ≡ 64 → (ts : List Terminal) (x : RawExprKind) (rest : List Terminal) → Chain Op m start held ts rest x → q (front rest) ≡ true
+    → Met (chain op item (first_line start) count held ts) (x, rest) (FitsKind left x)
 unfolding chain
-chain_case op item k c i j l start count held [] x rest Chain.ends e = gives refl refl
-chain_case op item k c i j l start zero held (w ∷ ws) x rest Chain.ends e =
-    subst (λ z. Met {A = RawExprKind × List Terminal} (if is_some z then Err (fault.Deep w.line) else Ok (held, w ∷ ws)) (held, w ∷ ws)) (sym (none_here k w ws (l.at (front (w ∷ ws)) e) (op w) refl)) (gives refl refl)
-chain_case op item k c i j l start (suc count) held (w ∷ ws) x rest Chain.ends e =
+chain_case left s links op item k c i j l start count held fits long [] x rest Chain.ends e = gives refl refl fits
+chain_case left s links op item k c i j l start zero held fits long (w ∷ ws) x rest Chain.ends e =
+    subst (λ z. Met {A = RawExprKind × List Terminal} (if is_some z then Err (fault.Deep w.line) else Ok (held, w ∷ ws)) (held, w ∷ ws) (FitsKind left held)) (sym (none_here k w ws (l.at (front (w ∷ ws)) e) (op w) refl)) (gives refl refl fits)
+chain_case left s links op item k c i j l start (suc count) held fits long (w ∷ ws) x rest Chain.ends e =
     subst (λ z. Met {A = RawExprKind × List Terminal} (elim z [
       | None ↦ Ok (held, w ∷ ws)
       | Some o ↦ outcome.◌>>=◌ (whole item ws) (λ x. chain op item (first_line start) count (kind.Two o (placed held (first_line start)) x.0) x.1)
-    ]) (held, w ∷ ws))
-    (sym (none_here k w ws (l.at (front (w ∷ ws)) e) (op w) refl)) (gives refl refl)
-chain_case op item k c i j l start count held [] x rest (Chain.goes_on {us = us} {o = o} y d f more_d) e = let h : ◌≡◌ {A = List Terminal} [] ((k.finds [] us o d).0 ∷ us) = (k.finds [] us o d).1 in absurd cc
-chain_case op item k c i j l start zero held (w ∷ ws) x rest (Chain.goes_on {us = us} {o = o} y d f more_d) e =
+    ]) (held, w ∷ ws) (FitsKind left held))
+    (sym (none_here k w ws (l.at (front (w ∷ ws)) e) (op w) refl)) (gives refl refl fits)
+chain_case left s links op item k c i j l start count held fits long [] x rest (Chain.goes_on {us = us} {o = o} y d f more_d) e = let h : ◌≡◌ {A = List Terminal} [] ((k.finds [] us o d).0 ∷ us) = (k.finds [] us o d).1 in absurd cc
+chain_case left s links op item k c i j l start zero held fits long (w ∷ ws) x rest (Chain.goes_on {us = us} {vs = vs} {o = o} y d f more_d) e =
     let h = k.finds (w ∷ ws) us o d in
     let found : op w ≡ Some o = ap op (head_is w h.0 ws us h.1) ∙ h.2 in
-    subst (λ z. Met {A = RawExprKind × List Terminal} (if is_some z then Err (fault.Deep w.line) else Ok (held, w ∷ ws)) (x, rest)) (sym found) (record { is = tt })
-chain_case op item k c i j l start (suc count) held (w ∷ ws) x rest (Chain.goes_on {us = us} {vs = vs} {o = o} y d f more_d) e =
+    let full : FitsKind left x → ⊥ = λ whole_fits.
+    let small : run_of s held < 64 = linked_small left s links start (w ∷ ws) us o d held y (chain_back left s links start (kind.Two o (placed_at held start) y) vs rest x more_d whole_fits) in
+    omega (arith, small, long) in
+    subst (λ z. Met {A = RawExprKind × List Terminal} (if is_some z then Err (fault.Deep w.line) else Ok (held, w ∷ ws)) (x, rest) (FitsKind left x)) (sym found) (too_deep full)
+chain_case left s links op item k c i j l start (suc count) held fits long (w ∷ ws) x rest (Chain.goes_on {us = us} {vs = vs} {o = o} y d f more_d) e =
     let h = k.finds (w ∷ ws) us o d in
     let found : op w ≡ Some o = ap op (head_is w h.0 ws us h.1) ∙ h.2 in
     let tail = tail_is w h.0 ws us h.1 in
-    let one = (complete_whole c us).at y vs f (follows_chain_case k.starts i j (kind.Two o (placed_at held start) y) vs rest x more_d e) in
-    let read = subst (λ zs. Met (whole item zs) (y, vs)) (sym tail) one in
+    let more = kind.Two o (placed_at held start) y in
+    let one = (complete_whole left c us).at y vs f (follows_chain_case k.starts i j more vs rest x more_d e) in
+    let read = subst (λ zs. Met (whole item zs) (y, vs) (FitsExpr left y)) (sym tail) one in
+    let longer : run_of s more ≡ suc (run_of s held) = linked_run s links start (w ∷ ws) us o d held y in
+    let next : FitsExpr left y → Met (chain op item (first_line start) count more vs) (x, rest) (FitsKind left x) = λ behind.
+    chain_case left s links op item k c i j l start count more (linked_fits left s links start (w ∷ ws) us o d held y (omega (arith, long)) fits behind) (omega (arith, long, longer)) vs x rest more_d e in
     subst (λ z. Met {A = RawExprKind × List Terminal} (elim z [
       | None ↦ Ok (held, w ∷ ws)
       | Some o ↦ outcome.◌>>=◌ (whole item ws) (λ x. chain op item (first_line start) count (kind.Two o (placed held (first_line start)) x.0) x.1)
-    ]) (x, rest))
-    (sym found) (whole_bind _ (whole item ws) y vs read (chain_case op item k c i j l start count (kind.Two o (placed_at held start) y) vs x rest more_d e))
+    ]) (x, rest) (FitsKind left x))
+    (sym found) (whole_bind _ (whole item ws) y vs read (λ whole_fits. fits_behind left s links start (w ∷ ws) us o d held y (chain_back left s links start more vs rest x more_d whole_fits)) next)
 
-complete_chained : {q p r : Set} {Op : Spelled Operator} {m : Spelled RawExprKind} (op : Terminal → Option Operator) (item : Reader RawExprKind) → Operators Op op r → ((ts : List Terminal) → Complete p m ts (item ts))
-    → In r p → In q p → In q (others r) → (ts : List Terminal) → Complete q (Chained Op m) ts (chained op item ts)
+complete_chained : {q p r : Set} {Op : Spelled Operator} {m : Spelled RawExprKind} (left : ℕ) (s : Run) → Links Op s → ((ts rest : List Terminal) (x : RawExprKind) → m ts rest x → run_of s x ≡ 0)
+    → (op : Terminal → Option Operator) (item : Reader RawExprKind) → Operators Op op r → ((ts : List Terminal) → Complete p m (FitsKind left) ts (item ts))
+    → In r p → In q p → In q (others r) → (ts : List Terminal) → Complete q (Chained Op m) (FitsKind left) ts (chained op item ts)
 unfolding Chained
-complete_chained {p = p} op item k c i j l ts = complete_here (complete_then p (c ts)
-    (λ v. record { at = λ x rest d e. chain_case op item k c i j l ts 64 v.0 v.1 x rest d e })
-    (λ x. record { at = λ us rest y d e. follows_chain_case k.starts i j x us rest y d e }))
+complete_chained {p = p} left s links none op item k c i j l ts = complete_here (complete_spelled p (c ts)
+    (λ v spelled fits. record { at = λ x rest d e. chain_case left s links op item k c i j l ts 64 v.0 fits (ap (λ n. n + 64) (none ts v.1 v.0 spelled)) v.1 x rest d e })
+    (λ x. record { at = λ us rest y d e. follows_chain_case k.starts i j x us rest y d e })
+    (λ x. record { at = λ us rest y d fits. chain_back left s links ts x us rest y d fits }))
 
 -- ---- tables of operators
 
@@ -428,88 +542,158 @@ relation_operators = record { table = relation_table; starts = (relation_fork {q
 
 -- ---- the levels
 
-complete_sum : {m : Spelled RawExprKind} (left : ℕ) (inner : Reader RawExprKind) → Inside m left inner → (ts : List Terminal) → Complete (others sum_signs) (Sum m) ts (sums inner left ts)
+complete_sum : {m : Spelled RawExprKind} (left : ℕ) (inner : Reader RawExprKind) → Inside m left inner → (ts : List Terminal) → Complete (others sum_signs) (Sum m) (FitsKind left) ts (sums inner left ts)
 unfolding sums Sum
-complete_sum left inner i ts = complete_chained sum_of (product inner left) sum_operators (complete_product left inner i) (both_in (only_in _ refl) (only_in _ refl)) (others_in _ _) (others_first _ _) ts
+complete_sum {m = m} left inner i ts =
+    complete_chained left shallow.sums sum_links (product_run m shallow.sums (λ n. refl)) sum_of (product inner left) sum_operators (complete_product left inner i) (both_in (only_in _ refl) (only_in _ refl)) (others_in _ _) (others_first _ _) ts
 
 abbrev Related : Spelled RawExprKind → RawExprKind → List Terminal → Spelled RawExprKind
 Related m held start = Either (Yields held) (RelationSign >>= λ o. Whole (Sum m) >>= λ y. Yields (kind.Two o (placed_at held start) y))
 
-related_case : {m : Spelled RawExprKind} (left : ℕ) (inner : Reader RawExprKind) → Inside m left inner → (start : List Terminal) (held : RawExprKind) (us : List Terminal) (x : RawExprKind) (rest : List Terminal)
-    → Related m held start us rest x → others relation_signs (front rest) ≡ true → Met (related (sums inner left) (first_line start) held us) (x, rest)
-related_case left inner i start held [] x rest (the_one d) e = gives (sym d.is) d.none
-related_case left inner i start held (w ∷ ws) x rest (the_one d) e =
+-- a relation fits where both sides do
+relation_fits : (left : ℕ) (start ts us : List Terminal) (o : Operator) → RelationSign ts us o → (held : RawExprKind) (y : RawExpr) → FitsKind left held → FitsExpr left y → FitsKind left (kind.Two o (placed_at held start) y)
+relation_fits left start ts us o d held y f g =
+    let a = placed_at held start in single_fits left _ _ (relation_two ts us o d a y) (fits_both left (expr_depth a) (expr_depth y) (fits_placed left held _ f) g)
+
+fits_side : (left : ℕ) (start ts us : List Terminal) (o : Operator) → RelationSign ts us o → (held : RawExprKind) (y : RawExpr) → FitsKind left (kind.Two o (placed_at held start) y) → FitsKind left held
+fits_side left start ts us o d held y f =
+    let a = placed_at held start in placed_fits left held _ (both_first left (expr_depth a) (expr_depth y) (fits_single left _ _ (relation_two ts us o d a y) f))
+
+fits_other_side : (left : ℕ) (start ts us : List Terminal) (o : Operator) → RelationSign ts us o → (held : RawExprKind) (y : RawExpr) → FitsKind left (kind.Two o (placed_at held start) y) → FitsExpr left y
+fits_other_side left start ts us o d held y f = let a = placed_at held start in both_second left (expr_depth a) (expr_depth y) (fits_single left _ _ (relation_two ts us o d a y) f)
+
+related_back : (m : Spelled RawExprKind) (left : ℕ) (start : List Terminal) (held : RawExprKind) (us rest : List Terminal) (x : RawExprKind) → Related m held start us rest x → FitsKind left x → FitsKind left held
+related_back m left start held us rest x (the_one d) fits = subst (FitsKind left) d.is fits
+related_back m left start held us rest x (the_other d) fits = fits_side left start us d.middle d.value d.one held d.next.value (subst (FitsKind left) d.next.next.is fits)
+
+related_case : {m : Spelled RawExprKind} (left : ℕ) (inner : Reader RawExprKind) → Inside m left inner → (start : List Terminal) (held : RawExprKind) → FitsKind left held → (us : List Terminal) (x : RawExprKind) (rest : List Terminal)
+    → Related m held start us rest x → others relation_signs (front rest) ≡ true → Met (related (sums inner left) (first_line start) held us) (x, rest) (FitsKind left x)
+related_case left inner i start held fits [] x rest (the_one d) e = gives (sym d.is) d.none (subst (FitsKind left) (sym d.is) fits)
+related_case left inner i start held fits (w ∷ ws) x rest (the_one d) e =
     let free = subst (λ zs. others relation_signs (front zs) ≡ true) (sym d.none) e in
-    subst (λ z. Met {A = RawExprKind × List Terminal} (elim z [ None ↦ Ok (held, w ∷ ws) | Some o ↦ outcome.◌>>=◌ (whole (sums inner left) ws) (λ x. Ok (kind.Two o (placed held (first_line start)) x.0, x.1)) ]) (x, rest))
-    (sym (none_here relation_operators w ws ((others_first relations sum_signs).at (front (w ∷ ws)) free) (relation_of w) refl)) (gives (sym d.is) d.none)
-related_case left inner i start held [] x rest (the_other d) e =
+    subst (λ z. Met {A = RawExprKind × List Terminal} (elim z [ None ↦ Ok (held, w ∷ ws) | Some o ↦ outcome.◌>>=◌ (whole (sums inner left) ws) (λ x. Ok (kind.Two o (placed held (first_line start)) x.0, x.1)) ]) (x, rest) (FitsKind left x))
+    (sym (none_here relation_operators w ws ((others_first relations sum_signs).at (front (w ∷ ws)) free) (relation_of w) refl)) (gives (sym d.is) d.none (subst (FitsKind left) (sym d.is) fits))
+related_case left inner i start held fits [] x rest (the_other d) e =
     let h = relation_operators.finds [] d.middle d.value d.one in let k : ◌≡◌ {A = List Terminal} [] (h.0 ∷ d.middle) = h.1 in absurd cc
-related_case left inner i start held (w ∷ ws) x rest (the_other d) e =
+related_case left inner i start held fits (w ∷ ws) x rest (the_other d) e =
     let h = relation_operators.finds (w ∷ ws) d.middle d.value d.one in
     let found : relation_of w ≡ Some d.value = ap relation_of (head_is w h.0 ws d.middle h.1) ∙ h.2 in
     let tail = tail_is w h.0 ws d.middle h.1 in
     let end = subst (λ zs. others relation_signs (front zs) ≡ true) (sym d.next.next.none) e in
-    let one = (complete_whole (complete_sum left inner i) d.middle).at d.next.value d.next.middle d.next.one ((others_in relations sum_signs).at (front d.next.middle) end) in
-    let read = subst (λ zs. Met (whole (sums inner left) zs) (d.next.value, d.next.middle)) (sym tail) one in
-    subst (λ z. Met {A = RawExprKind × List Terminal} (elim z [ None ↦ Ok (held, w ∷ ws) | Some o ↦ outcome.◌>>=◌ (whole (sums inner left) ws) (λ x. Ok (kind.Two o (placed held (first_line start)) x.0, x.1)) ]) (x, rest))
-    (sym found) (whole_bind _ (whole (sums inner left) ws) d.next.value d.next.middle read (gives (sym d.next.next.is) d.next.next.none))
+    let one = (complete_whole left (complete_sum left inner i) d.middle).at d.next.value d.next.middle d.next.one ((others_in relations sum_signs).at (front d.next.middle) end) in
+    let read = subst (λ zs. Met (whole (sums inner left) zs) (d.next.value, d.next.middle) (FitsExpr left d.next.value)) (sym tail) one in
+    subst (λ z. Met {A = RawExprKind × List Terminal} (elim z [ None ↦ Ok (held, w ∷ ws) | Some o ↦ outcome.◌>>=◌ (whole (sums inner left) ws) (λ x. Ok (kind.Two o (placed held (first_line start)) x.0, x.1)) ]) (x, rest) (FitsKind left x))
+    (sym found) (whole_bind _ (whole (sums inner left) ws) d.next.value d.next.middle read
+    (λ all. fits_other_side left start (w ∷ ws) d.middle d.value d.one held d.next.value (subst (FitsKind left) d.next.next.is all))
+    (λ side. gives (sym d.next.next.is) d.next.next.none (subst (FitsKind left) (sym d.next.next.is) (relation_fits left start (w ∷ ws) d.middle d.value d.one held d.next.value fits side))))
 
-complete_relation : {m : Spelled RawExprKind} (left : ℕ) (inner : Reader RawExprKind) → Inside m left inner → (ts : List Terminal) → Complete (others relation_signs) (Relation m) ts (relation inner left ts)
+complete_relation : {m : Spelled RawExprKind} (left : ℕ) (inner : Reader RawExprKind) → Inside m left inner → (ts : List Terminal) → Complete (others relation_signs) (Relation m) (FitsKind left) ts (relation inner left ts)
 unfolding relation Relation
-complete_relation left inner i ts = complete_here (complete_then (others sum_signs) (complete_sum left inner i ts)
-    (λ v. record { at = λ x rest d e. related_case left inner i ts v.0 v.1 x rest d e })
-    (λ x. follows_or (follows_yields (others_in _ _)) (follows_starts (starts_then relation_operators.starts) (relations_in refl refl refl refl))))
+complete_relation {m = m} left inner i ts = complete_here (complete_then (others sum_signs) (complete_sum left inner i ts)
+    (λ v fits. record { at = λ x rest d e. related_case left inner i ts v.0 fits v.1 x rest d e })
+    (λ x. follows_or (follows_yields (others_in _ _)) (follows_starts (starts_then relation_operators.starts) (relations_in refl refl refl refl)))
+    (λ x. record { at = λ us rest y d fits. related_back m left ts x us rest y d fits }))
 
-complete_and : {m : Spelled RawExprKind} (left : ℕ) (inner : Reader RawExprKind) → Inside m left inner → (ts : List Terminal) → Complete (others and_signs) (And m) ts (ands inner left ts)
+complete_and : {m : Spelled RawExprKind} (left : ℕ) (inner : Reader RawExprKind) → Inside m left inner → (ts : List Terminal) → Complete (others and_signs) (And m) (FitsKind left) ts (ands inner left ts)
 unfolding ands And
-complete_and left inner i ts = complete_chained and_of (relation inner left) and_operators (complete_relation left inner i) (only_in _ refl) (others_in _ _) (others_first _ _) ts
+complete_and {m = m} left inner i ts =
+    complete_chained left shallow.ands and_links (relation_run m shallow.ands (λ n. refl) (λ n. refl)) and_of (relation inner left) and_operators (complete_relation left inner i) (only_in _ refl) (others_in _ _) (others_first _ _) ts
 
-complete_or : {m : Spelled RawExprKind} (left : ℕ) (inner : Reader RawExprKind) → Inside m left inner → (ts : List Terminal) → Complete (others or_signs) (Or m) ts (ors inner left ts)
+complete_or : {m : Spelled RawExprKind} (left : ℕ) (inner : Reader RawExprKind) → Inside m left inner → (ts : List Terminal) → Complete (others or_signs) (Or m) (FitsKind left) ts (ors inner left ts)
 unfolding ors Or
-complete_or left inner i ts = complete_chained or_of (ands inner left) or_operators (complete_and left inner i) (only_in _ refl) (others_in _ _) (others_first _ _) ts
+complete_or {m = m} left inner i ts =
+    complete_chained left shallow.ors or_links (and_run m shallow.ors (λ n. refl) (λ n. refl) (λ n. refl)) or_of (ands inner left) or_operators (complete_and left inner i) (only_in _ refl) (others_in _ _) (others_first _ _) ts
 
 -- where the first side was read
-side_read : {x : RawExprKind × List Terminal} (f : RawExprKind × List Terminal → Read RawExprKind) (r : Read RawExprKind) (y : RawExprKind) (us : List Terminal) → Met r (y, us) → Met (f (y, us)) x → Met (outcome.◌>>=◌ r f) x
-side_read {x = x} f (Ok v) y us met next = subst (λ z. Met (f z) x) (sym met.is) next
-side_read f (Err g) y us met next = record { is = met.is }
+side_read : {x : RawExprKind × List Terminal} {S T : Type 0} (f : RawExprKind × List Terminal → Read RawExprKind) (r : Read RawExprKind) (y : RawExprKind) (us : List Terminal) → Met r (y, us) S → (T → S) → (S → Met (f (y, us)) x T)
+    → Met (outcome.◌>>=◌ r f) x T
+side_read {x = x} {T = T} f (Ok v) y us met back next = subst (λ z. Met (f z) x T) (sym met.is.0) (next met.is.1)
+side_read f (Err g) y us met back next = record { is = (met.is.0, λ t. met.is.1 (back t)) }
 
-implied_ends : (many : Bool) (right : Reader RawExprKind) (line : ℕ) (held : RawExprKind) (rest : List Terminal) → others operators (front rest) ≡ true → Met (implied many right line held rest) (held, rest)
-implied_ends many right line held [] e = gives refl refl
-implied_ends many right line held (w ∷ ws) e = met_else _ (is_sign w sign.Implies) (sign_no w sign.Implies ((others_first (only (code sign.Implies)) or_signs).at (front (w ∷ ws)) e)) (gives refl refl)
+implied_ends : {S : Type 0} (many : Bool) (right : Reader RawExprKind) (line : ℕ) (held : RawExprKind) (rest : List Terminal) → others operators (front rest) ≡ true → S → Met (implied many right line held rest) (held, rest) S
+implied_ends many right line held [] e s = gives refl refl s
+implied_ends many right line held (w ∷ ws) e s = met_else _ (is_sign w sign.Implies) (sign_no w sign.Implies ((others_first (only (code sign.Implies)) or_signs).at (front (w ∷ ws)) e)) (gives refl refl s)
 
-implied_goes : (many : Bool) (right : Reader RawExprKind) (start : List Terminal) (held : RawExprKind) (us vs : List Terminal) (line : ℕ) (y : RawExprKind) (rest : List Terminal) → The sign.Implies us vs line → (many ≡ false → Met (right vs) (y, rest))
-    → Met (implied many right (first_line start) held us) (kind.Two operator.Implies (placed_at held start) (placed_at y vs), rest)
-implied_goes many right start held [] vs line y rest p met = let k : ◌≡◌ {A = List Terminal} [] (p.terminal ∷ vs) = p.stands in absurd cc
-implied_goes many right start held (w ∷ ws) vs line y rest p met =
+-- S holds of what follows exactly where T holds of the whole, unless it is one `==>` too many
+implied_goes : {S T : Type 0} (many : Bool) (right : Reader RawExprKind) (start : List Terminal) (held : RawExprKind) (us vs : List Terminal) (line : ℕ) (y : RawExprKind) (rest : List Terminal) → The sign.Implies us vs line
+    → (T → many ≡ false) → (many ≡ false → S → T) → (many ≡ false → T → S) → (many ≡ false → Met (right vs) (y, rest) S)
+    → Met (implied many right (first_line start) held us) (kind.Two operator.Implies (placed_at held start) (placed_at y vs), rest) T
+implied_goes many right start held [] vs line y rest p few to from met = let k : ◌≡◌ {A = List Terminal} [] (p.terminal ∷ vs) = p.stands in absurd cc
+implied_goes {S = S} {T = T} many right start held (w ∷ ws) vs line y rest p few to from met =
     let e : ◌≡◌ {A = List Terminal} (w ∷ ws) (p.terminal ∷ vs) = p.stands in
-    met_if _ (is_sign w sign.Implies) (is_it w sign.Implies (says w p.terminal ws vs (what.Sign sign.Implies) e p.is)) (go many met (tail_is w p.terminal ws vs e))
+    met_if _ (is_sign w sign.Implies) (is_it w sign.Implies (says w p.terminal ws vs (what.Sign sign.Implies) e p.is)) (go many few to from met (tail_is w p.terminal ws vs e))
   where
-    read : (zs : List Terminal) → zs ≡ vs → (r : Read RawExprKind) → Met r (y, rest)
+    read : (S → T) → (T → S) → (zs : List Terminal) → zs ≡ vs → (r : Read RawExprKind) → Met r (y, rest) S
         → Met {A = RawExprKind × List Terminal} (outcome.◌>>=◌ {A = RawExpr × List Terminal} (outcome.◌>>=◌ r (λ x. Ok (placed x.0 (first_line zs), x.1))) (λ x. Ok (kind.Two operator.Implies (placed held (first_line start)) x.0, x.1)))
-        (kind.Two operator.Implies (placed_at held start) (placed_at y vs), rest)
-    read zs same (Ok v) h = gives (λ k. kind.Two operator.Implies (placed held (first_line start)) (placed (h.is k).0 (first_line (same k)))) (ap (λ z. z.1) h.is)
-    read zs same (Err f) h = record { is = h.is }
+        (kind.Two operator.Implies (placed_at held start) (placed_at y vs), rest) T
+    read to from zs same (Ok v) h = gives (λ k. kind.Two operator.Implies (placed held (first_line start)) (placed (h.is.0 k).0 (first_line (same k)))) (ap (λ z. z.1) h.is.0) (to h.is.1)
+    read to from zs same (Err f) h = record { is = (h.is.0, λ t. h.is.1 (from t)) }
 
-    go : (many : Bool) → (many ≡ false → Met (right vs) (y, rest)) → ws ≡ vs
+    go : (many : Bool) → (T → many ≡ false) → (many ≡ false → S → T) → (many ≡ false → T → S) → (many ≡ false → Met (right vs) (y, rest) S) → ws ≡ vs
         → Met {A = RawExprKind × List Terminal} (if many then Err (fault.Deep w.line) else outcome.◌>>=◌ (whole right ws) (λ x. Ok (kind.Two operator.Implies (placed held (first_line start)) x.0, x.1)))
-        (kind.Two operator.Implies (placed_at held start) (placed_at y vs), rest)
-    go true met same = record { is = tt }
-    go false met same = read ws same (right ws) (subst (λ zs. Met (right zs) (y, rest)) (sym same) (met refl))
+        (kind.Two operator.Implies (placed_at held start) (placed_at y vs), rest) T
+    go true few to from met same = too_deep (λ t. let k : true ≡ false = few t in absurd cc)
+    go false few to from met same = read (to refl) (from refl) ws same (right ws) (subst (λ zs. Met (right zs) (y, rest) S) (sym same) (met refl))
 
-implies_read : {m : Spelled RawExprKind} (left : ℕ) (inner : Reader RawExprKind) → Inside m left inner → (many : Bool) (right : Reader RawExprKind)
-    → ((ts : List Terminal) (x : RawExprKind) (rest : List Terminal) → many ≡ false → Implied m ts rest x → others operators (front rest) ≡ true → Met (right ts) (x, rest))
+-- what fits a place with so many `==>` left
+abbrev FitsImplied : ℕ → ℕ → RawExprKind → Type 0
+FitsImplied left run x = (run_of implications x ≤ run) × FitsKind left x
+
+implication_run : (z y : RawExprKind) (line other : ℕ) → run_of implications (kind.Two operator.Implies (placed z line) (placed y other)) ≡ suc (run_of implications y)
+implication_run z y line other = own_run implications _ _ _ (of_implies (placed z line) (placed y other)) ∙ ap suc (run_placed implications y other)
+
+implies_fits : (left run below : ℕ) (z y : RawExprKind) (line other : ℕ) → run ≤ 64 → run ≡ suc below → FitsKind left z → FitsImplied left below y → FitsImplied left run (kind.Two operator.Implies (placed z line) (placed y other))
+implies_fits left run below z y line other small is f fits =
+    let few : run_of implications y ≤ below = fits.0 in
+    let e = implication_run z y line other in
+    let own : (extent (placed y other)).run implications ≡ run_of implications y = run_placed implications y other in (
+      omega (arith, few, e, is),
+      fits_longer left implications _ _ _ (of_implies (placed z line) (placed y other)) (omega (arith, few, own, is, small))
+          (fits_both left (expr_depth (placed z line)) (expr_depth (placed y other)) (fits_placed left z line f) (fits_placed left y other fits.1)),
+    )
+
+fits_first_side : (left : ℕ) (z y : RawExprKind) (line other : ℕ) → FitsKind left (kind.Two operator.Implies (placed z line) (placed y other)) → FitsKind left z
+fits_first_side left z y line other f =
+    placed_fits left z line (both_first left (expr_depth (placed z line)) (expr_depth (placed y other)) (longer_fits left implications _ _ _ (of_implies (placed z line) (placed y other)) f))
+
+fits_implied : (left run below : ℕ) (z y : RawExprKind) (line other : ℕ) → run ≡ suc below → FitsImplied left run (kind.Two operator.Implies (placed z line) (placed y other)) → FitsImplied left below y
+fits_implied left run below z y line other is fits =
+    let few : run_of implications (kind.Two operator.Implies (placed z line) (placed y other)) ≤ run = fits.0 in
+    let e = implication_run z y line other in (
+      omega (arith, few, e, is),
+      placed_fits left y other (both_second left (expr_depth (placed z line)) (expr_depth (placed y other)) (longer_fits left implications _ _ _ (of_implies (placed z line) (placed y other)) fits.1)),
+    )
+
+implies_read : {m : Spelled RawExprKind} (left : ℕ) (inner : Reader RawExprKind) → Inside m left inner → (run below : ℕ) (many : Bool) → Going run below many → (right : Reader RawExprKind)
+    → ((ts : List Terminal) (x : RawExprKind) (rest : List Terminal) → many ≡ false → Implied m ts rest x → others operators (front rest) ≡ true → Met (right ts) (x, rest) (FitsImplied left below x))
     → (ts : List Terminal) (x : RawExprKind) (rest : List Terminal) → Implied m ts rest x → others operators (front rest) ≡ true
-    → Met (outcome.◌>>=◌ (ors inner left ts) (λ x. implied many right (first_line ts) x.0 x.1)) (x, rest)
-implies_read left inner i many right again ts x rest (Implied.plain d) e =
-    side_read _ (ors inner left ts) x rest ((complete_or left inner i ts).at x rest d (no_operator rest e)) (implied_ends many right (first_line ts) x rest e)
-implies_read left inner i many right again ts x rest (Implied.implies {vs = vs} {y = y} z us line d p f) e =
-    side_read _ (ors inner left ts) z us ((complete_or left inner i ts).at z us d (implies_follows us vs line p)) (implied_goes many right ts z us vs line y rest p (λ few. again vs y rest few f e))
+    → Met (outcome.◌>>=◌ (ors inner left ts) (λ x. implied many right (first_line ts) x.0 x.1)) (x, rest) (FitsImplied left run x)
+implies_read {m = m} left inner i run below many go right again ts x rest (Implied.plain d) e =
+    let none : run_of implications x ≡ 0 = or_run m ts rest x d in
+    side_read _ (ors inner left ts) x rest ((complete_or left inner i ts).at x rest d (no_operator rest e)) (λ fits. fits.1)
+    (λ fits. implied_ends many right (first_line ts) x rest e (omega (arith, none), fits))
+implies_read left inner i run below many go right again ts x rest (Implied.implies {vs = vs} {y = y} z us line d p f) e =
+    side_read _ (ors inner left ts) z us ((complete_or left inner i ts).at z us d (implies_follows us vs line p)) (λ fits. fits_first_side left z y (first_line ts) (first_line vs) fits.1)
+    (λ first. implied_goes many right ts z us vs line y rest p few (λ free fits. implies_fits left run below z y (first_line ts) (first_line vs) go.small (go.less free) first fits)
+    (λ free fits. fits_implied left run below z y (first_line ts) (first_line vs) (go.less free) fits) (λ few. again vs y rest few f e))
+  where
+    few : FitsImplied left run (kind.Two operator.Implies (placed_at z ts) (placed_at y vs)) → many ≡ false
+    few fits =
+        let most : run_of implications (kind.Two operator.Implies (placed_at z ts) (placed_at y vs)) ≤ run = fits.0 in
+        let e = implication_run z y (first_line ts) (first_line vs) in
+        go.few (omega (arith, most, e))
 
-implies_run : {m : Spelled RawExprKind} (left : ℕ) (inner : Reader RawExprKind) → Inside m left inner → (run : ℕ) (ts : List Terminal) (x : RawExprKind) (rest : List Terminal) → Implied m ts rest x → others operators (front rest) ≡ true
-    → Met (implies inner left run ts) (x, rest)
+implies_run : {m : Spelled RawExprKind} (left : ℕ) (inner : Reader RawExprKind) → Inside m left inner → (run : ℕ) → run ≤ 64 → (ts : List Terminal) (x : RawExprKind) (rest : List Terminal) → Implied m ts rest x → others operators (front rest) ≡ true
+    → Met (implies inner left run ts) (x, rest) (FitsImplied left run x)
 unfolding implies
-implies_run left inner i zero ts x rest d e = implies_read left inner i true (λ ws. Err fault.Ended) (λ ts x rest few d e. absurd cc) ts x rest d e
-implies_run left inner i (suc run) ts x rest d e = implies_read left inner i false (implies inner left run) (λ ts x rest few d e. implies_run left inner i run ts x rest d e) ts x rest d e
+implies_run left inner i zero small ts x rest d e = implies_read left inner i 0 0 true last_sign (λ ws. Err fault.Ended) (λ ts x rest few d e. absurd cc) ts x rest d e
+implies_run left inner i (suc run) small ts x rest d e =
+    implies_read left inner i (suc run) run false (more_signs run small) (implies inner left run) (λ ts x rest few d e. implies_run left inner i run (omega (arith, small)) ts x rest d e) ts x rest d e
+
+implied_read : {m : Spelled RawExprKind} (left : ℕ) (inner : Reader RawExprKind) → Inside m left inner → (ts : List Terminal) (x : RawExprKind) (rest : List Terminal) → Implied m ts rest x → others operators (front rest) ≡ true
+    → Met (implies inner left 64 ts) (x, rest) (FitsKind left x)
+implied_read left inner i ts x rest d e =
+    met_as (implies inner left 64 ts) (λ fits. fits.1) (λ fits. (implications_small left ts rest x d fits, fits)) (implies_run left inner i 64 (omega arith) ts x rest d e)
 
 -- ---- expressions
 
@@ -524,22 +708,26 @@ nested_inside (suc below) zero = record { known = nested_inner zero zero; shrink
 nested_inside (suc below) (suc depth) = record {
   known = nested_inner (suc depth) (suc depth);
   shrinks = shrinks_nested (suc depth);
-  complete = λ room ts. record { at = λ x rest d e. implies_run below (inside below) (nested_inside below depth) 64 ts x rest d e };
+  complete = λ room ts. record {
+    at = λ x rest d e.
+        let less : below ≡ suc below - 1 = omega arith in
+        subst (λ n. Met (implies (inside below) below 64 ts) (x, rest) (FitsKind n x)) less (implied_read below (inside below) (nested_inside below depth) ts x rest d e);
+  };
 }
 
-outer_read : (left : ℕ) (ts : List Terminal) (x : RawExprKind) (rest : List Terminal) (depth : ℕ) → Nested depth ts rest x → others operators (front rest) ≡ true → Met (implies (inside left) left 64 ts) (x, rest)
+outer_read : (left : ℕ) (ts : List Terminal) (x : RawExprKind) (rest : List Terminal) (depth : ℕ) → Nested depth ts rest x → others operators (front rest) ≡ true → Met (implies (inside left) left 64 ts) (x, rest) (FitsKind left x)
 unfolding Nested
 outer_read left ts x rest zero d e = absurd d
-outer_read left ts x rest (suc depth) d e = implies_run left (inside left) (nested_inside left depth) 64 ts x rest d e
+outer_read left ts x rest (suc depth) d e = implied_read left (inside left) (nested_inside left depth) ts x rest d e
 
-pub complete_expr : (left : ℕ) (ts : List Terminal) → Complete (others operators) AnExpr ts (expr_at left ts)
+pub complete_expr : (left : ℕ) (ts : List Terminal) → Complete (others operators) AnExpr (FitsExpr left) ts (expr_at left ts)
 unfolding expr_at AnExpr
-complete_expr left ts = complete_whole (λ us. record { at = λ x rest d e. outer_read left us x rest d.0 d.1 e }) ts
+complete_expr left ts = complete_whole left (λ us. record { at = λ x rest d e. outer_read left us x rest d.0 d.1 e }) ts
 
 pub shrinks_expr : Shrinks AnExpr
 shrinks_expr = record { at = λ ts rest x d. (silent_expr.at ts rest x d).shorter }
 
-deep_read : (left : ℕ) → 0 < left → (ts : List Terminal) → Complete (others operators) (λ us rest x. (depth : ℕ) × Nested depth us rest x) ts (inside left ts)
+deep_read : (left : ℕ) → 0 < left → (ts : List Terminal) → Complete (others operators) (λ us rest x. (depth : ℕ) × Nested depth us rest x) (FitsKind (left - 1)) ts (inside left ts)
 deep_read left room ts = record { at = λ x rest d e. ((nested_inside left d.0).complete room ts).at x rest d.1 e }
 
 shrinks_deep : Shrinks (Whole (λ us rest x. (depth : ℕ) × Nested depth us rest x))
@@ -548,8 +736,8 @@ shrinks_deep = shrinks_whole (record { at = λ ts rest x d. (shrinks_nested d.0)
 starts_deep : Starts (Whole (λ us rest x. (depth : ℕ) × Nested depth us rest x)) begins
 starts_deep = starts_whole (record { at = λ ts rest x d. (starts_nested d.0).at ts rest x d.1 })
 
-pub complete_args : {q : Set} (left : ℕ) (ts : List Terminal) → Complete q Args ts (exprs_at left ts)
+pub complete_args : {q : Set} (left : ℕ) (ts : List Terminal) → Complete q Args (Round left (FitsExpr (left - 1))) ts (exprs_at left ts)
 unfolding Args AnExpr
 complete_args left ts = complete_round left (whole (inside left))
-    (λ room. record { complete = complete_whole (deep_read left room); shrinks = shrinks_deep; comma = refl; end = only_in _ refl; apart = only_in _ refl })
+    (λ room. record { complete = complete_whole (left - 1) (deep_read left room); shrinks = shrinks_deep; comma = refl; end = only_in _ refl; apart = only_in _ refl })
     starts_deep (among_in {q = others (only (code sign.CloseRound))} (code sign.Bang ∷ code sign.Minus ∷ operands) refl) ts

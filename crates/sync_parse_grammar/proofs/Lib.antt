@@ -8,6 +8,8 @@ pub mod ScriptsClear
 pub mod MachinesClear
 pub mod Counting
 pub mod Laws
+pub mod Depths
+pub mod Runs
 pub mod Completes
 pub mod ExpressionsComplete
 pub mod ScriptsComplete

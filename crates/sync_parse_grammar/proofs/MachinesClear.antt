@@ -17,7 +17,7 @@ use Rattle.sync_parse_grammar.specs.Relations.{Spelled, Then, Closed, Many}
 use Rattle.sync_parse_grammar.specs.Expressions.{AnExpr}
 use Rattle.sync_parse_grammar.specs.Machines.{Pattern, Place, FormulaAct, ValueAct, FieldPlace, PlaceAct, HaveAct, ActKind, Act, Field, Mode, Operation, Invariant, Machine, Claim, Proof, Proofs}
 use Rattle.sync_parse_grammar.specs.Texts.{Version, Text, Spells}
-use Rattle.sync_parse_grammar.proofs.Clears.{code, Set, any, only, among, both, others, only_in, among_in, both_in, same_in, any_in, Starts, Follows, Clear, Fork, lone, fork_or, starts_then, starts_here, starts_the, starts_name, follows_starts, follows_yields, follows_or, follows_then, follows_many, clear_the, clear_name, clear_number, clear_strategy, clear_yields, clear_here, clear_then, clear_next, clear_optional, clear_many, clear_closed, clear_names}
+use Rattle.sync_parse_grammar.proofs.Clears.{code, Set, any, only, among, both, others, In, only_in, among_in, both_in, same_in, any_in, Starts, Follows, Clear, Fork, lone, fork_or, starts_then, starts_here, starts_the, starts_name, follows_starts, follows_yields, follows_or, follows_then, follows_many, clear_the, clear_name, clear_number, clear_strategy, clear_yields, clear_here, clear_then, clear_next, clear_optional, clear_many, clear_closed, clear_names}
 use Rattle.sync_parse_grammar.proofs.ExpressionsClear.{operators, begins, clear_expr, starts_expr}
 use Rattle.sync_parse_grammar.proofs.ScriptsClear.{clear_script}
 
@@ -166,24 +166,24 @@ pub proof_fork : {q : Set} → Fork q (only 1) Proof Proof
 unfolding Proof
 proof_fork = lone (clear_next clear_name λ n. clear_next clear_claim λ c. clear_next clear_script λ s. clear_yields) (starts_then starts_name)
 
--- the proofs, where the text ends behind them
-pub clear_proofs : Clear (only 0) Proofs Proofs
+-- the proofs, where no others follow them
+pub clear_proofs : {q : Set} → In q (others (only (code sign.Proofs))) → Clear q Proofs Proofs
 unfolding Proofs
-clear_proofs = clear_optional (clear_next clear_the λ p. clear_next clear_the λ o.
+clear_proofs behind = clear_optional (clear_next clear_the λ p. clear_next clear_the λ o.
     clear_then (only (code sign.CloseBrace)) (clear_many {p = any} proof_fork.clear (proof_fork {q = any}).left (proof_fork {q = any}).left any_in any_in (only_in _ refl))
     (λ xs. clear_next clear_the λ e. clear_yields) (λ xs. follows_starts (starts_then starts_the) same_in) (λ xs. follows_starts (starts_then starts_the) same_in))
-    (starts_then (starts_the {s = sign.Proofs})) (starts_then (starts_the {s = sign.Proofs})) (only_in _ refl)
+    (starts_then (starts_the {s = sign.Proofs})) (starts_then (starts_the {s = sign.Proofs})) behind
 
 -- ---- texts
 
-clear_version : {q : Set} → Clear q Version Version
+pub clear_version : {q : Set} → Clear q Version Version
 unfolding Version
 clear_version = clear_next clear_the λ l. clear_next clear_number λ n. clear_yields
 
 pub clear_text : Clear (only 0) Text Text
 unfolding Text
 clear_text = clear_next clear_version λ v. clear_next clear_the λ s. clear_next clear_machine λ m.
-    clear_then (only 0) clear_proofs (λ ps. clear_yields) (λ ps. follows_yields same_in) (λ ps. follows_yields same_in)
+    clear_then (only 0) (clear_proofs (only_in _ refl)) (λ ps. clear_yields) (λ ps. follows_yields same_in) (λ ps. follows_yields same_in)
 
 pub terminals_are : {u v : Terminals} → ◌≡◌ {A = Result Terminals Refusal} (Ok u) (Ok v) → u ≡ v
 terminals_are e = cc

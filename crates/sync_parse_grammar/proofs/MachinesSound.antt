@@ -1,5 +1,5 @@
 -- What is read as a machine, as proofs and as a whole text is spelled.
-use Rattle.std.proofs.Common.{◌≡◌, ℕ, ◌-◌, ◌==◌, Bool, true, false, List, [], ◌∷◌, length, Result, Ok, Err, Some, None, if◌then◌else◌, refl, sym, ap, subst}
+use Rattle.std.proofs.Common.{◌≡◌, ℕ, ◌-◌, ◌==◌, Bool, true, false, List, [], ◌∷◌, length, Result, Ok, Err, Some, None, if◌then◌else◌, refl, sym, ap, ◌∙◌}
 use Rattle.sync_base.specs.Outcome as outcome
 use Rattle.sync_base.specs.declared.stops.Refusal.{Refusal}
 use Rattle.sync_base.specs.declared.strategies.OpMode.TheVariants as mode
@@ -198,10 +198,10 @@ unfolding version_at Version
 version_sound left ts = then_sound (sign_sound left sign.Version ts) λ v. then_sound (number_sound left v.1) λ n. either (n.0 == 1) yields stops
 
 -- what is read here to the end of the terminals is spelled by all of them
-record Whole {A : Type 0} (m : Spelled A) (ts : List Terminal) (r : Result A Fault) : Type 0 where
-  holds : (x : A) → r ≡ Ok x → m ts [] x
+pub record Whole {A : Type 0} (m : Spelled A) (ts : List Terminal) (r : Result A Fault) : Type 0 where
+  pub holds : (x : A) → r ≡ Ok x → m ts [] x
 
-whole_then : {A B : Type 0} {m : Spelled A} {ts : List Terminal} {r : Read A} {g : A → Spelled B} {f : A × List Terminal → Result B Fault}
+pub whole_then : {A B : Type 0} {m : Spelled A} {ts : List Terminal} {r : Read A} {g : A → Spelled B} {f : A × List Terminal → Result B Fault}
     → Sound m ts r → ((v : A × List Terminal) → Whole (g v.0) v.1 (f v)) → Whole (Then m g) ts (outcome.◌>>=◌ r f)
 whole_then {r = Ok v} a b = record { holds = λ y e. record { value = v.0; middle = v.1; one = a.holds v.0 v.1 refl; next = (b v).holds y e } }
 whole_then {r = Err f} a b = record { holds = λ y e. absurd cc }
@@ -228,19 +228,34 @@ text_sound ts = (text_whole ts).holds
 raw_is : {u v : RawText} → ◌≡◌ {A = Result RawText Refusal} (Ok u) (Ok v) → u ≡ v
 raw_is e = cc
 
--- what a text is read as, it spells
-pub sound : (text : List ℕ) (raw : RawText) → parsed text ≡ Ok raw → Spells text raw
+-- the terminals of a text that is read, with their names
+pub record Terminated (text : List ℕ) (raw : RawText) : Type 0 where
+  pub terminals : Terminals
+  pub are : terminals_in text ≡ Ok terminals
+  pub read : text_of terminals.list ≡ Ok (raw.machine, raw.proofs)
+  pub names : raw.names ≡ terminals.names
+
+pub read_terminals : (text : List ℕ) (raw : RawText) → parsed text ≡ Ok raw → Terminated text raw
 unfolding parsed
-sound text raw e = go (terminals_in text) refl e
+read_terminals text raw e = go (terminals_in text) refl e
   where
     read : (ws : Terminals) → terminals_in text ≡ Ok ws → (r : Result (RawMachine × List RawProof) Fault) → text_of ws.list ≡ r
-        → outcome.◌>>=◌ (refused ws.last_line r) (λ t. Ok (record { machine = t.0; proofs = t.1; names = ws.names })) ≡ Ok raw → Spells text raw
+        → outcome.◌>>=◌ (refused ws.last_line r) (λ t. Ok (record { machine = t.0; proofs = t.1; names = ws.names })) ≡ Ok raw → Terminated text raw
     read ws is (Err f) r_is h = absurd cc
     read ws is (Ok t) r_is h =
         let same = raw_is h in
-        (ws, is, subst (Text ws.list []) (ap (λ (x : RawText). (x.machine, x.proofs)) same) (text_sound ws.list t r_is), ap (λ (x : RawText). x.names) (sym same))
+        record {
+          terminals = ws;
+          are = is;
+          read = r_is ∙ ap (λ (x : RawText). Ok (x.machine, x.proofs)) same;
+          names = ap (λ (x : RawText). x.names) (sym same);
+        }
 
     go : (w : Result Terminals Refusal) → terminals_in text ≡ w
-        → outcome.◌>>=◌ w (λ ws. outcome.◌>>=◌ (refused ws.last_line (text_of ws.list)) (λ t. Ok (record { machine = t.0; proofs = t.1; names = ws.names }))) ≡ Ok raw → Spells text raw
+        → outcome.◌>>=◌ w (λ ws. outcome.◌>>=◌ (refused ws.last_line (text_of ws.list)) (λ t. Ok (record { machine = t.0; proofs = t.1; names = ws.names }))) ≡ Ok raw → Terminated text raw
     go (Err r) is h = absurd cc
     go (Ok ws) is h = read ws is (text_of ws.list) refl h
+
+-- what a text is read as, it spells
+pub sound : (text : List ℕ) (raw : RawText) → parsed text ≡ Ok raw → Spells text raw
+sound text raw e = let d = read_terminals text raw e in (d.terminals, d.are, text_sound d.terminals.list (raw.machine, raw.proofs) d.read, d.names)

@@ -2,4 +2,5 @@ pub mod Relations
 pub mod Expressions
 pub mod Scripts
 pub mod Machines
+pub mod Shallow
 pub mod Texts

@@ -14,6 +14,7 @@ use Rattle.sync_parse.specs.declared.trees.RawMachine.{RawMachine}
 use Rattle.sync_parse.specs.declared.trees.RawProof.{RawProof}
 use Rattle.sync_parse_grammar.specs.Relations.{Spelled, The, ANumber, Yields, ◌>>=◌, ◌>>◌}
 use Rattle.sync_parse_grammar.specs.Machines.{Machine, Proofs}
+use Rattle.sync_parse_grammar.specs.Shallow.{IsShallow}
 
 -- the number behind the first terminal is 1
 abbrev pub IsVersionOne : List Terminal → Type 0
@@ -59,7 +60,7 @@ MayRefuse (Refused r) = (r.rule ≡ rule.G3) ⊎ (r.rule ≡ rule.G4)
 abbrev pub IsOfVersionOne : List ℕ → Type 0
 IsOfVersionOne text = (ws : Terminals) × (terminals_in text ≡ Ok ws) × IsVersionOne ws.list
 
--- why such a text may be refused that a tree is spelled by: for want of memory, or too deep
-abbrev pub MayRefuseVersionOne : Stop → Type 0
-MayRefuseVersionOne Memory = Unit {0}
-MayRefuseVersionOne (Refused r) = r.rule ≡ rule.G3
+-- why such a text may be refused that spells this tree: for want of memory, or as too deep, and then the tree is not shallow
+abbrev pub MayRefuseVersionOne : RawText → Stop → Type 0
+MayRefuseVersionOne tree Memory = Unit {0}
+MayRefuseVersionOne tree (Refused r) = (r.rule ≡ rule.G3) × ¬ (IsShallow tree)

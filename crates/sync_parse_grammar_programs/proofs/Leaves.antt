@@ -29,18 +29,18 @@ use Rattle.sync_parse_programs.specs.Known.{Known, an_expr, a_script, known_read
 use Rattle.sync_parse_programs.specs.Begun.{known_first, known_follow}
 use Rattle.sync_parse_grammar_programs.specs.Spelled.{known_spelled}
 
-excused : {A : Type 0} (r : Read A) (x : A × List Terminal) → Met r x → new_completes.Met r x
-excused (Ok v) x h = record { is = h.is }
+excused : {A S : Type 0} (r : Read A) (x : A × List Terminal) → Met r x S → new_completes.Met r x
+excused (Ok v) x h = record { is = h.is.0 }
 excused (Err (fault.Deep line)) x h = record { is = tt }
-excused (Err (fault.Version line)) x h = absurd h.is
-excused (Err fault.Ended) x h = absurd h.is
-excused (Err (fault.Wanted line)) x h = absurd h.is
-excused (Err (fault.Unbuilt line)) x h = absurd h.is
+excused (Err (fault.Version line)) x h = absurd h.is.0
+excused (Err fault.Ended) x h = absurd h.is.0
+excused (Err (fault.Wanted line)) x h = absurd h.is.0
+excused (Err (fault.Unbuilt line)) x h = absurd h.is.0
 
 sound : {A : Type 0} {m : forms.Spelled A} {ts : List Terminal} {r : Read A} → Sound m ts r → new_sounds.Sound m ts r
 sound h = record { holds = h.holds }
 
-complete : {A : Type 0} {q : Set} {m : forms.Spelled A} {ts : List Terminal} (r : Read A) → Complete q m ts r → new_completes.Complete q m ts r
+complete : {A : Type 0} {q : Set} {m : forms.Spelled A} {S : A → Type 0} {ts : List Terminal} (r : Read A) → Complete q m S ts r → new_completes.Complete q m ts r
 complete r h = record { at = λ x rest d e. excused r (x, rest) (h.at x rest d e) }
 
 clear : {A : Type 0} {q : Set} {m n : forms.Spelled A} → Clear q m n → new_clears.Clear q m n

@@ -1,3 +1,3 @@
 mod Leaves
-mod Statements
+pub mod Statements
 pub mod Programs

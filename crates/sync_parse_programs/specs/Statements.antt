@@ -252,8 +252,8 @@ statement_seen (RawStatementKind-F.End x) = inr (inr (inr (inr (inr (inr (inr (i
 statement_seen (RawStatementKind-F.Proof x) = inr (inr (inr (inr (inr (inr (inr (inr (inr (inl x)))))))))
 statement_seen (RawStatementKind-F.Assign n r) = inr (inr (inr (inr (inr (inr (inr (inr (inr (inr (n, r))))))))))
 
-abbrev statement_parts : RawStatement → Statements
-statement_parts s = statement_seen (out-RawStatementKind (out-RawStatement s).what)
+abbrev statement_parts : RawStatementKind → Statements
+statement_parts k = statement_seen (out-RawStatementKind k)
 
 pub statement_law : (x : Statements) → statement_seen (out-RawStatementKind (statement_made x)) ≡ x
 statement_law (inl x) = ap statement_seen (view.outs-Store x.0 x.1)
@@ -268,12 +268,19 @@ statement_law (inr (inr (inr (inr (inr (inr (inr (inr (inl x))))))))) = ap state
 statement_law (inr (inr (inr (inr (inr (inr (inr (inr (inr (inl x)))))))))) = ap statement_seen (view.outs-Proof x)
 statement_law (inr (inr (inr (inr (inr (inr (inr (inr (inr (inr x)))))))))) = ap statement_seen (view.outs-Assign x.0 x.1)
 
--- stmt
-unfoldable pub statement : Production RawStatement
-statement = node (λ ws x. roll-RawStatement (record { what = statement_made x; line = first_line ws })) statement_parts (λ ws x. statement_law x)
+-- "print" NAME opd ";"
+unfoldable pub print_form : Production (RawName × RawOperand)
+print_form = sign.Print ▸ a_name ∘ operand ◂ sign.Semicolon
+
+-- NAME "=" rhs
+unfoldable pub assignment : Production (RawName × RawRightSide)
+assignment = a_name ∘ sign.Equal ▸ right_side
+
+unfoldable pub statement_kind : Production RawStatementKind
+statement_kind = node (λ ws x. statement_made x) statement_parts (λ ws x. statement_law x)
     (either (at_sign sign.Store) (store ∘ ending)
     (either (at_sign sign.Write) write_form
-    (either (at_sign sign.Print) (sign.Print ▸ a_name ∘ operand ◂ sign.Semicolon)
+    (either (at_sign sign.Print) print_form
     (either (at_sign sign.If) if_form
     (either (at_sign sign.Loop) loop_form
     (either (at_sign sign.Next) (sign.Next ▸ jump)
@@ -281,4 +288,8 @@ statement = node (λ ws x. roll-RawStatement (record { what = statement_made x; 
     (either (at_sign sign.Meet) (sign.Meet ▸ jump)
     (either (at_sign sign.End) (sign.End ▸ jump)
     (either at_plain_proof plain_proof
-    (a_name ∘ sign.Equal ▸ right_side)))))))))))
+    assignment))))))))))
+
+-- stmt
+unfoldable pub statement : Production RawStatement
+statement = node (λ ws x. roll-RawStatement (record { what = x; line = first_line ws })) (λ t. (out-RawStatement t).what) (λ ws x. refl) statement_kind

@@ -2,7 +2,8 @@
 --
 -- Words and cells are numbered from 0 in the order of their declarations, each kind for itself. A token is the number
 -- of its name; the first permission of cell k, which the start alone may name, is `cell_token k`.
-use Rattle.std.specs.Prelude.{ℕ, ◌+◌, nat_eq, nat_lt, if◌then◌else◌, List, [], ◌∷◌, ◌++◌, length, map, replicate, Option, Some, None}
+use Rattle.std.specs.Prelude.{ℕ, ◌+◌, nat_eq, nat_lt, if◌then◌else◌, List, [], ◌∷◌, ◌++◌, length, map, replicate}
+use Rattle.std.specs.Prelude.{Option, Some, None}
 use Rattle.sync_thread.specs.declared.operands.CodeDecl.{CodeDecl}
 use Rattle.sync_thread.specs.declared.operands.CodeDecl.TheVariants as code
 use Rattle.sync_thread.specs.declared.operands.Tok.{Tok}

@@ -1,5 +1,7 @@
 -- The erased program: what it is, and what it does on words, cells and locals.
-use Rattle.std.specs.Prelude.{◌≡◌, ℕ, zero, suc, ◌+◌, ◌-◌, ◌*◌, ◌/◌, ◌%◌, ◌^◌, ◌<◌, Bool, not, if◌then◌else◌, nat_eq, nat_lt, nat_le, List, [], ◌∷◌, ◌++◌, length, map, replicate, slice_set, slice_index_or, option_map, Option, Some, None, Result, Ok, Err}
+use Rattle.std.specs.Prelude.{◌≡◌, ℕ, zero, suc, ◌+◌, ◌-◌, ◌*◌, ◌/◌, ◌%◌, ◌^◌, ◌<◌, Bool, not, if◌then◌else◌, nat_eq}
+use Rattle.std.specs.Prelude.{nat_lt, nat_le, List, [], ◌∷◌, ◌++◌, length, map, replicate, slice_set, slice_index_or}
+use Rattle.std.specs.Prelude.{option_map, Option, Some, None, Result, Ok, Err}
 use Rattle.sync_base.specs.Outcome.{◌>>=◌}
 use Rattle.sync_thread.specs.declared.operands.Opd.{Opd}
 use Rattle.sync_thread.specs.declared.operands.Opd.TheVariants.{Number, Local}
@@ -12,10 +14,14 @@ use Rattle.sync_thread.specs.declared.operands.WordOp.{WordOp}
 use Rattle.sync_thread.specs.declared.operands.WordOp.TheVariants.{Load, Store, Swap, Add, Sub, Cas}
 use Rattle.sync_thread.specs.declared.operands.CodeDecl.{CodeDecl}
 use Rattle.sync_thread.specs.declared.operands.Line.{Line}
+use Rattle.sync_words.specs.declared.entries.Operation.{Operation}
+use Rattle.sync_words.specs.declared.entries.Operation.TheVariants as operation
+use Rattle.sync_words.specs.Entries.{changed}
 use Rattle.sync_thread.specs.Programs.{SharedTree, AtomicTree, ListTree, ThreadTree, ProgramTree}
 use Rattle.sync_thread.specs.Programs as tree
 use Rattle.sync_thread.specs.Arrays.{code_decl, first_words, first_cells, Span, words_named, cells_named}
-use Rattle.sync_thread.specs.Control.{Halt, Broken, Forms, Language, Stms, Brace, Do, On, OnWhen, If, Loop, Next, Break, Meet, End, StatementMeaning, ProgramMeaning, Running, events, start_from}
+use Rattle.sync_thread.specs.Control.{Halt, Broken, Forms, Language, Stms, Brace, Do, On, OnWhen, If, Loop, Next, Break}
+use Rattle.sync_thread.specs.Control.{Meet, End, StatementMeaning, ProgramMeaning, Running, events, start_from}
 
 -- ---- trees
 
@@ -150,14 +156,18 @@ calculated f (Times a n) = Ok ((f a * n) % 2 ^ 64)
 calculated f (Divided a n) = unless_zero n (f a / n)
 calculated f (Modulo a n) = unless_zero n (f a % n)
 
--- what an operation makes of a word that is n
+-- what an operation leaves in a log, on a word that is n
+abbrev pub logged : (Opd → ℕ) → WordOp → ℕ → Operation
+logged f Load n = operation.Load n
+logged f (Store a) n = operation.Store (f a)
+logged f (Swap a) n = operation.Swap (f a) n
+logged f (Add a) n = operation.Add (f a) n
+logged f (Sub a) n = operation.Sub (f a) n
+logged f (Cas a b) n = operation.Cas (f a) (f b) n
+
+-- what an operation makes of a word that is n: what the operations of a table of words make of it
 abbrev pub effect_of : (Opd → ℕ) → WordOp → ℕ → ℕ
-effect_of f Load n = n
-effect_of f (Store a) n = f a
-effect_of f (Swap a) n = f a
-effect_of f (Add a) n = sum_of n (f a)
-effect_of f (Sub a) n = difference_of n (f a)
-effect_of f (Cas a b) n = if nat_eq n (f a) then f b else n
+effect_of f op n = changed n (logged f op n)
 
 -- ---- what statements do
 

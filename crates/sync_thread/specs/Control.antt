@@ -3,7 +3,8 @@
 -- A list runs up to its next shared step. A jump is a signal that the form round it takes; what stands round a list is
 -- a list of frames, innermost first. No list runs without end: `run` goes down the list, `unwind` down the frames, and
 -- each frame begins its body at most once more.
-use Rattle.std.specs.Prelude.{ℕ, suc, Bool, true, false, if◌then◌else◌, List, [], ◌∷◌, ◌++◌, Option, Some, None, Result, Ok, Err, is_none, slice_get, slice_set, length, nat_lt, ◌≡◌}
+use Rattle.std.specs.Prelude.{ℕ, suc, Bool, true, false, if◌then◌else◌, List, [], ◌∷◌, ◌++◌, Option, Some, None, Result}
+use Rattle.std.specs.Prelude.{Ok, Err, is_none, slice_get, slice_set, length, nat_lt, ◌≡◌}
 use Rattle.std.specs.List.{list_all}
 use Rattle.sync_base.specs.Outcome.{◌>>=◌}
 
@@ -28,7 +29,8 @@ pub record Language : Type 1 where
   pub Saved : Type 0
   pub State : Type 0
 
--- What remains of a list of statements. A line is that of the statement, and at the end that of the closing brace; in code it is 0.
+-- What remains of a list of statements. A line is that of the statement, and at the end that of the closing brace; in
+-- code it is 0.
 pub data Stms (f : Forms) : Type 0 where
   Brace : (line : ℕ) → Stms f
   Do : (local : f.Local) (line : ℕ) (rest : Stms f) → Stms f
@@ -126,7 +128,8 @@ run w (OnWhen a n p q joined rest) s = At (OnWhen a n p q joined rest) [] s
 run w (If c n p q joined rest) s =
     after_branch w joined rest (w.save s) (run w rest) (if w.test c s then run w p s else run w q s)
 run w (Loop k j n body left rest) s =
-    from_state (w.keep k j (w.save s) s) (λ t. after_fresh_body w k body left rest (w.save s) (run w rest) (run w body t))
+    from_state (w.keep k j (w.save s) s)
+    (λ t. after_fresh_body w k body left rest (w.save s) (run w rest) (run w body t))
 run w (Next j n rest) s = Nexts j s
 run w (Break j n rest) s = Breaks j s
 run w (Meet j n rest) s = if is_brace rest then Meets j s else Fails Broken

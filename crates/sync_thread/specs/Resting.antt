@@ -1,8 +1,11 @@
 -- When a program rests between its events, whatever its statements and the rules for them are: what a type system has
 -- to say of single statements, so that every event goes on and the program rests again.
-use Rattle.std.specs.Prelude.{ℕ, suc, ◌<◌, ◌≤◌, Bool, true, false, ◌||◌, if◌then◌else◌, List, [], ◌∷◌, length, slice_get, Option, Some, None, Result, Ok, Err, ◌≡◌, ◌⊎◌}
+use Rattle.std.specs.Prelude.{ℕ, suc, ◌<◌, ◌≤◌, Bool, true, false, ◌||◌, if◌then◌else◌, List, [], ◌∷◌, length}
+use Rattle.std.specs.Prelude.{slice_get, Option, Some, None, Result, Ok, Err, ◌≡◌, ◌⊎◌}
 use Rattle.sync_base.specs.Outcome.{◌>>=◌}
-use Rattle.sync_thread.specs.Control.{Halt, Forms, Language, Stms, Brace, Do, On, OnWhen, If, Loop, Next, Break, Meet, End, Frame, InBranch, InLoop, StatementMeaning, is_brace, Paused, ProgramMeaning, Running, have_ended, event, start_from, events}
+use Rattle.sync_thread.specs.Control.{Halt, Forms, Language, Stms, Brace, Do, On, OnWhen, If, Loop, Next, Break, Meet}
+use Rattle.sync_thread.specs.Control.{End, Frame, InBranch, InLoop, StatementMeaning, is_brace, Paused, ProgramMeaning}
+use Rattle.sync_thread.specs.Control.{Running, have_ended, event, start_from, events}
 
 -- ---- silent paths
 
@@ -25,7 +28,8 @@ abbrev pub after_branches : Silent → Silent → Silent
 after_branches inner rest =
     either (record { next = inner.next; break = inner.break; meet = false }) (if inner.meet then rest else no_way)
 
--- What the list's text lets happen silently, whatever its conditions; an inner loop lets through where its body breaks so.
+-- What the list's text lets happen silently, whatever its conditions; an inner loop lets through where its body breaks
+-- silently.
 abbrev pub silent : {f : Forms} → Stms f → Silent
 silent (Brace n) = no_way
 silent (Do l n rest) = silent rest
@@ -173,7 +177,8 @@ pub record Rows {g : Language} (r : Rules g) (t : ℕ) (w : StatementMeaning g) 
       → r.Goes t (On a n rest) round e → (s : g.State) → r.Overall s → r.Stands t e round s
       → PassesUnless r.Spares (w.shared a s) (λ z. (now : r.Env) × Advances r t s now round z × r.Goes t rest round now)
   -- `before` is what is known after the step and before its branches
-  pub choice : (a : g.forms.Choice) (n : ℕ) (one two : Stms g.forms) (joined : Option g.forms.Keep) (rest : Stms g.forms)
+  pub choice : (a : g.forms.Choice) (n : ℕ) (one two : Stms g.forms) (joined : Option g.forms.Keep)
+      (rest : Stms g.forms)
       (round : List (Round g r.Env)) (e : r.Env)
       → r.Goes t (OnWhen a n one two joined rest) round e → (s : g.State) → r.Overall s → r.Stands t e round s
       → PassesUnless r.Spares (w.choice a s) (λ (y : Bool × g.State). (before now : r.Env)
@@ -188,7 +193,8 @@ pub record Rows {g : Language} (r : Rules g) (t : ℕ) (w : StatementMeaning g) 
       (rest : Stms g.forms) (round : List (Round g r.Env)) (e : r.Env)
       → r.Goes t (Loop k j n body left rest) round e → (s : g.State) → r.Overall s → r.Stands t e round s
       → (inside : r.Env)
-      × PassesUnless r.Spares (w.keep k j (w.save s) s) (λ z. Advances r t s inside (turn k left (w.save s) e ∷ round) z)
+      × PassesUnless r.Spares (w.keep k j (w.save s) s)
+      (λ z. Advances r t s inside (turn k left (w.save s) e ∷ round) z)
       × GoesRound r t k body left (w.save s) round e inside × GoesPast r t left rest round e
   pub next : (j : g.forms.Jump) (n : ℕ) (rest : Stms g.forms) (round : List (Round g r.Env)) (e : r.Env)
       → r.Goes t (Next j n rest) round e → NextComes r t j round e
@@ -201,7 +207,8 @@ pub record Rows {g : Language} (r : Rules g) (t : ℕ) (w : StatementMeaning g) 
   pub brace : (n : ℕ) (round : List (Round g r.Env)) (e : r.Env) → r.Goes t (Brace n) round e
       → FinishComes r t round e
   -- a jump comes to a keep: what the keep says is known, of the form that the keep belongs to and of those round it
-  pub keep : (k : g.forms.Keep) (j : g.forms.Jump) (form : Round g r.Env) (round : List (Round g r.Env)) (e beyond : r.Env)
+  pub keep : (k : g.forms.Keep) (j : g.forms.Jump) (form : Round g r.Env) (round : List (Round g r.Env))
+      (e beyond : r.Env)
       → r.Comes t k j form.env e → r.After t k form.env beyond
       → (s : g.State) → r.Overall s → r.Stands t e (form ∷ round) s
       → PassesUnless r.Spares (w.keep k j form.saved s) (λ z. Advances r t s beyond (form ∷ round) z)
@@ -303,7 +310,8 @@ pub record Ready {g : Language} (r : Rules g) (p : ProgramMeaning g) (s : g.Stat
 
 -- an event of anybody leaves a program at rest, or fails for a reason that is spared
 abbrev pub EventsRest : (g : Language) (r : Rules g) → ProgramMeaning g → Type 0
-EventsRest g r p = Premises r p → (t : ℕ) (c : Running g) → AtRest r p c → PassesUnless r.Spares (event p t c) (AtRest r p)
+EventsRest g r p = Premises r p → (t : ℕ) (c : Running g) → AtRest r p c
+    → PassesUnless r.Spares (event p t c) (AtRest r p)
 
 -- from a state in which the threads may begin every schedule leaves a program at rest
 abbrev pub SchedulesRest : (g : Language) (r : Rules g) → ProgramMeaning g → Type 0

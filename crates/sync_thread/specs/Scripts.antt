@@ -1,7 +1,10 @@
 -- How many scripts a program has: `by` stands in it as often.
 use Rattle.std.specs.Prelude.{ℕ, ◌+◌, List, [], ◌∷◌, length, Option, Some, None}
 use Rattle.sync_thread.specs.Control.{Brace, Do, On, OnWhen, If, Loop, Next, Break, Meet, End}
-use Rattle.sync_thread.specs.Programs.{IndexTree, ProofTree, Let, Exchange, Split, Merge, Copy, Move, Assert, Open, Case, Close, Still, Seal, Give, ProofStepTree, LocalTree, Set, Proof, SharedTree, Read, Write, Peek, Operate, Print, ChoiceTree, ListTree, ThreadTree, StartTree, ProgramTree}
+use Rattle.sync_thread.specs.Programs.{IndexTree, ProofTree, Let, Exchange, Split, Merge, Copy, Move, Assert, Open}
+use Rattle.sync_thread.specs.Programs.{Case, Close, Still, Seal, Give, ProofStepTree, LocalTree, Set, Proof, SharedTree}
+use Rattle.sync_thread.specs.Programs.{Read, Write, Peek, Operate, Print, ChoiceTree, ListTree, ThreadTree, StartTree}
+use Rattle.sync_thread.specs.Programs.{ProgramTree}
 
 abbrev pub scripts_at : IndexTree → ℕ
 scripts_at i = length i.scripts

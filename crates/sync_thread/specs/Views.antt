@@ -31,7 +31,10 @@ use Rattle.sync_thread.specs.declared.program.CodeStmt.TheOpen.{CodeStmt-F}
 use Rattle.sync_thread.specs.declared.program.CodeThread.{CodeThread}
 use Rattle.sync_thread.specs.declared.program.Code.{Code}
 use Rattle.sync_thread.specs.Control.{Brace, Do, On, OnWhen, If, Loop, Next, Break, Meet, End}
-use Rattle.sync_thread.specs.Programs.{ScriptTree, IndexTree, ShapeTree, ClauseTree, WordTree, CellTree, DeclTree, KeepLineTree, KeepFactTree, KeepTree, DoTree, ClosingTree, CaseTree, ProofTree, ProofStepTree, JumpTree, AtomicTree, ListTree, ThreadTree, StartTree, ProgramTree}
+use Rattle.sync_thread.specs.Programs.{ScriptTree, IndexTree, ShapeTree, ClauseTree, WordTree, CellTree, DeclTree}
+use Rattle.sync_thread.specs.Programs.{KeepLineTree, KeepFactTree, KeepTree, DoTree, ClosingTree, CaseTree, ProofTree}
+use Rattle.sync_thread.specs.Programs.{ProofStepTree, JumpTree, AtomicTree, ListTree, ThreadTree, StartTree}
+use Rattle.sync_thread.specs.Programs.{ProgramTree}
 use Rattle.sync_thread.specs.Programs as tree_of
 use Rattle.sync_thread.specs.Code.{CodeList, CodeTree}
 use Rattle.sync_thread.specs.Code as code

@@ -5,7 +5,9 @@ mod laws;
 mod operands;
 mod program;
 
-pub use laws::{Ruled, events_rest, schedules_go_on, schedules_rest};
+pub use laws::{
+    Ruled, events_rest, logs_are_cut, schedules_go_on, schedules_rest, steps_are_alone, steps_tell,
+};
 pub use operands::{Calc, CodeDecl, Cond, Line, Moved, Opd, Rel, Tok, WordOp};
 pub use program::{
     Atomic, CaseForm, Cell, Clause, Closing, Code, CodeStmt, CodeThread, Decl, DoForm, Idx, Keep,

@@ -1,5 +1,6 @@
 -- What a schedule leaves is at the moment after its events, with one answer for each of them.
-use Rattle.std.specs.Prelude.{◌≡◌, ℕ, suc, Bool, false, if◌then◌else◌, List, [], ◌∷◌, length, map, Option, Some, None, Result, Ok, Err}
+use Rattle.std.specs.Prelude.{◌≡◌, ℕ, suc, Bool, false, if◌then◌else◌, List, [], ◌∷◌, length, map, Option, Some, None}
+use Rattle.std.specs.Prelude.{Result, Ok, Err}
 use mathlib.Core.Path.{refl, sym, ap, subst, ◌∙◌}
 use Rattle.sync_base.specs.Outcome.{◌>>=◌}
 use Rattle.sync_machine.specs.States.{State}
@@ -12,7 +13,8 @@ use Rattle.sync_thread_meaning.specs.MachineWithProgram.{MachineWithProgram, fie
 use Rattle.sync_thread_meaning.specs.Shares.{no_bound, found}
 use Rattle.sync_thread_meaning.specs.Meaning.{annotated_meaning}
 use Rattle.sync_thread_meaning.specs.Laws.{IsTraceAt, TracesAreOfMoments}
-use Rattle.sync_thread_meaning.specs.Moments.{Configuration, start_of, after, bag_in, if_it_goes_on, moves_of, TraceTree, trace_from, trace_of}
+use Rattle.sync_thread_meaning.specs.Moments.{Configuration, start_of, bag_in, if_it_goes_on, moves_of, TraceTree}
+use Rattle.sync_thread_meaning.specs.Moments.{trace_from}
 
 abbrev pub IsOk : {A : Type 0} → Result A Halt → Type 0
 IsOk (Ok a) = Unit {0}
@@ -50,15 +52,18 @@ abbrev from_state : List Moved → Configuration → Option State → Result Tra
 from_state ms d o = found o >>= (λ (s : State). Ok (told ms d s))
 
 from_join : (x : MachineWithProgram) (ms : List Moved) (d : Configuration) (r : TraceTree) (o : Option State)
-    → join_of (fields_of x) (bag_in d) d.state.shares.kept ≡ o → from_state ms d o ≡ Ok r → IsTraceAt x r d × (r.moved ≡ ms)
-from_join x ms d r (Some s) is same = subst (λ (q : TraceTree). IsTraceAt x q d × (q.moved ≡ ms)) (ok_same (told ms d s) r same)
+    → join_of (fields_of x) (bag_in d) d.state.shares.kept ≡ o → from_state ms d o ≡ Ok r → IsTraceAt x r d
+    × (r.moved ≡ ms)
+from_join x ms d r (Some s) is same =
+    subst (λ (q : TraceTree). IsTraceAt x q d × (q.moved ≡ ms)) (ok_same (told ms d s) r same)
     (record { lines = refl; words = refl; joined = is }, refl)
 from_join x ms d r None is same = absurd (no_err Broken r same)
 
 from_events : (x : MachineWithProgram) (ms : List Moved) (r : TraceTree) (q : Result Configuration Halt)
     → (q >>= (λ (d : Configuration). from_state ms d (join_of (fields_of x) (bag_in d) d.state.shares.kept))) ≡ Ok r
     → (here : Configuration) × (q ≡ Ok here) × IsTraceAt x r here × (r.moved ≡ ms)
-from_events x ms r (Ok d) same = let (trace, moved) = from_join x ms d r (join_of (fields_of x) (bag_in d) d.state.shares.kept) refl same in
+from_events x ms r (Ok d) same = let (trace, moved) =
+    from_join x ms d r (join_of (fields_of x) (bag_in d) d.state.shares.kept) refl same in
     (d, refl, trace, moved)
 from_events x ms r (Err h) same = absurd (no_err h r same)
 
@@ -67,7 +72,8 @@ from_start : (x : MachineWithProgram) (sigma : List ℕ) (r : TraceTree) (q : Re
     → (here : Configuration) × ((q >>= events (annotated_meaning no_bound x) sigma) ≡ Ok here) × IsTraceAt x r here
     × (length r.moved ≡ length sigma)
 from_start x sigma r (Ok c) same =
-    let (here, is, trace, moved) = from_events x (moves_of (annotated_meaning no_bound x) sigma c) r (events (annotated_meaning no_bound x) sigma c) same in
+    let (here, is, trace, moved) = from_events x (moves_of (annotated_meaning no_bound x) sigma c) r
+    (events (annotated_meaning no_bound x) sigma c) same in
     (here, is, trace, ap length moved ∙ moves_length (annotated_meaning no_bound x) sigma c (subst IsOk (sym is) tt))
 from_start x sigma r (Err h) same = absurd (no_err h r same)
 
@@ -76,7 +82,8 @@ of_false {A} b one two is = subst (λ c. (if c then one else two) ≡ two) (sym 
 
 pub traces_are_of_moments : TracesAreOfMoments
 traces_are_of_moments x sigma r some same =
-    let empty : Result TraceTree Halt = Ok (record { moved = map (λ (t : ℕ). Nothing) sigma; lines = []; words = []; state = [] }) in
+    let empty : Result TraceTree Halt =
+    Ok (record { moved = map (λ (t : ℕ). Nothing) sigma; lines = []; words = []; state = [] }) in
     let tells : Result TraceTree Halt = start_of no_bound x x.program.start >>= trace_from x sigma in
     let (here, comes, trace, each) = from_start x sigma r (start_of no_bound x x.program.start)
     (subst (λ q. q ≡ Ok r) (of_false (is_empty x.program) empty tells some) same) in

@@ -1,41 +1,32 @@
 -- What an exchange does to the tokens of a thread, with the state that all shards make.
-use Rattle.std.specs.Prelude.{ℕ, zero, suc, ℤ, pos, ◌+ℤ◌, ◌+◌, ◌/◌, ◌%◌, ◌*◌, ◌^◌, Bool, true, false, not, ◌&&◌, ◌||◌, if◌then◌else◌, nat_eq, nat_lt, int_le, List, [], ◌∷◌, ◌++◌, length, map, slice_get, slice_set, slice_index_or, is_some, is_none, Option, Some, None, Result, Ok, Err}
-use Rattle.std.specs.List.{list_all, list_any}
+use Rattle.std.specs.Prelude.{ℕ, ℤ, pos, Bool, true, false, ◌&&◌, ◌||◌, if◌then◌else◌, nat_lt, List, [], ◌∷◌, length}
+use Rattle.std.specs.Prelude.{slice_get, slice_index_or, Option, Some, None, Result, Ok, Err}
+use Rattle.std.specs.List.{list_all}
 use Rattle.std.specs.Ordering.{int_eq}
 use Rattle.sync_base.specs.Outcome.{◌>>=◌}
-use Rattle.sync_terms.specs.Trees.{Tree, Formula, Get}
+use Rattle.sync_terms.specs.Trees.{Tree, Get}
 use Rattle.sync_terms.specs.Maps as maps
-use Rattle.sync_terms.specs.Values.{Valuation, num, truth, with_value}
+use Rattle.sync_terms.specs.Values.{Valuation, num, with_value}
 use Rattle.sync_machine.specs.declared.fields.Field.{Field}
-use Rattle.sync_base.specs.declared.strategies.Strategy.{Strategy}
-use Rattle.sync_base.specs.declared.strategies.Strategy.TheVariants.{Count}
-use Rattle.sync_join.specs.declared.tokens.Token.{Token}
-use Rattle.sync_exchange.specs.declared.hands.Held.{Held}
 use Rattle.sync_exchange.specs.declared.hands.XStop.{XStop}
 use Rattle.sync_exchange.specs.declared.hands.XStop.TheVariants as stop
-use Rattle.sync_thread.specs.declared.operands.Calc.{Calc}
-use Rattle.sync_thread.specs.declared.operands.Calc.TheVariants as calc
-use Rattle.sync_thread.specs.declared.operands.CodeDecl.{CodeDecl}
-use Rattle.sync_thread.specs.declared.operands.Opd.{Opd}
-use Rattle.sync_thread.specs.declared.operands.Tok.{Tok}
-use Rattle.sync_thread.specs.declared.operands.WordOp.{WordOp}
 use Rattle.sync_thread.specs.declared.operands.WordOp.TheVariants as op
 use Rattle.sync_machine.specs.Machines.{StepTree, OperationTree, ActTree, PlaceTree}
 use Rattle.sync_machine.specs.Machines as acts
 use Rattle.sync_machine.specs.Statements.{key_of, binds, safety}
-use Rattle.sync_machine.specs.States.{Value, Number, Mapped, State, strategy_at, strategy_of, current_of, advanced, first_values}
-use Rattle.sync_join.specs.Shards.{perm}
+use Rattle.sync_machine.specs.Tests.{is_met}
+use Rattle.sync_machine.specs.States.{Value, Number, Mapped, State, strategy_of, current_of, advanced, first_values}
 use Rattle.sync_join.specs.Join.{join_of, number_of, entries_of}
 use Rattle.sync_exchange_values.specs.Fitting.{values_fit}
-use Rattle.sync_exchange.specs.Exchange.{held_as, argument, exchange_in, Exchanged, revalued, tokens_in}
+use Rattle.sync_exchange.specs.Exchange.{argument, exchange_in, Exchanged}
 use Rattle.sync_rules.specs.Plain.{is_plain}
-use Rattle.sync_exchange.specs.Splitting.{dropped, replaced, held, split_of, merged_of, copied_of, is_persistent}
-use Rattle.sync_thread.specs.Control.{Halt, Broken, Wide, Language, StatementMeaning, ProgramMeaning}
-use Rattle.sync_thread.specs.Programs.{ClauseTree, KeepTree, DoTree, ClosingTree, CaseTree, ProofTree, Let, Exchange, Split, Merge, Copy, Move, Assert, Open, Case, Close, Still, Seal, Give, ProofStepTree, JumpTree, LocalTree, Set, Proof, SharedTree, Read, Write, Peek, Operate, Print, AtomicTree, ChoiceTree, ThreadTree, program_forms, is_unclaimed, all_decided}
-use Rattle.sync_thread.specs.Arrays.{words_named, token_number, token_numbers}
+use Rattle.sync_thread.specs.Control.{Halt, Broken, Wide}
+use Rattle.sync_thread.specs.Programs.{DoTree, Assert}
+use Rattle.sync_thread.specs.Arrays.{token_numbers}
 use Rattle.sync_thread_meaning.specs.MachineWithProgram.{MachineWithProgram, fields_of, decls_of}
-use Rattle.sync_thread.specs.Code.{Memory, code_word, code_shared, code_local, code_step, satisfies, operand_value, word_number, word_at, cell_number, number_in, locals_of}
-use Rattle.sync_thread_meaning.specs.Shares.{Owned, Shares, hand_of, proofs_of, wrap_of, with_hand, with_proofs, with_wrap, all_shards, only_if, bounded, found, Around, nowhere_near, named_value, symbol_value, Sight, sight_of, term_value, term_values, is_true, is_of_form, differ, are_new, WordAt, array_words, given_to, word_sight, guard_truth, fact_is_true, Parted, keep_lines, keep_facts_hold, overlaid}
+use Rattle.sync_thread.specs.Code.{Memory}
+use Rattle.sync_thread_meaning.specs.Shares.{Shares, hand_of, with_hand, all_shards, only_if, bounded, found, Sight}
+use Rattle.sync_thread_meaning.specs.Shares.{term_values, differ, are_new}
 
 -- ---- operations at a state
 
@@ -70,10 +61,6 @@ abbrev pub with_bound : Tree → Option PlaceTree → Valuation → Valuation
 with_bound cur (Some p) v = bound_at cur p (binds p) v
 with_bound cur None v = v
 
-abbrev pub is_met : Valuation → Option Formula → Bool
-is_met v (Some f) = truth v f
-is_met v None = true
-
 -- every safety condition is true, from these values of the fields on
 unfoldable pub are_safe : List Field → Valuation → List Tree → List StepTree → Bool
 are_safe fs v cur [] = true
@@ -92,7 +79,8 @@ key_or v None later = later
 unfoldable pub guarded_key : List Field → Valuation → List Tree → List StepTree → Option ℤ
 guarded_key fs v cur [] = None
 guarded_key fs v cur (s ∷ ss) =
-    key_or v (guarded_place s.act) (guarded_key fs (with_bound (current_of cur s.act) (binding_place s.act) v) (advanced fs cur s.act) ss)
+    key_or v (guarded_place s.act) (guarded_key fs (with_bound (current_of cur s.act) (binding_place s.act) v)
+    (advanced fs cur s.act) ss)
 
 -- the numbers of a state are within the bound
 abbrev pub number_or_map_fits : (ℤ → Bool) → Value → Bool
@@ -118,8 +106,10 @@ abbrev pub exchanged : (ℤ → Bool) → MachineWithProgram → ℕ → Sight �
 exchanged fits x t v form s g =
     found (slice_get x.machine.ops form.op) >>= (λ (o : OperationTree). term_values fits v form.args >>= (λ args.
     only_if (differ (token_numbers (decls_of x) form.tokens) && are_new form.given (hand_of g t))
-    (exchange_left (are_safe (fields_of x) (operation_names (fields_of x) s o args) (first_values (fields_of x) o.mode) o.steps) t g
-    (exchange_in fits (fields_of x) o args (token_numbers (decls_of x) form.tokens) form.given s (hand_of g t) g.kept))))
+    (exchange_left (are_safe (fields_of x) (operation_names (fields_of x) s o args)
+    (first_values (fields_of x) o.mode) o.steps) t g
+    (exchange_in fits (fields_of x) o args (token_numbers (decls_of x) form.tokens) form.given s
+    (hand_of g t) g.kept))))
 
 abbrev pub op_is_plain : MachineWithProgram → Option OperationTree → Bool
 op_is_plain x (Some o) = is_plain x.machine.fields o
@@ -135,7 +125,9 @@ abbrev pub guards_cell : (ℤ → Bool) → MachineWithProgram → Sight → DoT
 guards_cell fits x v form g c =
     found (slice_get x.machine.ops form.op)
     >>= (λ (o : OperationTree). found (join_of (fields_of x) (all_shards g) g.kept) >>= (λ (s : State).
-    term_values fits v form.args >>= (λ args. Ok (is_key (guarded_key (fields_of x) (operation_names (fields_of x) s o args) (first_values (fields_of x) o.mode) o.steps))))) where
+    term_values fits v form.args >>= (λ args. Ok
+    (is_key (guarded_key (fields_of x) (operation_names (fields_of x) s o args)
+    (first_values (fields_of x) o.mode) o.steps))))) where
       is_key : Option ℤ → Bool
       is_key (Some k) = int_eq k (pos c)
       is_key None = false

@@ -1,23 +1,8 @@
--- What a text is checked for: a machine, and a program over it.
-use Rattle.std.specs.Prelude.{ℕ, List, map, Option, Some, None}
-use Rattle.sync_machine.specs.declared.fields.Field.{Field}
-use Rattle.sync_thread.specs.declared.operands.CodeDecl.{CodeDecl}
-use Rattle.sync_machine.specs.Machines.{MachineTree}
+-- What a text is checked for, a machine with a program over it, and the fields of its tokens' forms.
+use Rattle.std.specs.Prelude.{ℕ, Option, unwrap_or}
 use Rattle.sync_join.specs.Shards.{perm}
-use Rattle.sync_thread.specs.Programs.{ProgramTree}
-use Rattle.sync_thread.specs.Arrays.{code_decl}
-
-pub record MachineWithProgram : Type 0 where
-  pub machine : MachineTree
-  pub program : ProgramTree
-
-abbrev pub fields_of : MachineWithProgram → List Field
-fields_of x = x.machine.fields
-
-abbrev pub decls_of : MachineWithProgram → List CodeDecl
-decls_of x = map code_decl x.program.decls
+pub use Rattle.sync_thread_machine.specs.MachineWithProgram.{MachineWithProgram, fields_of, decls_of}
 
 -- the field of a token's form; a form without field is that of a permission
 abbrev pub field_of : Option ℕ → ℕ
-field_of (Some f) = f
-field_of None = perm
+field_of f = unwrap_or f perm

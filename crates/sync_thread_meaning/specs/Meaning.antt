@@ -1,45 +1,42 @@
 -- What proof statements and shared steps do to the tokens: the annotated meaning of a program.
 --
 -- `fits` says which numbers are within the bound. With no bound nothing ends by `Wide`.
-use Rattle.std.specs.Prelude.{ℕ, zero, suc, ℤ, pos, ◌+ℤ◌, ◌+◌, ◌/◌, ◌%◌, ◌*◌, ◌^◌, Bool, true, false, not, ◌&&◌, ◌||◌, if◌then◌else◌, nat_eq, nat_lt, int_le, List, [], ◌∷◌, ◌++◌, length, map, slice_get, slice_set, slice_index_or, is_some, is_none, Option, Some, None, Result, Ok, Err}
-use Rattle.std.specs.List.{list_all, list_any}
+use Rattle.std.specs.Prelude.{ℕ, zero, suc, ℤ, pos, ◌+ℤ◌, ◌+◌, ◌/◌, ◌%◌, ◌*◌, ◌^◌, Bool, true, false, not, ◌&&◌}
+use Rattle.std.specs.Prelude.{if◌then◌else◌, nat_eq, nat_lt, int_le, List, [], ◌∷◌, ◌++◌, length, map, slice_get}
+use Rattle.std.specs.Prelude.{Option, Some, None, Result, Ok, Err}
 use Rattle.std.specs.Ordering.{int_eq}
 use Rattle.sync_base.specs.Outcome.{◌>>=◌}
-use Rattle.sync_terms.specs.Trees.{Tree, Formula, Get}
+use Rattle.sync_terms.specs.Trees.{Tree}
 use Rattle.sync_terms.specs.Maps as maps
-use Rattle.sync_terms.specs.Values.{Valuation, num, truth, with_value}
 use Rattle.sync_machine.specs.declared.fields.Field.{Field}
 use Rattle.sync_base.specs.declared.strategies.Strategy.{Strategy}
 use Rattle.sync_base.specs.declared.strategies.Strategy.TheVariants.{Count}
 use Rattle.sync_join.specs.declared.tokens.Token.{Token}
 use Rattle.sync_exchange.specs.declared.hands.Held.{Held}
-use Rattle.sync_exchange.specs.declared.hands.XStop.{XStop}
-use Rattle.sync_exchange.specs.declared.hands.XStop.TheVariants as brace
 use Rattle.sync_thread.specs.declared.operands.Calc.{Calc}
 use Rattle.sync_thread.specs.declared.operands.Calc.TheVariants as calc
-use Rattle.sync_thread.specs.declared.operands.CodeDecl.{CodeDecl}
 use Rattle.sync_thread.specs.declared.operands.Opd.{Opd}
-use Rattle.sync_thread.specs.declared.operands.Tok.{Tok}
 use Rattle.sync_thread.specs.declared.operands.WordOp.{WordOp}
 use Rattle.sync_thread.specs.declared.operands.WordOp.TheVariants as op
-use Rattle.sync_machine.specs.Machines.{StepTree, OperationTree, ActTree, PlaceTree}
-use Rattle.sync_machine.specs.Machines as acts
-use Rattle.sync_machine.specs.Statements.{key_of, binds, safety}
-use Rattle.sync_machine.specs.States.{Value, Number, Mapped, State, strategy_at, strategy_of, current_of, advanced, first_values}
+use Rattle.sync_machine.specs.States.{State, strategy_at}
 use Rattle.sync_join.specs.Shards.{perm}
-use Rattle.sync_join.specs.Join.{join_of, number_of, entries_of}
-use Rattle.sync_exchange_values.specs.Fitting.{values_fit}
-use Rattle.sync_exchange.specs.Exchange.{held_as, argument, exchange_in, Exchanged, revalued, tokens_in}
-use Rattle.sync_rules.specs.Plain.{is_plain}
-use Rattle.sync_exchange.specs.Splitting.{dropped, replaced, held, split_of, merged_of, copied_of, is_persistent}
-use Rattle.sync_thread.specs.Control.{Halt, Broken, Wide, Language, StatementMeaning, ProgramMeaning}
-use Rattle.sync_thread.specs.Programs.{ClauseTree, KeepTree, DoTree, ClosingTree, CaseTree, ProofTree, Let, Exchange, Split, Merge, Copy, Move, Assert, Open, Case, Close, Still, Seal, Give, ProofStepTree, JumpTree, LocalTree, Set, Proof, SharedTree, Read, Write, Peek, Operate, Print, AtomicTree, ChoiceTree, ThreadTree, program_forms, is_unclaimed, all_decided}
-use Rattle.sync_thread.specs.Arrays.{words_named, token_number, token_numbers}
+use Rattle.sync_exchange.specs.Exchange.{held_as, revalued, tokens_in}
+use Rattle.sync_exchange.specs.Splitting.{replaced, held, split_of, merged_of, copied_of, is_persistent}
+use Rattle.sync_thread.specs.Control.{Halt, Broken, Language, StatementMeaning, ProgramMeaning}
+use Rattle.sync_thread.specs.Programs.{KeepTree, ProofTree, Let, Exchange, Split, Merge, Copy, Move, Assert, Open, Case}
+use Rattle.sync_thread.specs.Programs.{Close, Still, Seal, Give, ProofStepTree, JumpTree, LocalTree, Set, Proof}
+use Rattle.sync_thread.specs.Programs.{SharedTree, Read, Write, Peek, Operate, Print, AtomicTree, ChoiceTree}
+use Rattle.sync_thread.specs.Programs.{ThreadTree, program_forms, all_decided}
+use Rattle.sync_thread.specs.Arrays.{words_named, token_number}
 use Rattle.sync_thread_meaning.specs.MachineWithProgram.{MachineWithProgram, fields_of, decls_of}
-use Rattle.sync_thread.specs.Code.{Memory, code_word, code_shared, code_local, code_step, satisfies, operand_value, word_number, word_at, cell_number, number_in, locals_of}
-use Rattle.sync_thread_meaning.specs.Shares.{Owned, Shares, hand_of, proofs_of, wrap_of, with_hand, with_proofs, with_wrap, all_shards, only_if, bounded, found, Around, nowhere_near, named_value, symbol_value, Sight, sight_of, term_value, term_values, is_true, is_of_form, differ, are_new, WordAt, array_words, given_to, word_sight, guard_truth, fact_is_true, Parted, keep_lines, keep_facts_hold, overlaid}
-use Rattle.sync_thread_meaning.specs.Exchanges.{state_number, operation_names, binding_place, bound_at, with_bound, is_met, are_safe, guarded_place, key_or, guarded_key, number_or_map_fits, state_fits, exchange_left, exchanged, op_is_plain, exchanged_at_join, guards_cell}
-use Rattle.sync_thread_meaning.specs.Words.{OpenBlock, Taken, taken_one, taken_out, with_owned, word_opened, case_taken, decided_case, Put, put_back, word_closed, clauses_at, may_stay}
+use Rattle.sync_thread.specs.Code.{Memory, code_word, code_shared, code_local, code_step, satisfies, operand_value}
+use Rattle.sync_thread.specs.Code.{word_number, word_at, cell_number, number_in, locals_of}
+use Rattle.sync_thread_meaning.specs.Shares.{Shares, hand_of, proofs_of, wrap_of, with_hand, with_proofs, with_wrap}
+use Rattle.sync_thread_meaning.specs.Shares.{only_if, bounded, handed_to, found, Around, nowhere_near, named_value}
+use Rattle.sync_thread_meaning.specs.Shares.{symbol_value, Sight, sight_of, term_value, term_values, is_true, are_new}
+use Rattle.sync_thread_meaning.specs.Shares.{given_to, Parted, keep_lines, keep_facts_hold, overlaid}
+use Rattle.sync_thread_meaning.specs.Exchanges.{exchanged_at_join, guards_cell}
+use Rattle.sync_thread_meaning.specs.Words.{OpenBlock, word_opened, decided_case, word_closed, clauses_at, may_stay}
 
 -- ---- proof statements
 
@@ -94,7 +91,8 @@ abbrev pub keep_sight : List Field → World → ℕ → (ℕ → Option ℤ) �
 keep_sight fs s t own wrap = record {
   valuation = record {
     number =
-        symbol_value fs s.shares.kept (pos 0 ∷ pos 0 ∷ pos 0 ∷ pos 0 ∷ wrap ∷ []) (named_value (overlaid own (proofs_of s.shares t)) (locals_of s.memory t)) (hand_of s.shares t);
+        symbol_value fs s.shares.kept (pos 0 ∷ pos 0 ∷ pos 0 ∷ pos 0 ∷ wrap ∷ [])
+        (named_value (overlaid own (proofs_of s.shares t)) (locals_of s.memory t)) (hand_of s.shares t);
     mapping = λ x. maps.nil;
   };
   hand = hand_of s.shares t;
@@ -132,28 +130,34 @@ proof_step fits x t site m p g = does p where
   does (Exchange form) = exchanged_at_join fits x t v form g
   does (Split n one two amount scripts) =
       term_value fits v amount >>= (λ i. found (held_as n hand) >>= (λ (token : Token).
-      only_if (is_count (fields_of x) token && int_le (pos 0) i && int_le i token.value && are_new (one ∷ two ∷ []) hand)
+      only_if (is_count (fields_of x) token && int_le (pos 0) i && int_le i token.value
+      && are_new (one ∷ two ∷ []) hand)
       (Ok (with_hand t (split_of n token i one two hand) g))))
   does (Merge a b into) = found (held_as a hand) >>= (λ (one : Token). found (held_as b hand) >>= (λ (two : Token).
       only_if (not (nat_eq a b) && nat_eq one.field two.field && is_count (fields_of x) one && are_new (into ∷ []) hand)
       (bounded (fits (one.value +ℤ two.value)) (Ok (with_hand t (merged_of a one b two into hand) g)))))
   does (Copy n new) = found (held_as n hand) >>= (λ (token : Token).
-      only_if (may_be_copied (fields_of x) token && are_new (new ∷ []) hand) (Ok (with_hand t (copied_of token new hand) g)))
+      only_if (may_be_copied (fields_of x) token && are_new (new ∷ []) hand)
+      (Ok (with_hand t (copied_of token new hand) g)))
   does (Move tok new) = found (held_as (token_number (decls_of x) tok) hand) >>= (λ (token : Token).
-      only_if (are_new (new ∷ []) hand) (Ok (with_hand t (replaced (token_number (decls_of x) tok) (held new token token.value) hand) g)))
+      only_if (are_new (new ∷ []) hand)
+      (Ok (with_hand t (replaced (token_number (decls_of x) tok) (held new token token.value) hand) g)))
   does (Assert form label scripts) = only_if (is_true v form) (Ok g)
   does (Open names tokens label) = block_at site >>= (λ (b : OpenBlock). word_opened x t b.number names tokens g)
   does (Case form) = block_at site >>= (λ (b : OpenBlock). decided_case x t b form g)
   does (Close form) =
       block_at site
-      >>= (λ (b : OpenBlock). only_if (all_decided b.decided 1 (clauses_at x b.number)) (word_closed fits x t v b.number b.around.new form g))
+      >>= (λ (b : OpenBlock). only_if (all_decided b.decided 1 (clauses_at x b.number))
+      (word_closed fits x t v b.number b.around.new form g))
   does (Still scripts) = block_at site >>= (λ (b : OpenBlock). only_if (may_stay x b) (Ok g))
   does (Seal word i form) =
-      only_if (in_start site) (number_in (words_named word (decls_of x)) i >>= (λ n. word_closed fits x t v n (pos (word_at m n)) form g))
+      only_if (in_start site) (number_in (words_named word (decls_of x)) i
+      >>= (λ n. word_closed fits x t v n (pos (word_at m n)) form g))
   does (Give thread args scripts) =
-      only_if (in_start site) (found (thread_named thread x.program.threads) >>= (λ u. found (slice_get x.program.threads u) >>= (λ (taker : ThreadTree).
+      only_if (in_start site) (found (thread_named thread x.program.threads)
+      >>= (λ u. found (slice_get x.program.threads u) >>= (λ (taker : ThreadTree).
       arrived fits x (record { memory = m; shares = g }) t taker.takes args (pos 0) >>= (λ (a : Arrival).
-      Ok (with_proofs u a.own (with_hand u a.kept (with_hand t a.left g)))))))
+      Ok (with_proofs u a.own (handed_to u a.kept (with_hand t a.left g)))))))
 
 -- the site after a statement
 abbrev pub deciding : ProofTree → List ℕ → List ℕ
@@ -212,7 +216,11 @@ permits_cell c None = false
 abbrev pub word_block : (ℤ → Bool) → MachineWithProgram → ℕ → AtomicTree → List ProofStepTree → Memory → Memory
     → Shares → Result Shares Halt
 word_block fits x t a ps m n g = word_number (decls_of x) t m a.word a.index.operand >>= (λ k.
-    proof_steps fits x t (InBlock (record { number = k; around = record { old = pos (word_at m k); new = pos (word_at n k) }; decided = [] })) n ps
+    proof_steps fits x t (InBlock (record {
+      number = k;
+      around = record { old = pos (word_at m k); new = pos (word_at n k) };
+      decided = [];
+    })) n ps
     (wrapping t (op_wrap (operand_value m t) a.op (word_at m k)) g))
 
 -- what a shared step does to the tokens, between the memory before and after it
@@ -236,7 +244,8 @@ shared_step fits x t a s =
 
 abbrev pub choice_step : (ℤ → Bool) → MachineWithProgram → ℕ → ChoiceTree → World → Result (Bool × World) Halt
 choice_step fits x t a s = code_step (decls_of x) t (code_word a.atomic) s.memory >>= (λ (m : Memory).
-    with_shares m (word_block fits x t a.atomic (if satisfies m t a.test.cond then a.first else a.second) s.memory m s.shares)
+    with_shares m (word_block fits x t a.atomic
+    (if satisfies m t a.test.cond then a.first else a.second) s.memory m s.shares)
     >>= (λ (w : World). Ok (satisfies m t a.test.cond, w)))
 
 -- a jump comes to a keep of its own thread
@@ -285,7 +294,10 @@ all_values (f ∷ fs) = overlaid f (all_values fs)
 -- the final block takes what all threads have
 abbrev pub gather : MachineWithProgram → World → World
 gather x s =
-    record s { shares = with_proofs (length x.program.threads) (all_values s.shares.proofs) (record s.shares { hands = gathered s.shares.hands [] }) }
+    record s {
+      shares = with_proofs (length x.program.threads) (all_values s.shares.proofs)
+          (record s.shares { hands = gathered s.shares.hands [] });
+    }
 
 abbrev pub annotated_meaning : (ℤ → Bool) → MachineWithProgram → ProgramMeaning annotated_language
 annotated_meaning fits x = record {

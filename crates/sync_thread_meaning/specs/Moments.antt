@@ -1,7 +1,6 @@
 -- The moments of a program: its start, what the events of a schedule leave, and where numbers grow too wide.
-use Rattle.std.specs.Prelude.{◌≡◌, ◌≢◌, ℕ, suc, ℤ, pos, ◌<◌, ◌≤◌, Bool, true, false, not, ◌&&◌, ◌⊎◌, nat_eq, if◌then◌else◌, List, [], ◌∷◌, ◌++◌, length, map, filter, replicate, take, slice_get, count_by, Option, Some, None, Result, Ok, Err}
-use Rattle.std.specs.List.{range_with_len}
-use Rattle.std.specs.Ordering.{int_eq}
+use Rattle.std.specs.Prelude.{◌≡◌, ℕ, suc, ℤ, pos, Bool, false, ◌⊎◌, if◌then◌else◌, List, [], ◌∷◌, ◌++◌, length, map}
+use Rattle.std.specs.Prelude.{replicate, take, Option, Some, None, Result, Ok, Err}
 use Rattle.sync_base.specs.Outcome.{◌>>=◌}
 use Rattle.sync_terms.specs.Maps as maps
 use Rattle.sync_machine.specs.declared.fields.Field.{Field}
@@ -10,15 +9,17 @@ use Rattle.sync_exchange.specs.declared.hands.Held.{Held}
 use Rattle.sync_thread.specs.declared.operands.Line.{Line}
 use Rattle.sync_thread.specs.declared.operands.Moved.{Moved}
 use Rattle.sync_thread.specs.declared.operands.Moved.TheVariants.{Stepped, Nothing}
-use Rattle.sync_machine.specs.States.{Value, Number, Mapped, State, Sort, Numbers, Maps, sort_of, IsReached, MeetsInvariants, HoldsAlways}
-use Rattle.sync_join.specs.Shards.{Kept, perm}
+use Rattle.sync_machine.specs.States.{Value, Number, Mapped, State, Sort, Numbers, Maps, sort_of}
+use Rattle.sync_join.specs.Shards.{Kept}
 use Rattle.sync_join.specs.Join.{join_of}
 use Rattle.sync_entries.specs.Narrow.{is_narrow}
 use Rattle.sync_exchange.specs.Exchange.{permission}
-use Rattle.sync_thread.specs.Control.{Halt, Broken, Wide, Language, On, Paused, ProgramMeaning, Running, event, events, start_from, AllMove, waits_at}
-use Rattle.sync_thread.specs.Programs.{ClauseTree, StartTree, is_empty, ListTree, SharedTree, Read, Write, Peek, Operate, Print}
-use Rattle.sync_thread.specs.Code.{Memory, CodeTree, code_of, first_memory, cell_number, cell_at, code_meaning, erased_start, erased_after, ErasedConfig}
-use Rattle.sync_thread_meaning.specs.Shares.{Owned, Shares, hand_of, all_shards, nowhere_near, Sight, sight_of, is_of_form, WordAt, array_words, word_sight, guard_truth, fact_is_true, found, no_bound}
+use Rattle.sync_thread.specs.Control.{Halt, Broken, Wide, Language, Paused, ProgramMeaning, Running, event, events}
+use Rattle.sync_thread.specs.Control.{start_from, waits_at}
+use Rattle.sync_thread.specs.Programs.{ClauseTree, StartTree, is_empty}
+use Rattle.sync_thread.specs.Code.{Memory, first_memory}
+use Rattle.sync_thread_meaning.specs.Shares.{Owned, Shares, hand_of, all_shards, nowhere_near, sight_of, WordAt}
+use Rattle.sync_thread_meaning.specs.Shares.{array_words, found, no_bound}
 use Rattle.sync_thread.specs.Arrays.{cell_token}
 use Rattle.sync_thread_meaning.specs.MachineWithProgram.{MachineWithProgram, fields_of, decls_of}
 use Rattle.sync_thread_meaning.specs.Meaning.{InStart, proof_steps, keeping, annotated_language, annotated_meaning}
@@ -119,12 +120,22 @@ abbrev pub trace_from : MachineWithProgram → List ℕ → Configuration → Re
 trace_from x sigma c =
     events (annotated_meaning no_bound x) sigma c
     >>= (λ (d : Configuration). found (join_of (fields_of x) (bag_in d) d.state.shares.kept) >>= (λ (s : State).
-    Ok (record { moved = moves_of (annotated_meaning no_bound x) sigma c; lines = d.state.memory.lines; words = d.state.memory.words; state = s })))
+    Ok (record {
+      moved = moves_of (annotated_meaning no_bound x) sigma c;
+      lines = d.state.memory.lines;
+      words = d.state.memory.words;
+      state = s;
+    })))
 
 -- For the empty program every event changes nothing, and there are no fields, lines or words.
 abbrev pub trace_of : MachineWithProgram → List ℕ → Result TraceTree Halt
 trace_of x sigma =
-    if is_empty x.program then Ok (record { moved = map (λ (t : ℕ). Nothing) sigma; lines = []; words = []; state = [] })
+    if is_empty x.program then Ok (record {
+      moved = map (λ (t : ℕ). Nothing) sigma;
+      lines = [];
+      words = [];
+      state = [];
+    })
     else start_of no_bound x x.program.start >>= trace_from x sigma
 
 -- ---- numbers outside the bound

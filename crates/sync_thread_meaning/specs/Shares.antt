@@ -1,10 +1,13 @@
 -- Where the tokens of a program are: in the hands of threads, in words, kept beside them, or dropped for good.
-use Rattle.std.specs.Prelude.{ℕ, ℤ, pos, ◌+◌, ◌-◌, ◌/◌, ◌%◌, Bool, true, false, not, ◌&&◌, if◌then◌else◌, nat_eq, nat_lt, List, [], ◌∷◌, ◌++◌, length, map, flat_map, slice_set, slice_index_or, is_some, is_none, unwrap_or, Option, Some, None, Result, Ok, Err}
-use Rattle.std.specs.List.{list_all, list_any, range_with_len}
+use Rattle.std.specs.Prelude.{ℕ, ℤ, pos, ◌+◌, ◌-◌, Bool, true, false, not, ◌&&◌, if◌then◌else◌, nat_eq, nat_lt, List}
+use Rattle.std.specs.Prelude.{[], ◌∷◌, ◌++◌, length, map, flat_map, slice_set, slice_index_or, is_some, is_none}
+use Rattle.std.specs.Prelude.{unwrap_or, Option, Some, None, Result, Ok, Err}
+use Rattle.std.specs.List.{list_all, range_with_len}
 use Rattle.std.specs.Ordering.{int_eq}
 use Rattle.sync_base.specs.Outcome.{◌>>=◌}
 use Rattle.sync_terms.specs.Trees.{Tree, Formula}
 use Rattle.sync_terms.specs.Maps as maps
+use Rattle.sync_thread.specs.Symbols.{first_name_symbol, value_symbol, is_held_symbol, name_of_symbol}
 use Rattle.sync_terms.specs.Values.{Valuation, num, truth}
 use Rattle.sync_machine.specs.Naming.{is_in}
 use Rattle.sync_machine.specs.declared.fields.Field.{Field}
@@ -14,7 +17,7 @@ use Rattle.sync_join.specs.Shards.{Kept}
 use Rattle.sync_join.specs.Join.{record_at, number_of}
 use Rattle.sync_rules.specs.Locality.{names_only, form_names_only}
 use Rattle.sync_exchange_values.specs.Fitting.{number_fits}
-use Rattle.sync_exchange.specs.Exchange.{held_as, tokens_in}
+use Rattle.sync_exchange.specs.Exchange.{held_as}
 use Rattle.sync_exchange.specs.Splitting.{dropped}
 use Rattle.sync_exchange.specs.Moves.{bag_of}
 use Rattle.sync_thread.specs.Control.{Halt, Broken, Wide}
@@ -48,6 +51,10 @@ wrap_of g t = slice_index_or g.wraps t (pos 0)
 
 abbrev pub with_hand : ℕ → List Held → Shares → Shares
 with_hand t h g = record g { hands = slice_set g.hands t h }
+
+-- tokens come to a hand, behind those that it has
+abbrev pub handed_to : ℕ → List Held → Shares → Shares
+handed_to t taken g = with_hand t (hand_of g t ++ taken) g
 
 abbrev pub with_proofs : ℕ → (ℕ → Option ℤ) → Shares → Shares
 with_proofs t f g = record g { proofs = slice_set g.proofs t f }
@@ -111,18 +118,20 @@ abbrev pub amount_of : Option Token → ℤ
 amount_of (Some t) = t.value
 amount_of None = pos 0
 
--- What a symbol of a program stands for: a field's its record; `value`, `index`, `old`, `new` and `wrap` what is
--- said here; and of a name the name's value, or the value of the token that is held under it.
+-- What a symbol of a program stands for: a field's its record; `value`, `index`, `old`, `new` and `wrap`, in this
+-- order, what is said here; and of a name the name's value, or the value of the token that is held under it.
 abbrev pub symbol_value : List Field → Kept → List ℤ → (ℕ → ℤ) → List Held → ℕ → ℤ
 symbol_value fs kept words named hand x = if nat_lt x (length fs) then number_of (record_at kept x)
-    else if nat_lt x 64 then slice_index_or words (x - 32) (pos 0)
-    else if nat_eq ((x - 64) % 4) 2 then amount_of (held_as ((x - 64) / 4) hand)
-    else named ((x - 64) / 4)
+    else if nat_lt x first_name_symbol then slice_index_or words (x - value_symbol) (pos 0)
+    else if is_held_symbol x then amount_of (held_as (name_of_symbol x) hand)
+    else named (name_of_symbol x)
 
 -- Every `held` of a term names a token that is held.
 abbrev pub is_seen : List Held → ℕ → Bool
 is_seen hand x =
-    if nat_lt x 64 then true else if nat_eq ((x - 64) % 4) 2 then is_some (held_as ((x - 64) / 4) hand) else true
+    if nat_lt x first_name_symbol then true
+    else if is_held_symbol x then is_some (held_as (name_of_symbol x) hand)
+    else true
 
 -- what terms stand for at a place of a thread, and the tokens that they may name
 pub record Sight : Type 0 where
@@ -133,7 +142,8 @@ abbrev pub sight_of : List Field → Memory → Shares → ℕ → Around → Si
 sight_of fs m g t a = record {
   valuation = record {
     number =
-        symbol_value fs g.kept (pos 0 ∷ pos 0 ∷ a.old ∷ a.new ∷ wrap_of g t ∷ []) (named_value (proofs_of g t) (locals_of m t)) (hand_of g t);
+        symbol_value fs g.kept (pos 0 ∷ pos 0 ∷ a.old ∷ a.new ∷ wrap_of g t ∷ [])
+        (named_value (proofs_of g t) (locals_of m t)) (hand_of g t);
     mapping = λ x. maps.nil;
   };
   hand = hand_of g t;

@@ -1,29 +1,20 @@
 -- What it is for a configuration to be good, and for a text to be sound.
-use Rattle.std.specs.Prelude.{◌≡◌, ◌≢◌, ℕ, suc, ℤ, pos, ◌<◌, ◌≤◌, Bool, true, false, not, ◌&&◌, ◌⊎◌, nat_eq, if◌then◌else◌, List, [], ◌∷◌, ◌++◌, length, map, filter, replicate, take, slice_get, count_by, Option, Some, None, Result, Ok, Err}
-use Rattle.std.specs.List.{range_with_len}
+use Rattle.std.specs.Prelude.{◌≡◌, ◌≢◌, ℕ, ℤ, pos, ◌<◌, Bool, true, false, not, ◌&&◌, nat_eq, List, [], ◌∷◌, ◌++◌}
+use Rattle.std.specs.Prelude.{length, map, filter, slice_get, Option, Some, None, Result, Ok, Err}
 use Rattle.std.specs.Ordering.{int_eq}
-use Rattle.sync_base.specs.Outcome.{◌>>=◌}
-use Rattle.sync_terms.specs.Maps as maps
 use Rattle.sync_machine.specs.declared.fields.Field.{Field}
 use Rattle.sync_join.specs.declared.tokens.Token.{Token}
-use Rattle.sync_exchange.specs.declared.hands.Held.{Held}
-use Rattle.sync_thread.specs.declared.operands.Line.{Line}
-use Rattle.sync_thread.specs.declared.operands.Moved.{Moved}
-use Rattle.sync_thread.specs.declared.operands.Moved.TheVariants.{Stepped, Nothing}
-use Rattle.sync_machine.specs.States.{Value, Number, Mapped, State, Sort, Numbers, Maps, sort_of, IsReached, MeetsInvariants, HoldsAlways}
+use Rattle.sync_machine.specs.States.{State, IsReached, MeetsInvariants, HoldsAlways}
 use Rattle.sync_join.specs.Shards.{Kept, perm}
 use Rattle.sync_join.specs.Join.{join_of}
-use Rattle.sync_entries.specs.Narrow.{is_narrow}
-use Rattle.sync_exchange.specs.Exchange.{permission}
-use Rattle.sync_thread.specs.Control.{Halt, Broken, Wide, Language, On, Paused, ProgramMeaning, Running, event, events, start_from, AllMove, waits_at}
-use Rattle.sync_thread.specs.Programs.{ClauseTree, StartTree, is_empty, ListTree, SharedTree, Read, Write, Peek, Operate, Print}
-use Rattle.sync_thread.specs.Code.{Memory, CodeTree, code_of, first_memory, cell_number, cell_at, code_meaning, erased_start, erased_after, ErasedConfig}
-use Rattle.sync_thread_meaning.specs.Shares.{Owned, Shares, hand_of, all_shards, nowhere_near, Sight, sight_of, is_of_form, WordAt, array_words, word_sight, guard_truth, fact_is_true, found, no_bound}
-use Rattle.sync_thread.specs.Arrays.{cell_token}
+use Rattle.sync_thread.specs.Control.{Halt, On, Paused}
+use Rattle.sync_thread.specs.Programs.{ClauseTree, is_empty, ListTree, SharedTree, Read, Write, Peek, Operate, Print}
+use Rattle.sync_thread.specs.Code.{Memory, code_of, cell_number, cell_at, erased_after, ErasedConfig}
+use Rattle.sync_thread_meaning.specs.Shares.{Owned, Sight, is_of_form, WordAt, array_words, word_sight, guard_truth}
+use Rattle.sync_thread_meaning.specs.Shares.{fact_is_true}
 use Rattle.sync_thread_meaning.specs.MachineWithProgram.{MachineWithProgram, fields_of, decls_of}
-use Rattle.sync_thread_meaning.specs.Meaning.{InStart, proof_steps, keeping, annotated_language, annotated_meaning}
-use Rattle.sync_thread_meaning.specs.Exchanges.{state_fits, exchanged}
-use Rattle.sync_thread_meaning.specs.Moments.{blank_value, first_kept, permissions_from, owns_nothing, first_shares, starter, memory_of, start_shares, Configuration, start_of, after_in, after, bag_in, moved_at, if_it_goes_on, moves_of, TraceTree, trace_from, trace_of, IsWideAt, IsWide}
+use Rattle.sync_thread_meaning.specs.Meaning.{annotated_language}
+use Rattle.sync_thread_meaning.specs.Moments.{Configuration, after, bag_in}
 
 -- ---- races
 
@@ -92,7 +83,8 @@ words_are_kept fs kept ps ns os = false
 -- the contents that the permissions of a cell say, in the bag and stored
 abbrev pub contents_of : ℕ → List Token → Kept → List ℤ
 contents_of k bag kept =
-    map (λ (t : Token). t.value) (filter (λ (t : Token). int_eq t.key (pos k)) (filter (λ (t : Token). nat_eq t.field perm) bag ++ kept.stored))
+    map (λ (t : Token). t.value) (filter (λ (t : Token). int_eq t.key (pos k))
+    (filter (λ (t : Token). nat_eq t.field perm) bag ++ kept.stored))
 
 pub record IsGood (x : MachineWithProgram) (c : Configuration) : Type 0 where
   -- all tokens and what is kept are the shards of a reached state, which meets every invariant
@@ -101,7 +93,8 @@ pub record IsGood (x : MachineWithProgram) (c : Configuration) : Type 0 where
   pub reached : IsReached x.machine state
   pub meets : MeetsInvariants x.machine state
   -- each word's fact is true, and it has the tokens that its clauses say
-  pub words : words_are_kept (fields_of x) c.state.shares.kept (array_words x.program.decls) c.state.memory.words c.state.shares.owned ≡ true
+  pub words : words_are_kept (fields_of x) c.state.shares.kept
+      (array_words x.program.decls) c.state.memory.words c.state.shares.owned ≡ true
   -- each cell has exactly one permission, which says its content
   pub cells : (k : ℕ) → k < length c.state.memory.cells
       → contents_of k (bag_in c) c.state.shares.kept ≡ pos (cell_at c.state.memory k) ∷ []

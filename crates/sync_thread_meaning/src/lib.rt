@@ -1,16 +1,21 @@
 //! The laws of what programs mean.
 #![tactic(auto)]
 
-ghost use Rattle.sync_thread_meaning.specs.Laws.{ErasedGoesAlong, FinalTakesAll, TracesAreOfMoments};
+ghost use Rattle.sync_thread_meaning.specs.Laws.{ErasedGoesAlong, FinalTakesAll, NoTokenIsLost, TracesAreOfMoments};
 
 /// Wherever the annotated program has not failed, the erased one has done the same.
 pub fn erased_goes_along()
     ensures { ErasedGoesAlong }
 {}
 
-/// No token comes or goes where the final block takes over from the threads.
+/// Where the final block takes over it holds what all threads held, they hold nothing, and no token comes or goes.
 pub fn final_takes_all()
     ensures { FinalTakesAll }
+{}
+
+/// Keeps, and statements that only pass tokens on, keep every token.
+pub fn no_token_is_lost()
+    ensures { NoTokenIsLost }
 {}
 
 /// What a schedule leaves is of the moment after its events.

@@ -13,7 +13,7 @@ use Rattle.sync_words.specs.declared.entries.Operation.TheVariants.{Load, Store,
 use Rattle.sync_words.specs.declared.rule.View.{View}
 use Rattle.sync_words.specs.Entries.{entry, agrees, changed, has}
 use Rattle.sync_words.specs.Views.{added, below, from, merged, spent, HoldsAll, IsWhole}
-use Rattle.sync_words.specs.Rule.{Kept, Rests, Makes, Finds, Learns}
+use Rattle.sync_words.specs.Rule.{Kept, IsSeated, Makes, Finds, Learns}
 use Rattle.sync_words.proofs.Lists.{length-words_after, words_after-append}
 use Rattle.sync_words.proofs.Fitting.{adds_to_log, whole, list_of, reads_back}
 use Rattle.sync_words.proofs.Keeping.{set_there, enters, splits, joins}
@@ -101,7 +101,7 @@ module _ (first : List ℕ) (threads slots id : ℕ) (m : Me ℕ View) (t number
 
 -- a load that enters nothing, and learns that there is a list that has the seat
 learns : (slots id : ℕ) (m : Me ℕ View) (i : ℕ) → Allows (Kept m.0.words m.0.threads) slots id m i (λ n. n) (λ n w. Learns m w)
-unfolding Rests
+unfolding IsSeated
 learns slots id m i s k _ at _ =
     let same : Kept m.0.words m.0.threads (stepped s i (get_or s.words i 0) id m.1 m.0 keeps) =
     subst (λ (p : List ℕ × List View). Kept m.0.words m.0.threads record { words = p.0; homes = s.homes; views = p.1 }) (λ j. (sym (set-get_or s.words i 0) j, sym (set_again s.views id m.0 at) j)) k in

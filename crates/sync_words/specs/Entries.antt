@@ -1,5 +1,7 @@
--- Entries of a table of words, and which lists of them one processor could have made, a step at a time (sequential consistency, Lamport 1979).
-use Rattle.std.specs.Prelude.{◌≡◌, ℕ, ◌+◌, ◌-◌, ◌%◌, ◌^◌, Bool, true, ◌&&◌, List, [], ◌∷◌, filter, length, nat_lt, ◌==◌, if◌then◌else◌, slice_index, slice_set, Option, Some, None}
+-- Entries of a table of words, and which lists of them one processor could have made, a step at a time (sequential
+-- consistency, Lamport 1979).
+use Rattle.std.specs.Prelude.{◌≡◌, ℕ, ◌+◌, ◌-◌, ◌%◌, ◌^◌, Bool, true, ◌&&◌, List, [], ◌∷◌, filter, length, nat_lt, ◌==◌}
+use Rattle.std.specs.Prelude.{if◌then◌else◌, slice_index, slice_set, unwrap_or, Option, Some, None}
 use Rattle.std.specs.List.{list_any}
 use Rattle.sync_words.specs.declared.entries.Entry.{Entry}
 use Rattle.sync_words.specs.declared.entries.Operation.{Operation}
@@ -38,7 +40,8 @@ words_after words (e ∷ es) = words_after (words_with words e) es
 -- each entry's word is there, and each old value is what the entries before it left
 abbrev pub is_legal : List ℕ → List Entry → Bool
 is_legal words [] = true
-is_legal words (e ∷ es) = nat_lt e.word (length words) && agrees (slice_index words e.word) e.operation && is_legal (words_with words e) es
+is_legal words (e ∷ es) = nat_lt e.word (length words) && agrees (slice_index words e.word) e.operation
+    && is_legal (words_with words e) es
 
 -- the list is legal from these first words
 abbrev pub IsLegal : List ℕ → List Entry → Type 0
@@ -56,14 +59,18 @@ has numbers thread = list_any (λ n. n == thread) numbers
 abbrev pub entries_of : List ℕ → List Entry → List Entry
 entries_of numbers es = filter (λ e. has numbers e.thread) es
 
--- what the operation left in its word, as far as it tells
+-- what the operation found in its word; a store does not tell, and what it leaves does not go with what it finds
+abbrev pub found_by : Operation → Option ℕ
+found_by (Load old) = Some old
+found_by (Store new) = None
+found_by (Swap new old) = Some old
+found_by (Add k old) = Some old
+found_by (Sub k old) = Some old
+found_by (Cas wanted new old) = Some old
+
+-- what the operation left in its word
 abbrev pub left_by : Operation → ℕ
-left_by (Load old) = old
-left_by (Store new) = new
-left_by (Swap new old) = new
-left_by (Add k old) = (old + k) % 2 ^ 64
-left_by (Sub k old) = (old + (2 ^ 64 - k)) % 2 ^ 64
-left_by (Cas wanted new old) = if old == wanted then new else old
+left_by operation = changed (unwrap_or (found_by operation) 0) operation
 
 -- the later of two answers
 abbrev pub later : Option ℕ → Option ℕ → Option ℕ

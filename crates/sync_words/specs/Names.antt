@@ -11,4 +11,5 @@ view seat = seat.token.me.0
 -- the seat is one of the table's
 abbrev pub Belongs : Words → Seat → Type 0
 Belongs words seat =
-    (seat.token.table_id ≡ words.table.shared.table_id) × ((view seat).words ≡ words.table.shared.key.words.items) × ((view seat).threads ≡ words.table.shared.key.threads)
+    (seat.token.table_id ≡ words.table.shared.table_id) × ((view seat).words ≡ words.table.shared.key.words.items)
+    × ((view seat).threads ≡ words.table.shared.key.threads)

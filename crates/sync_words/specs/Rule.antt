@@ -8,7 +8,8 @@ use Rattle.sync_words.specs.declared.rule.View.{View}
 use Rattle.sync_words.specs.Entries.{IsLegal, agrees, words_with, words_after, has}
 use Rattle.sync_words.specs.Views.{added, Fits, Listed, Ends, ReadsBack, AddsToLog}
 
--- one list is legal from the first words, leaves the words, and has every seat. Each thread number is in exactly one seat, and the list has entries of these numbers alone
+-- One list is legal from the first words, leaves the words, and has every seat. Each thread number is in exactly one
+-- seat, and the list has entries of these numbers alone.
 pub record Kept (first : List ℕ) (threads : ℕ) (s : State ℕ View) : Type 0 where
   pub entries : List Entry
   pub legal : IsLegal first entries
@@ -17,11 +18,12 @@ pub record Kept (first : List ℕ) (threads : ℕ) (s : State ℕ View) : Type 0
   -- the seat that a number is in
   pub seat : ℕ → ℕ
   pub placed : (t : ℕ) → t < threads → (v : View) × (get_elem? s.views (seat t) ≡ some v) × (has v.numbers t ≡ true)
-  pub alone : (id : ℕ) (v : View) (t : ℕ) → get_elem? s.views id ≡ some v → has v.numbers t ≡ true → (seat t ≡ id) × (t < threads)
+  pub alone : (id : ℕ) (v : View) (t : ℕ) → get_elem? s.views id ≡ some v → has v.numbers t ≡ true
+      → (seat t ≡ id) × (t < threads)
   pub fits : (id : ℕ) (v : View) → get_elem? s.views id ≡ some v → Fits entries v
 
--- A state of the table right behind a step of this view's seat with this entry: its list ends with the entry, whose operation
--- found what the list before it left in its word, and the words are as the step left them.
+-- A state of the table right behind a step of this view's seat with this entry: its list ends with the entry, whose
+-- operation found what the list before it left in its word, and the words are as the step left them.
 pub record Stands (v : View) (e : Entry) : Type 0 where
   pub state : State ℕ View
   pub rule : Kept v.words v.threads state
@@ -32,8 +34,8 @@ pub record Stands (v : View) (e : Entry) : Type 0 where
   pub leaves : state.words ≡ words_with (words_after v.words before) e
 
 -- some state of the table has a seat with this view
-unfoldable pub Rests : View → Type 0
-Rests v = (s : State ℕ View) × Kept v.words v.threads s × ((id : ℕ) × (get_elem? s.views id ≡ some v))
+unfoldable pub IsSeated : View → Type 0
+IsSeated v = (s : State ℕ View) × Kept v.words v.threads s × ((id : ℕ) × (get_elem? s.views id ≡ some v))
 
 -- what a step that makes an entry tells its seat
 pub record Makes (e : Entry) (m w : Me ℕ View) : Type 0 where
@@ -53,4 +55,4 @@ pub record Learns (m w : Me ℕ View) : Type 0 where
   pub view : w.0 ≡ m.0
   pub slots : w.1 ≡ m.1
   pub listed : Listed w.0
-  pub rests : Rests w.0
+  pub rests : IsSeated w.0

@@ -7,7 +7,13 @@ use Rattle.sync_words.specs.Entries.{IsLegal, log_of, has, entries_of, words_aft
 
 -- the view of the first seat: all numbers, and no entry
 abbrev pub opened : List ℕ → ℕ → View
-opened words threads = record { words = words; threads = threads; numbers = range_with_len 0 threads; past = []; since = [] }
+opened words threads = record {
+  words = words;
+  threads = threads;
+  numbers = range_with_len 0 threads;
+  past = [];
+  since = [];
+}
 
 -- all entries of the seat's numbers, each number's in its order
 abbrev pub made : View → List Entry
@@ -45,9 +51,11 @@ spent = record { words = []; threads = 0; numbers = []; past = []; since = [] }
 abbrev pub HoldsAll : View → Type 0
 HoldsAll v = (t : ℕ) → t < v.threads → has v.numbers t ≡ true
 
--- a list has the seat: its entries of the seat's numbers are first the older ones, each number's in its order, and then those of `since`
+-- a list has the seat: its entries of the seat's numbers are first the older ones, each number's in its order, and then
+-- those of `since`
 abbrev pub Fits : List Entry → View → Type 0
-Fits es v = (older : List Entry) × (entries_of v.numbers es ≡ older ++ v.since) × ((t : ℕ) → log_of t older ≡ log_of t v.past)
+Fits es v = (older : List Entry) × (entries_of v.numbers es ≡ older ++ v.since)
+    × ((t : ℕ) → log_of t older ≡ log_of t v.past)
 
 -- a list that is legal from the first words, has the seat, and has entries of the table's thread numbers alone
 pub record IsListOf (es : List Entry) (v : View) : Type 0 where

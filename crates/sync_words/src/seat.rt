@@ -1,6 +1,6 @@
 //! The token that a thread steps with.
 ghost use Rattle.std.specs.Prelude.{◌≡◌, ◌<◌, [], length};
-ghost use Rattle.sync_words.specs.Rule.{Rests};
+ghost use Rattle.sync_words.specs.Rule.{IsSeated};
 
 use crate::rule::View;
 
@@ -12,5 +12,5 @@ pub struct Seat {
     pub(crate) token: atomic_table::Seat<u8, View>,
     ghost bare: { token.me.1 ≡ [] },
     ghost some: { 0 < length token.me.0.numbers },
-    ghost rests: { ∥ Rests token.me.0 ∥₁ },
+    ghost rests: { ∥ IsSeated token.me.0 ∥₁ },
 }

@@ -2,7 +2,7 @@
 ghost use Rattle.std.specs.Prelude.{◌≡◌, ℕ, ◌<◌, ◌≤◌, false, length, filter, nat_lt, nat_le, IfOk};
 ghost use Rattle.sync_words.specs.Entries.{has};
 ghost use Rattle.sync_words.specs.Views.{opened, below, from, merged, log};
-ghost use Rattle.sync_words.specs.Rule.{Rests};
+ghost use Rattle.sync_words.specs.Rule.{IsSeated};
 ghost use Rattle.sync_words.specs.Names.{view, Belongs};
 
 use crate::plays::{Cuts, Glues, Looks, Number};
@@ -21,7 +21,7 @@ impl Words {
         requires threads { 0 < threads }
         ensures own { IfOk result (λ made. Belongs made.0 made.1) }
         ensures view { IfOk result (λ made. view made.1 ≡ opened init.now threads) }
-        ensures rests { IfOk result (λ made. Rests (view made.1)) }
+        ensures rests { IfOk result (λ made. IsSeated (view made.1)) }
     {
         let mut words = Vec::with_capacity(alloc, init.len())?;
         words.extend_from_slice(init)?;
@@ -40,7 +40,7 @@ impl Words {
         ensures moved { view result ≡ from at (view seat.old) }
         ensures kept_logs { (t : ℕ) → t < at → log (view seat.new) t ≡ log (view seat.old) t }
         ensures moved_logs { (t : ℕ) → at ≤ t → log (view result) t ≡ log (view seat.old) t }
-        ensures rests { ∥ Rests (view seat.new) ∥₁ × ∥ Rests (view result) ∥₁ }
+        ensures rests { ∥ IsSeated (view seat.new) ∥₁ × ∥ IsSeated (view result) ∥₁ }
     {
         self.split_as::<Brand>(seat, at)
     }
@@ -65,7 +65,7 @@ impl Words {
         ensures view { view into.new ≡ merged (view into.old) (view from) }
         ensures own_logs { (t : ℕ) → has (view from).numbers t ≡ false → log (view into.new) t ≡ log (view into.old) t }
         ensures other_logs { (t : ℕ) → has (view into.old).numbers t ≡ false → log (view into.new) t ≡ log (view from) t }
-        ensures rests { Rests (view into.new) }
+        ensures rests { IsSeated (view into.new) }
     {
         let Seat { token } = from;
         self.table.shared.join_seat::<Glues>(&mut into.token, token);

@@ -20,8 +20,8 @@ returns-in_err-run-clause-exact c = λ o e.
     let is = get-map (operation_tree m.terms) m.ops c.args.op op o e ∙ ap (operation_tree m.terms) (sym there) in
     let p = err_from_is_err_and c.from_residual-in_err-run.result c.from_residual-in_err-run.ensures.1 in
     rw (is, p.1, p.2) (run-stop is_narrow m op c.args.args.now names.tokens names.given whole c.args.hand.now.held rest
-    c.as_slice-fields.result.now c.as_slice-fields.ensures c.as_slice-records.result.now c.as_slice-records.ensures c.as_slice-2.result.now c.as_slice-2.ensures c.as_slice-3.result.now c.as_slice-3.ensures
-    c.in_ok-stores.stores c.as_slice-4.result.now c.as_slice-4.ensures c.in_ok-stores.ensures c.as_slice-5.result.now c.as_slice-6.result.now c.as_slice-5.ensures c.as_slice-6.ensures c.as_slice-7.result.now c.as_slice-7.ensures c.in_ok-work.work c.in_ok-work.ensures _ c.in_err-run.ensures)
+    c.as_slice-fields.result.now c.as_slice-fields.ensures c.as_slice-records.result.now c.as_slice-records.ensures c.as_slice-3.result.now c.as_slice-3.ensures c.as_slice-2.result.now c.as_slice-2.ensures
+    c.as_slice-4.result.now c.as_slice-5.result.now c.as_slice-4.ensures c.as_slice-5.ensures c.as_slice-6.result.now c.as_slice-6.ensures c.in_ok-work.work c.in_ok-work.ensures _ c.in_err-run.ensures)
 
 pub returns-clause-exact : goal.returns-clause-exact
 returns-clause-exact c = λ o e.
@@ -35,5 +35,5 @@ returns-clause-exact c = λ o e.
     let x = c.in_ok-finish.field-0 in
     let left = sym c.in_ok-finish.ensures.exact ∙ ap (λ (rs : List Value). finished rs x) c.as_slice-records.ensures in
     rw is (run-done is_narrow m op c.args.args.now names.tokens names.given whole c.args.hand.now.held rest
-    c.as_slice-fields.result.now c.as_slice-fields.ensures c.as_slice-records.result.now c.as_slice-records.ensures c.as_slice-2.result.now c.as_slice-2.ensures c.as_slice-3.result.now c.as_slice-3.ensures
-    c.in_ok-stores.stores c.as_slice-4.result.now c.as_slice-4.ensures c.in_ok-stores.ensures c.as_slice-5.result.now c.as_slice-6.result.now c.as_slice-5.ensures c.as_slice-6.ensures c.as_slice-7.result.now c.as_slice-7.ensures c.in_ok-work.work c.in_ok-work.ensures _ _ c.in_ok-run.ensures left)
+    c.as_slice-fields.result.now c.as_slice-fields.ensures c.as_slice-records.result.now c.as_slice-records.ensures c.as_slice-3.result.now c.as_slice-3.ensures c.as_slice-2.result.now c.as_slice-2.ensures
+    c.as_slice-4.result.now c.as_slice-5.result.now c.as_slice-4.ensures c.as_slice-5.ensures c.as_slice-6.result.now c.as_slice-6.ensures c.in_ok-work.work c.in_ok-work.ensures _ _ c.in_ok-run.ensures left)

@@ -16,14 +16,14 @@ use Rattle.sync_kernel.specs.MapFacts.{map_form}
 use Rattle.sync_kernel.specs.declared.steps.Left.{Left}
 use Rattle.sync_kernel.specs.declared.branches.Said.{Said}
 use Rattle.sync_kernel.specs.Facts.{Fact}
-use Rattle.sync_kernel.specs.Seen.{IsSeen}
+use Rattle.sync_kernel.specs.Notes.{AreNotes}
 use Rattle.sync_kernel.specs.Branches.{said_fact, facts_in, AreSaid, Begins}
 use Rattle.sync_kernel.specs.Scripts.{then_of, with_fact, fitting, after, block_fault}
 use Rattle.sync_kernel.proofs.Fitting.{Begins-refl, AreSaid-more, IsLiteral-more}
 use Rattle.sync_kernel.proofs.Scripting.{script-more, step-more, inst_ids, cut_id, cut_script, split_scripts, read_ids, size_ids, total_ids, cong_ids}
 use Rattle.sync_kernel.proofs.Stepping.{passes_err, err_refuses}
 use Rattle.sync_kernel.proofs.Adding.{add_said}
-use Rattle.sync_kernel.proofs.Seeing.{seen_grows}
+use Rattle.sync_kernel.proofs.Noting.{notes_grow}
 use Rattle.sync_kernel.proofs.Checking.{Checking, begins_before, checking_more, checking_stops, left_open, drop_item, item_of, step_err, refuses_as, case_of, case_is, case_later, left_stops, right_stops, split_closes, cut_stops, cut_goes, fact_stops}
 use Rattle.sync_kernel.proofs.blocks.+blocks.Goals as goal
 
@@ -31,7 +31,7 @@ pub check_block-check_step-requires : goal.check_block-check_step-requires
 check_block-check_step-requires t c =
     let s = c.args.terms.now in
     let of = item_of s c.args.block.now c.as_slice-step-items.result.now c.loop-step.step-index c.step-item.result c.requires.script c.as_slice-step-items.ensures c.step-item.is c.loop-step-test.true in
-    (search (rules, kind.the_lemmas, step.the_lemmas, block.the_lemmas), (c.loop-step.invariant.checking.said, (c.loop-step.invariant.seen, step-more s c.loop-step.terms c.step-item.result c.loop-step.invariant.checking.extends of)))
+    (search (rules, kind.the_lemmas, step.the_lemmas, block.the_lemmas), (c.loop-step.invariant.checking.said, (c.loop-step.invariant.notes, step-more s c.loop-step.terms c.step-item.result c.loop-step.invariant.checking.extends of)))
 
 pub check_block-returns-in_err-left-clause-exact : goal.check_block-returns-in_err-left-clause-exact
 check_block-returns-in_err-left-clause-exact t c =
@@ -61,7 +61,7 @@ check_block-loop-step-preserved t c =
     record {
       checking = checking_more s xs b l.terms l.branch l.step-index h c.step-item.result e of c.in_ok-left.left c.check_step.new.terms c.check_step.new.branch c.in_ok-left.ensures.keeps c.in_ok-left.ensures.said c.in_ok-left.ensures.begins
           (c.in_ok-left.ensures.exact _);
-      seen = c.in_ok-left.ensures.seen;
+      notes = c.in_ok-left.ensures.notes;
     }
 
 pub check_case-returns-clause-branch : goal.check_case-returns-clause-branch
@@ -71,12 +71,12 @@ check_case-returns-clause-branch t c =
     c.cut_back.ensures ∙ ap (λ (n : ℕ). take n ys) c.len-len.ensures
     ∙ begins_before xs ys c.said.result (subst (λ (zs : List Said). Begins zs ys) c.in_ok-push.ensures.ok c.in_ok-check_block.ensures.begins)
 
-pub check_case-returns-clause-seen : goal.check_case-returns-clause-seen
-check_case-returns-clause-seen t c =
+pub check_case-returns-clause-notes : goal.check_case-returns-clause-notes
+check_case-returns-clause-notes t c =
     let u = c.check_block.new.terms in
     let ys = c.check_block.new.branch in
     let n = c.len-len.result in
-    subst (λ (fs : List Fact). IsSeen u fs c.cut_back-2.new.self) (take-map (said_fact u) n ys ∙ ap (facts_in u) (sym c.cut_back.ensures)) (c.cut_back-2.ensures u (facts_in u ys) c.in_ok-check_block.ensures.seen)
+    subst (λ (fs : List Fact). AreNotes u fs c.cut_back-2.new.self) (take-map (said_fact u) n ys ∙ ap (facts_in u) (sym c.cut_back.ensures)) (c.cut_back-2.ensures u (facts_in u ys) c.in_ok-check_block.ensures.notes)
 
 pub check_step-inst-requires-clause-list : goal.check_step-inst-requires-clause-list
 check_step-inst-requires-clause-list t c =
@@ -92,7 +92,7 @@ check_step-check_case-requires t c =
       (
         AreSaid-more s c.split.new.terms c.args.branch.now c.split.ensures.keeps c.requires.branch,
         (
-          seen_grows s c.split.new.terms c.args.branch.now c.args.branch.now c.args.seen.now c.split.ensures.keeps c.requires.branch (Begins-refl c.args.branch.now) c.requires.seen,
+          notes_grow s c.split.new.terms c.args.branch.now c.args.branch.now c.args.notes.now c.split.ensures.keeps c.requires.branch (Begins-refl c.args.branch.now) c.requires.notes,
           (c.in_ok-cases-in-Split.ensures.stored.0, script-more s c.split.new.terms i.first c.split.ensures.keeps scripts.0),
         ),
       ),
@@ -128,7 +128,7 @@ check_step-check_case-requires-in-Split t c =
       (
         subst (AreSaid w) (sym c.in_ok-check_case-in-Split.ensures.branch) (AreSaid-more s w c.args.branch.now more c.requires.branch),
         (
-          c.in_ok-check_case-in-Split.ensures.seen,
+          c.in_ok-check_case-in-Split.ensures.notes,
           (IsLiteral-more c.split.new.terms w c.in_ok-cases-in-Split.cases.right c.check_case.ensures.keeps c.in_ok-cases-in-Split.ensures.stored.1, script-more s w i.second more scripts.1),
         ),
       ),
@@ -199,7 +199,7 @@ check_step-returns-in_err-cases-in-Cut-clause-exact t c = λ rest.
 pub check_step-check_case-requires-in-Cut : goal.check_step-check_case-requires-in-Cut
 check_step-check_case-requires-in-Cut t c =
     let i = c.in-Cut in
-    (search (rules, kind.the_lemmas, step.the_lemmas, block.the_lemmas), (c.requires.branch, (c.requires.seen, (c.in_ok-cases-in-Cut.ensures.stored.0, cut_script c.args.terms.now c.args.step.now c.requires.step i.form i.name i.block (i.is ∙ sym (rolls-Cut i.form i.name i.block))))))
+    (search (rules, kind.the_lemmas, step.the_lemmas, block.the_lemmas), (c.requires.branch, (c.requires.notes, (c.in_ok-cases-in-Cut.ensures.stored.0, cut_script c.args.terms.now c.args.step.now c.requires.step i.form i.name i.block (i.is ∙ sym (rolls-Cut i.form i.name i.block))))))
 
 pub check_step-returns-in_ok-push-in-Cut-clause-exact : goal.check_step-returns-in_ok-push-in-Cut-clause-exact
 check_step-returns-in_ok-push-in-Cut-clause-exact t c = λ rest.
@@ -218,9 +218,9 @@ check_step-returns-in_ok-push-in-Cut-clause-said t c =
     add_said w c.check_case-in-Cut.new.branch c.push.new.self c.said.result
     (subst (AreSaid w) (sym c.in_ok-check_case-in-Cut.ensures.branch) (AreSaid-more c.args.terms.now w c.args.branch.now c.check_case-in-Cut.ensures.keeps c.requires.branch)) c.said.ensures.said c.in_ok-push-in-Cut.ensures.ok
 
-pub check_step-returns-in_ok-inst-in-Inst-clause-seen : goal.check_step-returns-in_ok-inst-in-Inst-clause-seen
-check_step-returns-in_ok-inst-in-Inst-clause-seen t c =
-    seen_grows c.args.terms.now c.inst.new.terms c.args.branch.now c.inst.new.branch c.args.seen.now c.inst.ensures.keeps c.requires.branch c.in_ok-inst-in-Inst.ensures.begins c.requires.seen
+pub check_step-returns-in_ok-inst-in-Inst-clause-notes : goal.check_step-returns-in_ok-inst-in-Inst-clause-notes
+check_step-returns-in_ok-inst-in-Inst-clause-notes t c =
+    notes_grow c.args.terms.now c.inst.new.terms c.args.branch.now c.inst.new.branch c.args.notes.now c.inst.ensures.keeps c.requires.branch c.in_ok-inst-in-Inst.ensures.begins c.requires.notes
 
 pub check_step-learn-requires-clause-fact : goal.check_step-learn-requires-clause-fact
 check_step-learn-requires-clause-fact t c =
@@ -240,10 +240,10 @@ check_step-returns-in_err-learn-in-Read-clause-exact t c = λ rest.
     (fact_stops s xs c.args.step.now (StepKind-F.Read i.map i.key i.name) rest (fitting (with_fact (facts_in s xs) i.name f)) e
     (i.is ∙ sym (rolls-Read i.map i.key i.name)) refl c.in_err-learn-in-Read.ensures.leaves))
 
-pub check_step-returns-in_ok-learn-in-Read-clause-seen : goal.check_step-returns-in_ok-learn-in-Read-clause-seen
-check_step-returns-in_ok-learn-in-Read-clause-seen t c =
-    seen_grows c.args.terms.now c.learn.new.terms c.args.branch.now c.learn.new.branch c.args.seen.now
-    c.learn.ensures.keeps c.requires.branch c.in_ok-learn-in-Read.ensures.begins c.requires.seen
+pub check_step-returns-in_ok-learn-in-Read-clause-notes : goal.check_step-returns-in_ok-learn-in-Read-clause-notes
+check_step-returns-in_ok-learn-in-Read-clause-notes t c =
+    notes_grow c.args.terms.now c.learn.new.terms c.args.branch.now c.learn.new.branch c.args.notes.now
+    c.learn.ensures.keeps c.requires.branch c.in_ok-learn-in-Read.ensures.begins c.requires.notes
 
 pub check_step-learn-requires-in-Size-clause-fact : goal.check_step-learn-requires-in-Size-clause-fact
 check_step-learn-requires-in-Size-clause-fact t c =
@@ -263,10 +263,10 @@ check_step-returns-in_err-learn-in-Size-clause-exact t c = λ rest.
     (fact_stops s xs c.args.step.now (StepKind-F.Size i.map i.key i.name) rest (fitting (with_fact (facts_in s xs) i.name f)) e
     (i.is ∙ sym (rolls-Size i.map i.key i.name)) refl c.in_err-learn-in-Size.ensures.leaves))
 
-pub check_step-returns-in_ok-learn-in-Size-clause-seen : goal.check_step-returns-in_ok-learn-in-Size-clause-seen
-check_step-returns-in_ok-learn-in-Size-clause-seen t c =
-    seen_grows c.args.terms.now c.learn-in-Size.new.terms c.args.branch.now c.learn-in-Size.new.branch c.args.seen.now
-    c.learn-in-Size.ensures.keeps c.requires.branch c.in_ok-learn-in-Size.ensures.begins c.requires.seen
+pub check_step-returns-in_ok-learn-in-Size-clause-notes : goal.check_step-returns-in_ok-learn-in-Size-clause-notes
+check_step-returns-in_ok-learn-in-Size-clause-notes t c =
+    notes_grow c.args.terms.now c.learn-in-Size.new.terms c.args.branch.now c.learn-in-Size.new.branch c.args.notes.now
+    c.learn-in-Size.ensures.keeps c.requires.branch c.in_ok-learn-in-Size.ensures.begins c.requires.notes
 
 pub check_step-learn-requires-in-Total-clause-fact : goal.check_step-learn-requires-in-Total-clause-fact
 check_step-learn-requires-in-Total-clause-fact t c =
@@ -286,10 +286,10 @@ check_step-returns-in_err-learn-in-Total-clause-exact t c = λ rest.
     (fact_stops s xs c.args.step.now (StepKind-F.Total i.map i.key i.name) rest (fitting (with_fact (facts_in s xs) i.name f)) e
     (i.is ∙ sym (rolls-Total i.map i.key i.name)) refl c.in_err-learn-in-Total.ensures.leaves))
 
-pub check_step-returns-in_ok-learn-in-Total-clause-seen : goal.check_step-returns-in_ok-learn-in-Total-clause-seen
-check_step-returns-in_ok-learn-in-Total-clause-seen t c =
-    seen_grows c.args.terms.now c.learn-in-Total.new.terms c.args.branch.now c.learn-in-Total.new.branch c.args.seen.now
-    c.learn-in-Total.ensures.keeps c.requires.branch c.in_ok-learn-in-Total.ensures.begins c.requires.seen
+pub check_step-returns-in_ok-learn-in-Total-clause-notes : goal.check_step-returns-in_ok-learn-in-Total-clause-notes
+check_step-returns-in_ok-learn-in-Total-clause-notes t c =
+    notes_grow c.args.terms.now c.learn-in-Total.new.terms c.args.branch.now c.learn-in-Total.new.branch c.args.notes.now
+    c.learn-in-Total.ensures.keeps c.requires.branch c.in_ok-learn-in-Total.ensures.begins c.requires.notes
 
 pub check_step-learn-requires-in-Cong-clause-fact : goal.check_step-learn-requires-in-Cong-clause-fact
 check_step-learn-requires-in-Cong-clause-fact t c =
@@ -309,7 +309,7 @@ check_step-returns-in_err-learn-in-Cong-clause-exact t c = λ rest.
     (fact_stops s xs c.args.step.now (StepKind-F.Cong i.map i.left i.right i.name) rest (fitting (with_fact (facts_in s xs) i.name f)) e
     (i.is ∙ sym (rolls-Cong i.map i.left i.right i.name)) refl c.in_err-learn-in-Cong.ensures.leaves))
 
-pub check_step-returns-in_ok-learn-in-Cong-clause-seen : goal.check_step-returns-in_ok-learn-in-Cong-clause-seen
-check_step-returns-in_ok-learn-in-Cong-clause-seen t c =
-    seen_grows c.args.terms.now c.learn-in-Cong.new.terms c.args.branch.now c.learn-in-Cong.new.branch c.args.seen.now
-    c.learn-in-Cong.ensures.keeps c.requires.branch c.in_ok-learn-in-Cong.ensures.begins c.requires.seen
+pub check_step-returns-in_ok-learn-in-Cong-clause-notes : goal.check_step-returns-in_ok-learn-in-Cong-clause-notes
+check_step-returns-in_ok-learn-in-Cong-clause-notes t c =
+    notes_grow c.args.terms.now c.learn-in-Cong.new.terms c.args.branch.now c.learn-in-Cong.new.branch c.args.notes.now
+    c.learn-in-Cong.ensures.keeps c.requires.branch c.in_ok-learn-in-Cong.ensures.begins c.requires.notes

@@ -1,10 +1,10 @@
 use Rattle.sync_kernel.specs.Branches.{facts_in}
-use Rattle.sync_kernel.specs.Seen.{IsSeen}
+use Rattle.sync_kernel.specs.Notes.{AreNotes}
 use Rattle.sync_kernel.proofs.Checking.{Checking}
 use Rattle.sync_kernel.proofs.blocks.+blocks.Given as goal
 
 abbrev pub invariant-check_block-loop-step : goal.invariant-check_block-loop-step
 invariant-check_block-loop-step l = record {
   checking : Checking l.fn.terms l.fn.branch l.block l.terms l.branch l.step-index l.left;
-  seen : IsSeen l.terms (facts_in l.terms l.branch) l.seen;
+  notes : AreNotes l.terms (facts_in l.terms l.branch) l.notes;
 }

@@ -8,7 +8,7 @@ use Rattle.sync_kernel.specs.Branches.{facts_in}
 use Rattle.sync_kernel.specs.Hypotheses.{known_in}
 use Rattle.sync_kernel.specs.Literals.{literal_form}
 use Rattle.sync_kernel.specs.Scripts.{block_fault}
-use Rattle.sync_kernel.proofs.Assuming.{begun, begun_seen, cut_is, cut_ready, cut_known}
+use Rattle.sync_kernel.proofs.Assuming.{begun, begun_notes, cut_is, cut_ready, cut_known}
 use Rattle.sync_kernel.proofs.Refuting.{passed_valid}
 use Rattle.sync_kernel.proofs.provers.prove_from.Goals as goal
 
@@ -33,8 +33,8 @@ returns-clause-valid c =
     passed_valid (record { cong = cong_true; read = read_true; size = size_true; total = total_true }) (known_in c.args.terms.now c.args.hyps.now) (formula c.args.terms.now c.args.claim) (plan_of c.args.terms.now c.args.s.now.block) (Ok tt)
     (returns-clause-exact c)
 
-pub check_block-requires-clause-seen : goal.check_block-requires-clause-seen
-check_block-requires-clause-seen c = begun_seen c.args.terms.now c.args.hyps.now c.push.new.self c.new-2.result c.in_ok-push.ensures.ok c.requires.ready
+pub check_block-requires-clause-notes : goal.check_block-requires-clause-notes
+check_block-requires-clause-notes c = begun_notes c.args.terms.now c.args.hyps.now c.push.new.self c.new-2.result c.in_ok-push.ensures.ok c.requires.ready
 
 pub returns-clause-ready : goal.returns-clause-ready
 returns-clause-ready c =
@@ -43,7 +43,7 @@ returns-clause-ready c =
     let n = c.len-len.result in
     cut_ready c.args.terms.now t c.args.hyps.now _ ys n c.check_block.ensures.keeps c.requires.ready
     (cut_is c.args.hyps.now c.push.new.self ys c.cut_back.new.self c.new-2.result n c.len-len.ensures c.in_ok-push.ensures.ok c.in_ok-check_block.ensures.begins c.cut_back.ensures)
-    c.cut_back.ensures (c.cut_back-2.ensures t (facts_in t ys) c.in_ok-check_block.ensures.seen)
+    c.cut_back.ensures (c.cut_back-2.ensures t (facts_in t ys) c.in_ok-check_block.ensures.notes)
 
 pub returns-clause-hyps : goal.returns-clause-hyps
 returns-clause-hyps c =

@@ -8,27 +8,24 @@ use Rattle.sync_kernel.specs.Facts.{newest}
 use Rattle.sync_kernel.specs.Branches.{facts_in}
 use Rattle.sync_kernel.specs.Steps.{at_line, sum_fault}
 use Rattle.sync_kernel.proofs.Parts.{Summing, begins, known_stored, stops_at, goes_at, passes_err}
-use Rattle.std.specs.HashMap.{get}
-use Rattle.sync_kernel.specs.Literals.{same_literal}
-use Rattle.sync_kernel.proofs.Keeping.{no_lines}
 use Rattle.sync_kernel.proofs.Stepping.{known_is}
 use Rattle.sync_kernel.proofs.sums.sum.Goals as goal
 
 pub loop-part-init : goal.loop-part-init
-loop-part-init c = (begins c.args.terms.now (facts_in c.args.terms.now c.args.branch.now) c.args.parts.now c.new-used.result.items c.zero-total.result c.new-used.ensures.items c.zero-total.ensures, no_lines c.args.terms.now (get same_literal c.new-lines.result) (λ l. search (rules, c.new-lines.ensures.empty)))
+loop-part-init c = (begins c.args.terms.now (facts_in c.args.terms.now c.args.branch.now) c.args.parts.now c.new-used.result.items c.zero-total.result c.new-used.ensures.items c.zero-total.ensures, c.limit.ensures c.args.terms.now c.requires.lines)
 
 pub with_part-requires-clause-known : goal.with_part-requires-clause-known
 with_part-requires-clause-known c =
     let s = c.args.terms.now in
     let p : Part = get_or c.args.parts.now c.loop-part.part-index (record { times = pos 0; hyp = Label 0 }) in
-    known_stored s c.known-known.result (newest p.hyp (facts_in s c.args.branch.now)) (known_is s c.args.branch.now p.hyp c.known-known.result c.requires c.known-known.ensures)
+    known_stored s c.known-known.result (newest p.hyp (facts_in s c.args.branch.now)) (known_is s c.args.branch.now p.hyp c.known-known.result c.requires.said c.known-known.ensures)
 
-pub returns-in_err-next : goal.returns-in_err-next
-returns-in_err-next c =
+pub returns-in_err-next-clause-exact : goal.returns-in_err-next-clause-exact
+returns-in_err-next-clause-exact c =
     let s = c.args.terms.now in
     let fs = facts_in s c.args.branch.now in
     let p : Part = get_or c.args.parts.now c.loop-part.part-index (record { times = pos 0; hyp = Label 0 }) in
-    let known = known_is s c.args.branch.now p.hyp c.known-known.result c.requires c.known-known.ensures in
+    let known = known_is s c.args.branch.now p.hyp c.known-known.result c.requires.said c.known-known.ensures in
     let h = subst (λ (rest : List Part). Summing s fs c.args.parts.now rest c.loop-part.used.items c.loop-part.total)
     (drop_more c.args.parts.now c.loop-part.part-index (record { times = pos 0; hyp = Label 0 }) c.loop-part-test.true) c.loop-part.invariant.0 in
     let q = err_from_is_err_and c.from_residual.result c.from_residual.ensures.1 in
@@ -40,7 +37,7 @@ loop-part-preserved c =
     let s = c.args.terms.now in
     let fs = facts_in s c.args.branch.now in
     let p : Part = get_or c.args.parts.now c.loop-part.part-index (record { times = pos 0; hyp = Label 0 }) in
-    let known = known_is s c.args.branch.now p.hyp c.known-known.result c.requires c.known-known.ensures in
+    let known = known_is s c.args.branch.now p.hyp c.known-known.result c.requires.said c.known-known.ensures in
     let h = subst (λ (rest : List Part). Summing s fs c.args.parts.now rest c.loop-part.used.items c.loop-part.total)
     (drop_more c.args.parts.now c.loop-part.part-index (record { times = pos 0; hyp = Label 0 }) c.loop-part-test.true) c.loop-part.invariant.0 in (
       subst (λ (u : List Used). Summing s fs c.args.parts.now (drop (c.loop-part.part-index + 1) c.args.parts.now) u c.in_ok-next.next.total) (sym c.in_ok-push.ensures.items)

@@ -14,6 +14,7 @@ use Rattle.std.specs.Option.{option_copied}
 use Rattle.sync_kernel.specs.Literals.{literal_form}
 use Rattle.sync_kernel.specs.Rows.{row_of}
 use Rattle.sync_kernel.proofs.Keeping.{row_line, shape_row}
+use Rattle.sync_kernel.proofs.Renewing.{line_still}
 use Rattle.sync_kernel.proofs.Parts.{part_is, line_stops, sum_stops, sum_goes, as_part}
 use Rattle.sync_kernel.proofs.sums.with_part.Goals as goal
 
@@ -35,7 +36,7 @@ returns-in-Ok-clause-part c =
     let f : FitsSigned w128 c.args.part.now.times = search rules in
     let same = to_z-of_z w128 c.args.part.now.times f in
     let kept = row_line s (row_of (literal_form s says)) r row (shape_row s c.in-Some.known c.shape_known.result c.in-Some-shape_known.shape c.shape_known.ensures.row c.in-Some-shape_known.is)
-    (c.keep_line.ensures.lines says row (sym c.get.ensures.value ∙ ap option_copied c.unwrap-row.ensures)) in
+    (line_still s says row c.in-Some-shape_known.ensures.shared (c.keep.ensures.lines says row (sym c.get.ensures.value ∙ ap option_copied c.unwrap-row.ensures))) in
     λ sum o i h.
     let k = subst (λ (x : Option Known). IsKnown s x o) c.in-Some.is h in
     as_part s c.args.line (Ok (record { total = c.in-Ok.total; used = record { times = to_z w128 (of_z w128 c.args.part.now.times); kind = c.in-Some-shape_known.shape.kind } })) (with_part o sum c.args.part.now) (with_row (Some r) sum c.args.part.now)
@@ -55,7 +56,7 @@ returns-in-Err-changed-clause-part c =
     let f : FitsSigned w128 c.args.part.now.times = search rules in
     let same = to_z-of_z w128 c.args.part.now.times f in
     let kept = row_line s (row_of (literal_form s says)) r row (shape_row s c.in-Some.known c.shape_known.result c.in-Some-shape_known.shape c.shape_known.ensures.row c.in-Some-shape_known.is)
-    (c.keep_line.ensures.lines says row (sym c.get.ensures.value ∙ ap option_copied c.unwrap-row.ensures)) in
+    (line_still s says row c.in-Some-shape_known.ensures.shared (c.keep.ensures.lines says row (sym c.get.ensures.value ∙ ap option_copied c.unwrap-row.ensures))) in
     λ sum o i h.
     let k = subst (λ (x : Option Known). IsKnown s x o) c.in-Some.is h in
     as_part s c.args.line (Err c.too_wide-in-Err-changed.result) (with_part o sum c.args.part.now) (with_row (Some r) sum c.args.part.now)

@@ -92,37 +92,37 @@ pub ask-returns-in-Some : goal.ask-returns-in-Some
 ask-returns-in-Some g t c =
     let v = g.M.Meanings.meaning c.args.self.now.names.now in
     let s = c.args.self.now.terms.now in
-    named_answer v s c.args.m c.term.result c.in-Name.x c.args.question c.in-Some.map.now c.of.result c.in-Name.is c.term.ensures.value c.in-Some.ensures.map c.of.ensures.answer c.of.ensures.narrow
-
-pub ask-returns-in-None : goal.ask-returns-in-None
-ask-returns-in-None g t c =
-    let v = g.M.Meanings.meaning c.args.self.now.names.now in
-    let s = c.args.self.now.terms.now in
-    named_answer v s c.args.m c.term.result c.in-Name.x c.args.question c.new-empty.result c.of-in-None.result c.in-Name.is c.term.ensures.value (c.new-empty.ensures ∙ sym c.in-None.ensures.none) c.of-in-None.ensures.answer c.of-in-None.ensures.narrow
+    named_answer v s c.args.m c.term.result c.in-Name.x c.args.question c.in-Some.map.now c.of.result c.in-Name.is c.term.ensures.value c.in-Some.ensures c.of.ensures.answer c.of.ensures.narrow
 
 pub ask-returns-in-Ok : goal.ask-returns-in-Ok
 ask-returns-in-Ok g t c =
     let v = g.M.Meanings.meaning c.args.self.now.names.now in
     let s = c.args.self.now.terms.now in
-    built_answer v s c.args.m c.args.question c.in-Ok.map c.of-in-Ok.result c.in-Ok.ensures c.of-in-Ok.ensures.answer
+    named_answer v s c.args.m c.term.result c.in-Name.x c.args.question c.in-Ok.map c.of-in-Ok.result c.in-Name.is c.term.ensures.value c.in-Ok.ensures c.of-in-Ok.ensures.answer c.of-in-Ok.ensures.narrow
 
-pub ask-returns-in-Err : goal.ask-returns-in-Err
-ask-returns-in-Err g t c =
+pub ask-returns-in-Ok-map : goal.ask-returns-in-Ok-map
+ask-returns-in-Ok-map g t c =
     let v = g.M.Meanings.meaning c.args.self.now.names.now in
     let s = c.args.self.now.terms.now in
-    stopped_answer v s c.args.m c.args.question c.in-Err.stop c.in-Err.ensures
+    built_answer v s c.args.m c.args.question c.in-Ok-map.map c.of-in-Ok-map.result c.in-Ok-map.ensures c.of-in-Ok-map.ensures.answer
+
+pub ask-returns-in-Err-map : goal.ask-returns-in-Err-map
+ask-returns-in-Err-map g t c =
+    let v = g.M.Meanings.meaning c.args.self.now.names.now in
+    let s = c.args.self.now.terms.now in
+    stopped_answer v s c.args.m c.args.question c.in-Err-map.stop c.in-Err-map.ensures
 
 pub map-returns-in-Some : goal.map-returns-in-Some
 map-returns-in-Some g t c =
     let v = g.M.Meanings.meaning c.args.self.now.names.now in
     let s = c.args.self.now.terms.now in
-    named_at v s c.args.t c.term.result c.in-Name.x c.in-Some.map.now c.copied.result c.in-Name.is c.term.ensures.value c.in-Some.ensures.map c.copied.ensures
+    named_at v s c.args.t c.term.result c.in-Name.x c.in-Some.map.now c.copied.result c.in-Name.is c.term.ensures.value c.in-Some.ensures c.copied.ensures
 
-pub map-returns-in-None : goal.map-returns-in-None
-map-returns-in-None g t c =
+pub map-returns-in-Ok : goal.map-returns-in-Ok
+map-returns-in-Ok g t c =
     let v = g.M.Meanings.meaning c.args.self.now.names.now in
     let s = c.args.self.now.terms.now in
-    named_at v s c.args.t c.term.result c.in-Name.x c.new-empty.result c.copied-in-None.result c.in-Name.is c.term.ensures.value (c.new-empty.ensures ∙ sym c.in-None.ensures.none) c.copied-in-None.ensures
+    named_at v s c.args.t c.term.result c.in-Name.x c.in-Ok.map c.copied-in-Ok.result c.in-Name.is c.term.ensures.value c.in-Ok.ensures c.copied-in-Ok.ensures
 
 pub map-returns-in-Put : goal.map-returns-in-Put
 map-returns-in-Put g t c =

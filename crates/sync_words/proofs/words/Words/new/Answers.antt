@@ -4,7 +4,7 @@ use Rattle.std.proofs.lemmas.List.FromFn.{length-range_with_len}
 use Rattle.atomic_table.specs.Table.{Me, opening}
 use Rattle.sync_words.specs.declared.rule.View.{View}
 use Rattle.sync_words.specs.Views.{opened}
-use Rattle.sync_words.specs.Rule.{Kept, Rests}
+use Rattle.sync_words.specs.Rule.{Kept, IsSeated}
 use Rattle.sync_words.proofs.Resting.{rests_opened}
 use Rattle.sync_words.proofs.Keeping.{opens}
 use Rattle.sync_words.proofs.words.Words.new.Goals as goal
@@ -24,9 +24,9 @@ invariant_of-result-2 c =
     record {
       bare = ap (λ (x : Me ℕ View). x.1) h.4;
       some = subst (λ (v : View). 0 < length v.numbers) (sym view) (omega arith);
-      rests = subst (λ (v : View). ∥ Rests v ∥₁) (sym view) ∣ rests_opened words c.args.threads ∣₁;
+      rests = subst (λ (v : View). ∥ IsSeated v ∥₁) (sym view) ∣ rests_opened words c.args.threads ∣₁;
     }
 
 pub returns-clause-rests : goal.returns-clause-rests
 returns-clause-rests c =
-    subst Rests (sym (ap (λ (x : Me ℕ View). x.0) c.in_ok-table.ensures.4)) (rests_opened c.extend_from_slice.new.self.items c.args.threads)
+    subst IsSeated (sym (ap (λ (x : Me ℕ View). x.0) c.in_ok-table.ensures.4)) (rests_opened c.extend_from_slice.new.self.items c.args.threads)

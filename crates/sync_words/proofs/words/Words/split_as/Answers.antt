@@ -3,7 +3,7 @@ use Rattle.std.proofs.Common.{◌≡◌, ◌<◌, ℕ, length, ap, sym, subst, �
 use Rattle.atomic_table.specs.Table.{Me}
 use Rattle.sync_words.specs.declared.rule.View.{View}
 use Rattle.sync_words.specs.Views.{below, from}
-use Rattle.sync_words.specs.Rule.{Rests}
+use Rattle.sync_words.specs.Rule.{IsSeated}
 use Rattle.sync_words.proofs.Resting.{rests_below, rests_from}
 use Rattle.sync_words.proofs.Stepping.{cuts}
 use Rattle.sync_words.proofs.words.Words.split_as.Goals as goal
@@ -23,7 +23,7 @@ invariant_of-seat g c =
     record {
       bare = ap (λ (m : Me ℕ View). m.1) e ∙ c.args.seat.now.bare;
       some = subst (λ (u : View). 0 < length u.numbers) (sym view) (subst (λ (x : ℕ). 0 < length (below x v).numbers) c.requires.number c.requires.low);
-      rests = subst (λ (u : View). ∥ Rests u ∥₁) (sym view) (rests_below at v c.args.seat.now.rests);
+      rests = subst (λ (u : View). ∥ IsSeated u ∥₁) (sym view) (rests_below at v c.args.seat.now.rests);
     }
 
 pub invariant_of-result : goal.invariant_of-result
@@ -35,5 +35,5 @@ invariant_of-result g c =
     record {
       bare = ap (λ (m : Me ℕ View). m.1) e;
       some = subst (λ (u : View). 0 < length u.numbers) (sym view) (subst (λ (x : ℕ). 0 < length (from x v).numbers) c.requires.number c.requires.high);
-      rests = subst (λ (u : View). ∥ Rests u ∥₁) (sym view) (rests_from at v c.args.seat.now.rests);
+      rests = subst (λ (u : View). ∥ IsSeated u ∥₁) (sym view) (rests_from at v c.args.seat.now.rests);
     }

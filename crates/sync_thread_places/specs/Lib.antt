@@ -1,0 +1,4 @@
+-- What events of code are, by numbers in tables.
+pub mod Places
+pub mod Values
+pub mod Runs
