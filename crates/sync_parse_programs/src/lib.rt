@@ -9,7 +9,6 @@ mod operand_reader;
 mod operands;
 mod proof_reader;
 mod proof_statements;
-mod start_reader;
 mod statements;
 
 pub use keep_reader::{declaration, keep};
@@ -19,14 +18,15 @@ pub use operands::{
     RawCalculation, RawCas, RawChange, RawCondition, RawIndex, RawLoad, RawNumber, RawOperand,
     RawRelation, RawWordOperation,
 };
-pub use proof_reader::{begins_plain_proof, do_form, plain_proof, proof_block};
+pub use proof_reader::{
+    begins_plain_proof, closing, do_form, in_squares_number, plain_proof, proof_block,
+};
 pub use proof_statements::{
     RawAssert, RawCase, RawCell, RawClause, RawClosing, RawCopy, RawDeclaration, RawDoForm,
     RawGive, RawKeep, RawKeepFact, RawKeepLine, RawLet, RawMerge, RawMove, RawOpen, RawPlainProof,
     RawProofKind, RawProofStatement, RawSeal, RawShape, RawSplit, RawStartKind, RawStartStatement,
     RawToken, RawWord,
 };
-pub use start_reader::start;
 pub use statements::{
     RawAtomic, RawIf, RawJump, RawList, RawLoop, RawPeek, RawProgram, RawRead, RawRightSide,
     RawStart, RawStatement, RawStatementKind, RawStore, RawTail, RawThread, RawWhen, RawWrite,

@@ -21,7 +21,7 @@ use sync_parse_forms::{ListItem, RowItem, begins_name, in_row};
 
 /// A number in square brackets.
 #[tactic(auto, unfolding(crate::specs::ProofStatements::in_squares_number))]
-pub(crate) fn in_squares_number<'a>(terminals: &'a [Terminal], left: u32) -> Read<'a, u128>
+pub fn in_squares_number<'a>(terminals: &'a [Terminal], left: u32) -> Read<'a, u128>
     ensures { Reads (λ x. (x.0, x.1.now)) result (read in_squares_number left terminals.now) }
 {
     let (_, rest) = sign(terminals, left, Sign::OpenSquare)?;
@@ -130,11 +130,7 @@ pub fn do_form<'a>(alloc: Global, terminals: &'a [Terminal], left: u32) -> Read<
 }
 
 #[tactic(auto, unfolding(crate::specs::ProofStatements::closing))]
-pub(crate) fn closing<'a>(
-    alloc: Global,
-    terminals: &'a [Terminal],
-    left: u32,
-) -> Read<'a, RawClosing>
+pub fn closing<'a>(alloc: Global, terminals: &'a [Terminal], left: u32) -> Read<'a, RawClosing>
     ensures { Reads (λ x. (x.0, x.1.now)) result (read closing left terminals.now) }
 {
     let (args, rest) = args(alloc, terminals, left)?;

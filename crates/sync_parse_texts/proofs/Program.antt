@@ -15,8 +15,8 @@ use Rattle.sync_parse_grammar.proofs.Completes as grammar
 use Rattle.sync_parse_programs.specs.Programs.{program, read}
 use Rattle.sync_parse_programs.specs.Begun.{begun, begins_statement, behind_statement}
 use Rattle.sync_parse_programs.proofs.Decided.{program_decided}
-use Rattle.sync_parse_grammar_programs.specs.Spelled.{Spells}
-use Rattle.sync_parse_grammar_programs.proofs.Statements.{formed, known}
+use Rattle.sync_parse_texts.specs.SpelledPrograms.{Spells}
+use Rattle.sync_parse_texts.proofs.Statements.{formed, known}
 use Rattle.sync_parse_texts.specs.Texts.{program_part}
 
 -- the end of a text

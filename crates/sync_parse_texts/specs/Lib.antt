@@ -1,2 +1,4 @@
+pub mod SpelledPrograms
+pub mod Laws
 pub mod Texts
 pub mod Spelled

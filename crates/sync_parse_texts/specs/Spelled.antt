@@ -9,7 +9,7 @@ use Rattle.sync_lex.specs.Terminals.{terminals_in}
 use Rattle.sync_parse_grammar.specs.Relations.{Spelled, The, Yields, ◌>>=◌, ◌>>◌}
 use Rattle.sync_parse_grammar.specs.Machines.{Machine, Proofs}
 use Rattle.sync_parse_grammar.specs.Texts.{Version}
-use Rattle.sync_parse_grammar_programs.specs.Spelled as programs
+use Rattle.sync_parse_texts.specs.SpelledPrograms as programs
 use Rattle.sync_parse_texts.specs.declared.text_reader.RawWholeText.{RawWholeText}
 use Rattle.sync_parse_texts.specs.Texts.{program_part, Sections}
 

@@ -8,13 +8,13 @@ ghost use Rattle.sync_parse_texts.specs.declared.text_reader.RawWholeText.{RawWh
 ghost use Rattle.sync_parse_texts.specs.Spelled.{Spells, MayRefuseVersionOne};
 ghost use Rattle.sync_parse_texts.specs.Texts.{program_part, sections_of, whole_text};
 
+use crate::program_reader::program;
 use sqlite_items::Items;
 use std::alloc::Global;
 use sync_base::{NameList, Stop};
 use sync_lex::{Sign, Terminal, read_terminals};
 use sync_parse::{RawMachine, RawProof, machine, proofs, refusal_of, version};
 use sync_parse_exprs::{Halt, Read, begins_with, next, sign, wanted};
-use sync_parse_program_readers::program;
 use sync_parse_programs::RawProgram;
 
 /// The levels of a text: 64 brackets may be open before a lexeme.

@@ -7,14 +7,13 @@ ghost use Rattle.sync_parse_forms.specs.Readings.{tests};
 ghost use Rattle.sync_parse_programs.specs.ProofStatements.{declaration};
 ghost use Rattle.sync_parse_programs.specs.Programs.{thread, final_block, ended, at_declaration, program, read};
 
+use crate::start_reader::start;
 use crate::statement_reader::list;
 use std::alloc::Global;
 use sync_lex::{Sign, Terminal};
 use sync_parse_exprs::{Read, begins_with, first_line, name, sign};
 use sync_parse_forms::{RowItem, in_row};
-use sync_parse_programs::{
-    RawDeclaration, RawList, RawProgram, RawThread, declaration, keep, start,
-};
+use sync_parse_programs::{RawDeclaration, RawList, RawProgram, RawThread, declaration, keep};
 
 struct DeclarationItem;
 

@@ -11,8 +11,8 @@ use Rattle.sync_parse_programs.specs.Statements.{statement}
 use Rattle.sync_parse_programs.specs.Programs.{statement_at, read}
 use Rattle.sync_parse_programs.specs.Begun.{begun, begins_statement, behind_statement}
 use Rattle.sync_parse_programs.proofs.Decided.{statement_decided, statement_first, statement_solid}
-use Rattle.sync_parse_grammar_programs.specs.Spelled.{AStatement, Spells}
-use Rattle.sync_parse_grammar_programs.proofs.Leaves.{known_form, known_law}
+use Rattle.sync_parse_texts.specs.SpelledPrograms.{AStatement, Spells}
+use Rattle.sync_parse_texts.proofs.Leaves.{known_form, known_law}
 
 step : (s : Bool) (n : ℕ) (g h : Form RawStatement) → IsForm s n true begins_statement behind_statement g h → IsForm s (suc n) true begins_statement behind_statement (form known_form g statement) (form known_form h statement)
 step s n g h known =

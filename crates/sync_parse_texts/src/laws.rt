@@ -1,7 +1,6 @@
 //! What programs spell, by their productions, and what reading them says of it.
-#![tactic(auto)]
 
-ghost use Rattle.sync_parse_grammar_programs.specs.Laws.{OneProgram, ReadIsSpelled, SpelledIsRead};
+ghost use Rattle.sync_parse_texts.specs.Laws.{OneProgram, ReadIsSpelled, SpelledIsRead};
 
 /// A program that is read is spelled by its terminals.
 pub fn what_is_read_is_spelled()

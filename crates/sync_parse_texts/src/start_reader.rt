@@ -5,17 +5,17 @@ ghost use Rattle.sync_parse_exprs.specs.Terminals.{goes_on};
 ghost use Rattle.sync_parse_programs.specs.ProofStatements.{seal, give, start_kind, start_statement};
 ghost use Rattle.sync_parse_programs.specs.Programs.{start_block, start, read};
 
-use crate::lists::{args, scripts};
-use crate::proof_reader::{begins_plain_proof, closing, do_form, in_squares_number, plain_proof};
-use crate::proof_statements::{RawGive, RawSeal, RawStartKind, RawStartStatement};
-use crate::statements::RawStart;
 use sqlite_items::Items;
 use std::alloc::Global;
 use sync_lex::{Sign, Terminal};
 use sync_parse_exprs::{Read, begins_with, first_line, goes_on, name, sign};
 use sync_parse_forms::{RowItem, in_row};
+use sync_parse_programs::{
+    RawGive, RawSeal, RawStart, RawStartKind, RawStartStatement, args, begins_plain_proof, closing,
+    do_form, in_squares_number, plain_proof, scripts,
+};
 
-#[tactic(auto, unfolding(crate::specs::ProofStatements::seal))]
+#[tactic(auto, unfolding(sync_parse_programs::specs::ProofStatements::seal))]
 fn seal<'a>(alloc: Global, terminals: &'a [Terminal], left: u32) -> Read<'a, RawSeal>
     ensures { Reads (λ x. (x.0, x.1.now)) result (read seal left terminals.now) }
 {
@@ -27,7 +27,7 @@ fn seal<'a>(alloc: Global, terminals: &'a [Terminal], left: u32) -> Read<'a, Raw
     Ok((RawSeal { word, at, closing }, rest))
 }
 
-#[tactic(auto, unfolding(crate::specs::ProofStatements::give))]
+#[tactic(auto, unfolding(sync_parse_programs::specs::ProofStatements::give))]
 fn give<'a>(alloc: Global, terminals: &'a [Terminal], left: u32) -> Read<'a, RawGive>
     ensures { Reads (λ x. (x.0, x.1.now)) result (read give left terminals.now) }
 {
@@ -46,7 +46,7 @@ fn give<'a>(alloc: Global, terminals: &'a [Terminal], left: u32) -> Read<'a, Raw
     ))
 }
 
-#[tactic(auto, unfolding(crate::specs::ProofStatements::start_kind))]
+#[tactic(auto, unfolding(sync_parse_programs::specs::ProofStatements::start_kind))]
 fn start_kind<'a>(alloc: Global, terminals: &'a [Terminal], left: u32) -> Read<'a, RawStartKind>
     ensures { Reads (λ x. (x.0, x.1.now)) result (read start_kind left terminals.now) }
 {
@@ -62,7 +62,7 @@ fn start_kind<'a>(alloc: Global, terminals: &'a [Terminal], left: u32) -> Read<'
     }
 }
 
-#[tactic(auto, unfolding(crate::specs::ProofStatements::start_statement))]
+#[tactic(auto, unfolding(sync_parse_programs::specs::ProofStatements::start_statement))]
 fn start_statement<'a>(
     alloc: Global,
     terminals: &'a [Terminal],
@@ -97,7 +97,7 @@ impl RowItem for StartItem {
     }
 }
 
-#[tactic(auto, unfolding(crate::specs::Programs::start_block))]
+#[tactic(auto, unfolding(sync_parse_programs::specs::Programs::start_block))]
 fn start_block<'a>(
     alloc: Global,
     terminals: &'a [Terminal],
@@ -112,7 +112,7 @@ fn start_block<'a>(
 }
 
 /// `start`, an operation, and the statements of the start in braces.
-#[tactic(auto, unfolding(crate::specs::Programs::start))]
+#[tactic(auto, unfolding(sync_parse_programs::specs::Programs::start))]
 pub fn start<'a>(alloc: Global, terminals: &'a [Terminal], left: u32) -> Read<'a, RawStart>
     ensures { Reads (λ x. (x.0, x.1.now)) result (read start left terminals.now) }
 {

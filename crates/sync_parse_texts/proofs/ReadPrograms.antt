@@ -8,8 +8,8 @@ use Rattle.sync_parse_forms.specs.Deciding.{first, solid}
 use Rattle.sync_parse_programs.specs.Programs.{program, read}
 use Rattle.sync_parse_programs.specs.Begun.{begun, begins_statement}
 use Rattle.sync_parse_programs.proofs.Decided.{program_decided}
-use Rattle.sync_parse_grammar_programs.specs.Laws.{ReadIsSpelled, GivesOrDeep, SpelledIsRead, OneProgram}
-use Rattle.sync_parse_grammar_programs.proofs.Statements.{formed, known}
+use Rattle.sync_parse_texts.specs.Laws.{ReadIsSpelled, GivesOrDeep, SpelledIsRead, OneProgram}
+use Rattle.sync_parse_texts.proofs.Statements.{formed, known}
 
 program_known : (n : ℕ) → IsForm true n (solid program) (first begun.first begins_statement program (0 ∷ [])) (0 ∷ []) (formed program) (formed program)
 program_known n = known program (0 ∷ []) program_decided

@@ -27,7 +27,7 @@ use Rattle.sync_parse_grammar.proofs.ScriptsClear.{clear_script}
 use Rattle.sync_parse_grammar.proofs.ScriptsComplete.{complete_script}
 use Rattle.sync_parse_programs.specs.Known.{Known, an_expr, a_script, known_read}
 use Rattle.sync_parse_programs.specs.Begun.{known_first, known_follow}
-use Rattle.sync_parse_grammar_programs.specs.Spelled.{known_spelled}
+use Rattle.sync_parse_texts.specs.SpelledPrograms.{known_spelled}
 
 excused : {A S : Type 0} (r : Read A) (x : A × List Terminal) → Met r x S → new_completes.Met r x
 excused (Ok v) x h = record { is = h.is.0 }

@@ -2,7 +2,7 @@ use Rattle.std.proofs.Common.{◌≡◌, ◌+◌, ◌-◌, ◌*◌}
 use Rattle.sync_parse_exprs.specs.Terminals.{row, goes_on}
 use Rattle.sync_parse_programs.specs.Programs.{read, statement_at}
 use Rattle.sync_parse_programs.specs.Statements.{statement_row}
-use Rattle.sync_parse_program_readers.proofs.statement_reader.+statement.Given as goal
+use Rattle.sync_parse_texts.proofs.statement_reader.+statement.Given as goal
 
 abbrev pub decreases-statement_row : goal.decreases-statement_row
 decreases-statement_row l = l.left * 10 + 9

@@ -3,7 +3,7 @@ use Rattle.std.proofs.lemmas.Result.{err_from_is_err_and}
 use Rattle.sync_parse_exprs.specs.Terminals.{goes_on}
 use Rattle.sync_parse_exprs.proofs.Rows.{row_goes, row_ends, row_stops}
 use Rattle.sync_parse_programs.specs.Programs.{statement_at}
-use Rattle.sync_parse_program_readers.proofs.statement_reader.+statement.Goals as goal
+use Rattle.sync_parse_texts.proofs.statement_reader.+statement.Goals as goal
 
 pub statement_row-loop-preserved : goal.statement_row-loop-preserved
 statement_row-loop-preserved t c =

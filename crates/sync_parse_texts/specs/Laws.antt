@@ -5,7 +5,7 @@ use Rattle.sync_parse_exprs.specs.declared.faults.Fault.TheVariants as fault
 use Rattle.sync_parse_exprs.specs.Terminals.{Read}
 use Rattle.sync_parse_programs.specs.declared.statements.RawProgram.{RawProgram}
 use Rattle.sync_parse_programs.specs.Programs.{program, read}
-use Rattle.sync_parse_grammar_programs.specs.Spelled.{Spells}
+use Rattle.sync_parse_texts.specs.SpelledPrograms.{Spells}
 
 -- what is read is spelled by the terminals up to those that are left
 abbrev pub ReadIsSpelled : Type 0

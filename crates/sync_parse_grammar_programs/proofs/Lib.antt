@@ -1,3 +1,0 @@
-mod Leaves
-pub mod Statements
-pub mod Programs
