@@ -1,5 +1,5 @@
 -- What a text means whose machine was checked.
-use Rattle.std.proofs.Common.{◌≡◌, ℕ, ◌+◌, List, [], ◌∷◌, ◌++◌, length, Result, Ok, Err, refl, sym, ap, subst, ◌∙◌, arith, length-append}
+use Rattle.std.proofs.Common.{◌≡◌, ℕ, ◌+◌, List, [], ◌∷◌, ◌++◌, length, Option, Some, None, Result, Ok, Err, refl, sym, ap, subst, ◌∙◌, arith, length-append}
 use Rattle.std.specs.Prelude.{IfOk}
 use Rattle.sync_base.specs.declared.stops.Stop.{Stop}
 use Rattle.sync_base.specs.declared.stops.Refusal.{Refusal}
@@ -8,7 +8,6 @@ use Rattle.sync_machine.specs.declared.machine.Machine.{Machine}
 use Rattle.sync_machine.specs.Machines.{MachineTree}
 use Rattle.sync_machine.specs.States.{HoldsAlways}
 use Rattle.sync_machine.specs.Views.{HasOwnIds}
-use Rattle.sync_parse.specs.Machines.{parsed}
 use Rattle.sync_parse.specs.declared.trees.RawText.{RawText}
 use Rattle.sync_parse.specs.declared.trees.RawProof.{RawProof}
 use Rattle.sync_read_names.specs.declared.scopes.Scope.{Scope}
@@ -17,11 +16,16 @@ use Rattle.sync_induct.specs.Grown.{HasGrown}
 use Rattle.sync_read.proofs.Whole.{machine_stays}
 use Rattle.sync_read.specs.Scripts.{proof_in, proofs_from}
 use Rattle.sync_read.specs.Resolving.{machine_in}
-use Rattle.sync_read.specs.Texts.{TextTree, first_scope, resolved, text_in}
+use Rattle.sync_read.specs.Texts.{TextTree, first_scope, resolved}
 use Rattle.sync_parse_grammar.specs.Texts.{HasScripts}
-use Rattle.sync_parse_grammar.proofs.MachinesSound.{sound}
 use Rattle.sync_parse_grammar.proofs.Laws.{scripts}
+use Rattle.sync_parse_programs.specs.declared.statements.RawProgram.{RawProgram}
+use Rattle.sync_parse_texts.specs.declared.text_reader.RawWholeText.{RawWholeText}
+use Rattle.sync_parse_texts.specs.Texts.{whole_text}
+use Rattle.sync_parse_texts.proofs.Answers.{sound}
+use Rattle.sync_check.specs.Texts.{unless, without_program, unbuilt, resolved_whole, text_in}
 use Rattle.sync_check.specs.Checking.{Means, IsMeant, IsAccepted}
+use Rattle.sync_check.proofs.Machines.{machine_alone}
 
 -- what a value that is there comes from
 bound : {A B : Type 0} (r : Result A Refusal) (f : A → Result B Refusal) (y : B) → (r >>= f) ≡ Ok y → (x : A) × (r ≡ Ok x) × (f x ≡ Ok y)
@@ -47,12 +51,20 @@ all-counted raw t e =
     let counted : length ps.0.0 ≡ length raw.proofs = let c = proofs-counted [] m.0.1 raw.proofs ps.0 ps.1 in omega (arith, c) in
     ap (λ (x : TextTree). length x.proofs) (sym (same _ t (Ok _) refl ps.2)) ∙ counted
 
+-- where a program is not refused there is none
+keeps : (p : Option RawProgram) (x y : TextTree) → unless (unbuilt p) x ≡ Ok y → (p ≡ None) × (x ≡ y)
+keeps None x y e = (refl, cc)
+keeps (Some p) x y e = absurd cc
+
 -- what is read from bytes is what they mean
 pub text_means : (bytes : List ℕ) (t : TextTree) → text_in bytes ≡ Ok t → Means bytes t
 text_means bytes t e =
-    let read = bound (parsed bytes) resolved t e in
+    let read = bound (whole_text bytes) resolved_whole t e in
+    let machine = bound (resolved (without_program read.0)) _ t read.2 in
+    let kept = keeps read.0.program machine.0 t machine.2 in
     let spells = sound bytes read.0 read.1 in
-    (read.0, spells, read.2, subst (HasScripts bytes) (sym (all-counted read.0 t read.2)) (scripts bytes read.0 spells))
+    let counted = all-counted (without_program read.0) t (machine.1 ∙ ap (λ (x : TextTree). Ok x) kept.1) in
+    (read.0, spells, read.2, subst (HasScripts bytes) (sym counted) (scripts bytes (without_program read.0) (machine_alone bytes read.0 spells kept.0)))
 
 pub accepted : (bytes : List ℕ) (t : TextTree) (n : ℕ) → Means bytes t → HoldsAlways t.machine → n ≡ length t.proofs → IsAccepted bytes n
 unfolding IsAccepted

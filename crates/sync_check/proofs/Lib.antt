@@ -1,3 +1,4 @@
 mod Named
+mod Machines
 pub mod Accepting
 pub mod TooLong

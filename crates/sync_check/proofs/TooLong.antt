@@ -5,9 +5,9 @@ use Rattle.sync_base.specs.Limits.{longest_text}
 use Rattle.sync_base.specs.declared.stops.Rule.TheVariants.{L1}
 use Rattle.sync_lex.specs.Lexemes.{lexemes_of}
 use Rattle.sync_lex.specs.Terminals.{terminals_in}
-use Rattle.sync_parse.specs.Machines.{parsed}
-use Rattle.sync_read.specs.Texts.{text_in}
+use Rattle.sync_parse_texts.specs.Texts.{whole_text}
+use Rattle.sync_check.specs.Texts.{text_in}
 
 pub text_in-too_long : (bytes : List ℕ) → longest_text < length bytes → text_in bytes ≡ Err (record { line = 1; rule = L1 })
-unfolding parsed terminals_in lexemes_of
+unfolding whole_text terminals_in lexemes_of
 text_in-too_long bytes h = rw (lt-ltb longest_text (length bytes) h) refl

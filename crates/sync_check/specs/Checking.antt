@@ -2,18 +2,15 @@
 use Rattle.std.specs.Prelude.{◌≡◌, ℕ, List, length, Option, Some, None, Result, Ok, Err}
 use Rattle.sync_base.specs.declared.stops.Refusal.{Refusal}
 use Rattle.sync_base.specs.Outcome.{first, ◌>>=◌}
-use Rattle.sync_parse.specs.declared.trees.RawText.{RawText}
-use Rattle.sync_parse_grammar.specs.Texts.{Spells, HasScripts}
+use Rattle.sync_parse_grammar.specs.Texts.{HasScripts}
+use Rattle.sync_parse_texts.specs.declared.text_reader.RawWholeText.{RawWholeText}
+use Rattle.sync_parse_texts.specs.Spelled.{Spells}
 use Rattle.sync_machine.specs.Machines.{MachineTree}
 use Rattle.sync_machine.specs.States.{HoldsAlways}
 use Rattle.sync_rules.specs.Faults.{strategy_fault}
 use Rattle.sync_induct.specs.Checks.{proof_fault}
-use Rattle.sync_read.specs.Texts.{TextTree, resolved, text_in}
-
--- the answer, where no rule is broken
-abbrev pub unless : {A : Type 0} → Option Refusal → A → Result A Refusal
-unless None answer = Ok answer
-unless (Some refusal) answer = Err refusal
+use Rattle.sync_read.specs.Texts.{TextTree}
+use Rattle.sync_check.specs.Texts.{unless, resolved_whole, text_in}
 
 -- the first rule of strategies or of proofs that a text breaks; a machine that is meant breaks no rule of names
 abbrev pub fault_of : TextTree → Option Refusal
@@ -33,7 +30,7 @@ machine_of bytes = text_in bytes >>= λ t. unless (fault_of t) t.machine
 -- The bytes spell a raw tree by the productions of the grammar, the tree means this machine with these proofs, and the
 -- word `by` stands once for each proof.
 abbrev pub Means : List ℕ → TextTree → Type 0
-Means bytes t = (raw : RawText) × Spells bytes raw × (resolved raw ≡ Ok t) × HasScripts bytes (length t.proofs)
+Means bytes t = (raw : RawWholeText) × Spells bytes raw × (resolved_whole raw ≡ Ok t) × HasScripts bytes (length t.proofs)
 
 -- the bytes mean this machine with some proofs
 abbrev pub IsMeant : List ℕ → MachineTree → Type 0

@@ -12,8 +12,9 @@ use Rattle.sync_terms.specs.declared.proofs.Claim.TheVariants.{At, Keeps}
 use Rattle.sync_terms.specs.declared.proofs.Obligation.{Obligation}
 use Rattle.sync_rules.specs.Faults.{strategy_fault}
 use Rattle.sync_rules.specs.Obligations.{obligations_of}
-use Rattle.sync_read.specs.Texts.{TextTree, text_in}
-use Rattle.sync_check.specs.Checking.{unless, Means}
+use Rattle.sync_read.specs.Texts.{TextTree}
+use Rattle.sync_check.specs.Texts.{unless, text_in}
+use Rattle.sync_check.specs.Checking.{Means}
 
 -- how the name of the operation with this number is spelled
 abbrev pub operation_name : TextTree → ℕ → List ℕ

@@ -16,11 +16,12 @@ ghost use Rattle.sync_read.specs.Texts.{text_tree};
 ghost use Rattle.sync_read.specs.declared.texts.Text.{Text};
 ghost use Rattle.sync_check.specs.Checking.{fault_of, machine_of, verdict_of, IsAccepted, IsMeant};
 
+use crate::reading::read;
 use std::alloc::Global;
 use sync_base::Stop;
 use sync_induct::{Inductive, inductive};
 use sync_machine::Machine;
-use sync_read::{Text, read};
+use sync_read::Text;
 use sync_rules::check_ops;
 
 /// Whether a machine that keeps the rules of names keeps those of strategies; else the first that it breaks.

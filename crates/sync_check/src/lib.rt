@@ -3,6 +3,8 @@
 
 mod checking;
 mod listing;
+mod reading;
 
 pub use checking::{accepted_machine, check};
 pub use listing::list;
+pub use reading::read;

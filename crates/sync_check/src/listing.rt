@@ -5,10 +5,11 @@ ghost use Rattle.sync_read.specs.Texts.{text_tree};
 ghost use Rattle.sync_check.specs.Listing.{claim_text, invariant_name, listing_of, obligation_line, operation_name, IsListed};
 
 use crate::checking::keeps_strategies;
+use crate::reading::read;
 use sqlite_items::Items;
 use std::alloc::{AllocError, Global};
 use sync_base::Stop;
-use sync_read::{Text, read};
+use sync_read::Text;
 use sync_rules::obligations;
 use sync_terms::{Claim, Obligation};
 

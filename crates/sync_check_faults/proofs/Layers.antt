@@ -5,12 +5,14 @@ use Rattle.sync_base.specs.Outcome.{first, ◌>>=◌}
 use Rattle.sync_lex.specs.declared.terminals.Terminals.{Terminals}
 use Rattle.sync_lex.specs.Terminals.{terminals_in}
 use Rattle.sync_parse.specs.Faults.{refused}
-use Rattle.sync_parse.specs.Machines.{text_of, parsed}
-use Rattle.sync_read.specs.Texts.{TextTree, resolved, text_in}
-use Rattle.sync_check.specs.Checking.{judged, unless, fault_of, verdict_of}
+use Rattle.sync_parse_texts.specs.declared.text_reader.RawWholeText.{RawWholeText}
+use Rattle.sync_parse_texts.specs.Texts.{sections_of, whole_text}
+use Rattle.sync_read.specs.Texts.{TextTree, resolved}
+use Rattle.sync_check.specs.Texts.{unless, without_program, unbuilt, resolved_whole, text_in}
+use Rattle.sync_check.specs.Checking.{judged, fault_of, verdict_of}
 use Rattle.sync_check.specs.Listing.{listed, listing_of, obligation_lines}
 use Rattle.sync_rules.specs.Faults.{strategy_fault}
-use Rattle.sync_check_faults.specs.Faults.{fault_in, behind, lex_fault, grammar_fault, name_fault, first_fault, first_listing_fault, VerdictIsFirstFault, ListingIsFirstFault}
+use Rattle.sync_check_faults.specs.Faults.{fault_in, behind, lex_fault, grammar_fault, name_fault, unbuilt_fault, reading_fault, first_fault, first_listing_fault, VerdictIsFirstFault, ListingIsFirstFault}
 
 -- one layer, and then the next
 fault-then : {A B : Type 0} (r : Result A Refusal) (f : A → Result B Refusal) → fault_in (r >>= f) ≡ first (fault_in r) (behind r (λ x. fault_in (f x)))
@@ -35,26 +37,38 @@ fault-unless (Some r) x = refl
 
 -- ---- the layers of a text
 
-parsed-fault : (bytes : List ℕ) → fault_in (parsed bytes) ≡ first (lex_fault bytes) (grammar_fault bytes)
-unfolding parsed
-parsed-fault bytes =
+whole-fault : (bytes : List ℕ) → fault_in (whole_text bytes) ≡ first (lex_fault bytes) (grammar_fault bytes)
+unfolding whole_text
+whole-fault bytes =
     fault-then (terminals_in bytes) _
-    ∙ ap (first (lex_fault bytes)) (behind-same (terminals_in bytes) _ _ (λ (ws : Terminals). fault-kept (refused ws.last_line (text_of ws.list)) _))
+    ∙ ap (first (lex_fault bytes)) (behind-same (terminals_in bytes) _ _ (λ (ws : Terminals). fault-kept (refused ws.last_line (sections_of ws.list)) _))
 
-text_in-fault : (bytes : List ℕ) → fault_in (text_in bytes) ≡ first (first (lex_fault bytes) (grammar_fault bytes)) (name_fault bytes)
-text_in-fault bytes = fault-then (parsed bytes) resolved ∙ ap (λ f. first f (name_fault bytes)) (parsed-fault bytes)
+resolved-fault : (raw : RawWholeText) → fault_in (resolved_whole raw) ≡ first (fault_in (resolved (without_program raw))) (behind (resolved (without_program raw)) (λ (t : TextTree). unbuilt raw.program))
+resolved-fault raw =
+    fault-then (resolved (without_program raw)) _
+    ∙ ap (first (fault_in (resolved (without_program raw)))) (behind-same (resolved (without_program raw)) _ _ (λ (t : TextTree). fault-unless (unbuilt raw.program) t))
 
-regrouped : (a b c d : Option Refusal) → first (first (first a b) c) d ≡ first a (first b (first c d))
-regrouped a b c d = first-first (first a b) c d ∙ first-first a b (first c d)
+behind-first : {A : Type 0} (r : Result A Refusal) (f g : A → Option Refusal) → behind r (λ x. first (f x) (g x)) ≡ first (behind r f) (behind r g)
+behind-first (Ok x) f g = refl
+behind-first (Err e) f g = refl
+
+names-fault : (bytes : List ℕ) → behind (whole_text bytes) (λ (raw : RawWholeText). fault_in (resolved_whole raw)) ≡ first (name_fault bytes) (unbuilt_fault bytes)
+names-fault bytes = behind-same (whole_text bytes) _ _ resolved-fault ∙ behind-first (whole_text bytes) _ _
+
+text_in-fault : (bytes : List ℕ) → fault_in (text_in bytes) ≡ reading_fault bytes
+text_in-fault bytes =
+    fault-then (whole_text bytes) resolved_whole
+    ∙ ap (first (fault_in (whole_text bytes))) (names-fault bytes)
+    ∙ ap (λ f. first f (first (name_fault bytes) (unbuilt_fault bytes))) (whole-fault bytes)
+    ∙ first-first (lex_fault bytes) (grammar_fault bytes) (first (name_fault bytes) (unbuilt_fault bytes))
 
 -- what is told of a text that is read, behind the layers of reading
 told-fault : {A : Type 0} (told : TextTree → Result A Refusal) (fault : TextTree → Option Refusal) → ((t : TextTree) → fault_in (told t) ≡ fault t) → (bytes : List ℕ)
-    → fault_in (text_in bytes >>= told) ≡ first (lex_fault bytes) (first (grammar_fault bytes) (first (name_fault bytes) (behind (text_in bytes) fault)))
+    → fault_in (text_in bytes >>= told) ≡ first (reading_fault bytes) (behind (text_in bytes) fault)
 told-fault told fault same bytes =
     fault-then (text_in bytes) told
     ∙ ap (first (fault_in (text_in bytes))) (behind-same (text_in bytes) _ fault same)
     ∙ ap (λ f. first f (behind (text_in bytes) fault)) (text_in-fault bytes)
-    ∙ regrouped (lex_fault bytes) (grammar_fault bytes) (name_fault bytes) (behind (text_in bytes) fault)
 
 verdict-fault : (bytes : List ℕ) → fault_in (verdict_of bytes) ≡ first_fault bytes
 unfolding verdict_of

@@ -4,12 +4,13 @@ use Rattle.sync_base.specs.declared.stops.Refusal.{Refusal}
 use Rattle.sync_base.specs.Outcome.{first}
 use Rattle.sync_lex.specs.declared.terminals.Terminals.{Terminals}
 use Rattle.sync_lex.specs.Terminals.{terminals_in}
-use Rattle.sync_parse.specs.declared.trees.RawText.{RawText}
 use Rattle.sync_parse.specs.Faults.{refused}
-use Rattle.sync_parse.specs.Machines.{text_of, parsed}
+use Rattle.sync_parse_texts.specs.declared.text_reader.RawWholeText.{RawWholeText}
+use Rattle.sync_parse_texts.specs.Texts.{sections_of, whole_text}
 use Rattle.sync_rules.specs.Faults.{strategy_fault}
 use Rattle.sync_induct.specs.Checks.{proof_fault}
-use Rattle.sync_read.specs.Texts.{TextTree, resolved, text_in}
+use Rattle.sync_read.specs.Texts.{TextTree, resolved}
+use Rattle.sync_check.specs.Texts.{without_program, unbuilt, text_in}
 use Rattle.sync_check.specs.Checking.{verdict_of}
 use Rattle.sync_check.specs.Listing.{obligation_lines, listing_of}
 
@@ -28,11 +29,19 @@ lex_fault bytes = fault_in (terminals_in bytes)
 
 -- G: of the terminals
 abbrev pub grammar_fault : List ℕ → Option Refusal
-grammar_fault bytes = behind (terminals_in bytes) (λ (ws : Terminals). fault_in (refused ws.last_line (text_of ws.list)))
+grammar_fault bytes = behind (terminals_in bytes) (λ (ws : Terminals). fault_in (refused ws.last_line (sections_of ws.list)))
 
--- N: of the raw tree
+-- N: of the raw tree, but for its program
 abbrev pub name_fault : List ℕ → Option Refusal
-name_fault bytes = behind (parsed bytes) (λ (raw : RawText). fault_in (resolved raw))
+name_fault bytes = behind (whole_text bytes) (λ (raw : RawWholeText). fault_in (resolved (without_program raw)))
+
+-- G9: of a program, which is not built yet
+abbrev pub unbuilt_fault : List ℕ → Option Refusal
+unbuilt_fault bytes = behind (whole_text bytes) (λ (raw : RawWholeText). behind (resolved (without_program raw)) (λ (t : TextTree). unbuilt raw.program))
+
+-- the first of these four
+abbrev pub reading_fault : List ℕ → Option Refusal
+reading_fault bytes = first (lex_fault bytes) (first (grammar_fault bytes) (first (name_fault bytes) (unbuilt_fault bytes)))
 
 -- S: of the machine
 abbrev pub rules_fault : List ℕ → Option Refusal
@@ -44,7 +53,7 @@ machine_faults bytes = behind (text_in bytes) (λ (t : TextTree). first (strateg
 
 -- the first rule that a text breaks
 abbrev pub first_fault : List ℕ → Option Refusal
-first_fault bytes = first (lex_fault bytes) (first (grammar_fault bytes) (first (name_fault bytes) (machine_faults bytes)))
+first_fault bytes = first (reading_fault bytes) (machine_faults bytes)
 
 abbrev pub KeepsRules : List ℕ → Type 0
 KeepsRules bytes = first_fault bytes ≡ None
@@ -54,9 +63,9 @@ pub record VerdictIsFirstFault (bytes : List ℕ) : Type 0 where
   pub refuses : (r : Refusal) → first_fault bytes ≡ Some r → verdict_of bytes ≡ Err r
   pub accepts : KeepsRules bytes → (scripts : ℕ) × (verdict_of bytes ≡ Ok scripts)
 
--- the first rule of lexemes, grammar, names or strategies that a text breaks
+-- the first rule that a text breaks, but for those of its proofs
 abbrev pub first_listing_fault : List ℕ → Option Refusal
-first_listing_fault bytes = first (lex_fault bytes) (first (grammar_fault bytes) (first (name_fault bytes) (rules_fault bytes)))
+first_listing_fault bytes = first (reading_fault bytes) (rules_fault bytes)
 
 -- The listing refuses a text with the first of these, and lists what has to be proved of its machine where it has none.
 pub record ListingIsFirstFault (bytes : List ℕ) : Type 0 where

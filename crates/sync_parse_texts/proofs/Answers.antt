@@ -49,7 +49,7 @@ terminals_spell : (text : List ℕ) (raw : RawWholeText) (w : Result Terminals R
 terminals_spell text raw (Err r) is h = absurd cc
 terminals_spell text raw (Ok ws) is h = read_spells text ws raw is (sections_of ws.list) refl h
 
-sound : (text : List ℕ) (raw : RawWholeText) → whole_text text ≡ Ok raw → Spells text raw
+pub sound : (text : List ℕ) (raw : RawWholeText) → whole_text text ≡ Ok raw → Spells text raw
 sound text raw e = terminals_spell text raw (terminals_in text) refl (sym (whole_is text) ∙ e)
 
 one_tree : (text : List ℕ) (x y : RawWholeText) → Spells text x → Spells text y → x ≡ y

@@ -1,4 +1,4 @@
--- What a text means, as plain lists, or the first rule of lexemes, grammar or names that it breaks.
+-- What the machine and the proofs of a text mean, as plain lists, or the first rule of names that they break.
 use Rattle.std.specs.Prelude.{ℕ, List, [], length, min, replicate, Result, Ok}
 use Rattle.sync_base.specs.declared.stops.Refusal.{Refusal}
 use Rattle.sync_base.specs.declared.names.NameList.{NameList}
@@ -6,7 +6,6 @@ use Rattle.sync_base.specs.Limits.{longest_text}
 use Rattle.sync_base.specs.Outcome.{◌>>=◌}
 use Rattle.sync_machine.specs.Machines.{MachineTree}
 use Rattle.sync_machine.specs.Views.{machine_tree}
-use Rattle.sync_parse.specs.Machines.{parsed}
 use Rattle.sync_parse.specs.declared.trees.RawText.{RawText}
 use Rattle.sync_read_names.specs.declared.scopes.Meaning.TheVariants.{Nothing}
 use Rattle.sync_read_names.specs.declared.scopes.Owners.{Owners}
@@ -35,10 +34,6 @@ resolved raw = do
   m ← machine_in (first_scope (length raw.names.list)) raw.machine
   ps ← proofs_from [] m.1 raw.proofs
   Ok (record { machine = m.0; proofs = ps.0; names = raw.names })
-
--- the machine and the proofs of the text in these bytes, or the first rule of lexemes, grammar or names that they break
-abbrev pub text_in : List ℕ → Result TextTree Refusal
-text_in bytes = parsed bytes >>= resolved
 
 -- a text with its ids read in its machine's store
 abbrev pub text_tree : Text → TextTree

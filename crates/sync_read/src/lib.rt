@@ -6,4 +6,4 @@ mod machines;
 mod scripts;
 mod texts;
 
-pub use texts::{Text, read};
+pub use texts::{Text, resolve};

@@ -1,11 +1,11 @@
-//! Whole texts.
+//! The machine and the proofs of a text.
 ghost use Rattle.std.specs.Prelude.{◌≡◌, None, IfOk};
 ghost use Rattle.sync_base.specs.Outcome.{Gives};
 ghost use Rattle.sync_machine.specs.Views.{machine_tree, HasOwnIds};
 ghost use Rattle.sync_machine.specs.Naming.{machine_fault, AreTextNames};
 ghost use Rattle.sync_terms.specs.Proofs.{AreScriptsOf};
 ghost use Rattle.sync_read.specs.declared.texts.Text.{Text};
-ghost use Rattle.sync_read.specs.Texts.{first_scope, resolved, text_in, text_tree};
+ghost use Rattle.sync_read.specs.Texts.{first_scope, resolved, text_tree};
 
 use crate::machines::machine;
 use crate::scripts::proofs;
@@ -13,7 +13,7 @@ use sqlite_items::Items;
 use std::alloc::Global;
 use sync_base::{LONGEST_TEXT, NameList, NoMemory, Stop};
 use sync_machine::Machine;
-use sync_parse::{RawText, parse};
+use sync_parse::RawText;
 use sync_read_names::{Meaning, Owner, Owners, Scope};
 use sync_terms::Proofs;
 
@@ -44,11 +44,11 @@ fn first_scope(alloc: Global, count: usize) -> Result<Scope, NoMemory>
     })
 }
 
-/// The text of a raw tree. Refuses with the first broken rule N.
+/// The machine, the proofs and the names of a raw tree. Refuses with the first broken rule N.
 ///
-/// Its machine breaks no rule of names, so nothing has to ask once more.
+/// The machine breaks no rule of names, so nothing has to ask once more.
 #[tactic(auto, using(crate::proofs::Growing::operations_kept, crate::proofs::Growing::operations_stay, crate::proofs::Growing::invariants_kept, crate::proofs::Growing::invariants_stay, sync_read_names::proofs::Kept::stays))]
-fn resolve(alloc: Global, raw: RawText) -> Result<Text, Stop>
+pub fn resolve(alloc: Global, raw: RawText) -> Result<Text, Stop>
     ensures exact { Gives text_tree result (resolved raw) }
     ensures ids { IfOk result (λ (t : Text). HasOwnIds t.machine) }
     ensures names { IfOk result (λ (t : Text). AreTextNames (machine_tree t.machine)) }
@@ -76,17 +76,4 @@ fn resolve(alloc: Global, raw: RawText) -> Result<Text, Stop>
         proofs: Proofs { list },
         names: raw.names,
     })
-}
-
-/// The machine, the proofs and the names of the text in these bytes. Refuses with the first broken rule of lexemes (L), of the
-/// grammar (G) or of names (N).
-pub fn read(alloc: Global, bytes: &[u8]) -> Result<Text, Stop>
-    ensures exact { Gives text_tree result (text_in bytes.now) }
-    ensures ids { IfOk result (λ (t : Text). HasOwnIds t.machine) }
-    ensures names { IfOk result (λ (t : Text). AreTextNames (machine_tree t.machine)) }
-    ensures formed { IfOk result (λ (t : Text). machine_fault (machine_tree t.machine) ≡ None) }
-    ensures scripts { IfOk result (λ (t : Text). AreScriptsOf t.machine.terms t.proofs.list) }
-{
-    let raw = parse(alloc, bytes)?;
-    resolve(alloc, raw)
 }

@@ -3,9 +3,9 @@ ghost use Rattle.std.specs.Prelude.{IfSome};
 ghost use Rattle.sync_machine.specs.Views.{HasOwnIds};
 
 use std::alloc::Global;
+use sync_check::read;
 use sync_join::PERM;
 use sync_machine::Machine;
-use sync_read::read;
 
 /// A machine with a field of each of six strategies. The require of `zero` stands in line 7.
 const TEXT: &[u8] = b"version 1;
