@@ -16,8 +16,9 @@ use Rattle.sync_parse_exprs.specs.declared.faults.Fault.{Fault}
 use Rattle.sync_parse_exprs.specs.declared.faults.Fault.TheVariants as fault
 use Rattle.sync_parse_exprs.specs.declared.raw_names.RawName.{RawName}
 use Rattle.sync_parse_exprs.specs.Terminals.{Read, Reader, unless_deep, begins_with, goes_on, sign_at, name_at, name_said, number_at, number_said, strategy_at, strategy_said, row, behind_commas, series, listed, in_round, names_at}
-use Rattle.sync_parse_grammar.specs.Relations.{Spelled, The, AName, ANumber, AStrategy, Yields, Here, Then, ◌>>◌, Either, the_one, the_other, Many, nothing, more, Series, Listed, InRound, Names}
-use Rattle.sync_parse_grammar.proofs.Clears.{code, front, front_of, Set, any, only, both, others, In, only_in, same_in, Starts, Follows, starts_then, starts_the, starts_name, follows_starts, follows_then, follows_many, follows_yields, head_is, tail_is}
+use Rattle.sync_parse_forms.specs.Relations.{Spelled, The, AName, ANumber, AStrategy, Yields, Here, Then, ◌>>◌, Either, the_one, the_other, Many, nothing, more, Series, Listed, InRound, Names}
+use Rattle.sync_parse_forms.specs.Fronts.{code, front, front_of, Set, any, only, both, others}
+use Rattle.sync_parse_forms.proofs.Clears.{In, only_in, same_in, Starts, Follows, starts_then, starts_the, starts_name, follows_starts, follows_then, follows_many, follows_yields, head_is, tail_is}
 use Rattle.sync_parse_grammar.proofs.Counting.{one_shorter}
 use Rattle.sync_parse_grammar.proofs.Depths.{Each}
 use denote.Enum.Bare.{true_same}

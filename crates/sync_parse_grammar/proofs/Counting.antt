@@ -18,7 +18,7 @@ use Rattle.sync_parse.specs.declared.trees.RawProof.{RawProof}
 use Rattle.sync_parse.specs.declared.trees.RawPlace.{RawPlace}
 use Rattle.sync_parse.specs.declared.trees.RawAct.{RawAct}
 use Rattle.sync_parse.specs.Scripts.{bounded_of}
-use Rattle.sync_parse_grammar.specs.Relations.{Spelled, The, AName, ANumber, AStrategy, OneOf, Yields, Here, Then, Either, the_one, the_other, Closed, Many, nothing, more, Series, Listed, InRound, Names}
+use Rattle.sync_parse_forms.specs.Relations.{Spelled, The, AName, ANumber, AStrategy, OneOf, Yields, Here, Then, Either, the_one, the_other, Closed, Many, nothing, more, Series, Listed, InRound, Names}
 use Rattle.sync_parse_grammar.specs.Expressions.{Whole, NoNumber, Operand, Unary, Product, Chain, Chained, Joins, SumSign, Sum, RelationSign, Relation, And, Or, Implied, Nested, AnExpr, Args}
 use Rattle.sync_parse_grammar.specs.Scripts as scripts
 use Rattle.sync_parse_grammar.specs.Scripts.{ASubject, Hyp, Scaled, Part, As, Same, Inst, Parts, Lookup, Cong, Split, Cut, StepKind, Step, BlockOf, Block, Script}

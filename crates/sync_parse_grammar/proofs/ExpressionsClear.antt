@@ -16,9 +16,10 @@ use Rattle.sync_parse_exprs.specs.declared.expressions.Function.TheVariants as f
 use Rattle.sync_parse_exprs.specs.declared.expressions.Operator.{Operator}
 use Rattle.sync_parse_exprs.specs.declared.expressions.Operator.TheVariants as operator
 use Rattle.sync_parse_exprs.specs.Expressions.{special_of, function_of}
-use Rattle.sync_parse_grammar.specs.Relations.{Spelled, The, ANumber, OneOf, Yields, ◌>>=◌, the_one, the_other, InRound}
+use Rattle.sync_parse_forms.specs.Relations.{Spelled, The, ANumber, OneOf, Yields, ◌>>=◌, the_one, the_other, InRound}
 use Rattle.sync_parse_grammar.specs.Expressions.{placed_at, Whole, NoNumber, Operand, Unary, Product, Chain, Chained, Joins, SumSign, Sum, RelationSign, Relation, And, Or, Implied, Nested, AnExpr, Args}
-use Rattle.sync_parse_grammar.proofs.Clears.{code, front, Set, any, only, among, both, others, In, only_in, among_in, both_in, others_in, others_first, same_in, not_both, Starts, Clear, Fork, lone, fork_or, starts_weaker, starts_then, starts_here, starts_or, starts_the, starts_name, starts_number, same_front, follows_starts, follows_yields, follows_or, clear_the, clear_name, clear_number, clear_one_of, clear_yields, clear_here, clear_then, clear_next, clear_optional, clear_round}
+use Rattle.sync_parse_forms.specs.Fronts.{code, front, Set, any, only, among, both, others}
+use Rattle.sync_parse_forms.proofs.Clears.{In, only_in, among_in, both_in, others_in, others_first, same_in, not_both, Starts, Clear, Fork, lone, fork_or, starts_weaker, starts_then, starts_here, starts_or, starts_the, starts_name, starts_number, same_front, follows_starts, follows_yields, follows_or, clear_the, clear_name, clear_number, clear_one_of, clear_yields, clear_here, clear_then, clear_next, clear_optional, clear_round}
 use denote.Enum.Bare.{same_true}
 
 -- ---- sets of first lexemes

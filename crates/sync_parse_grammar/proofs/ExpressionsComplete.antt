@@ -24,9 +24,10 @@ use Rattle.sync_parse_exprs.specs.declared.expressions.Operator.{Operator}
 use Rattle.sync_parse_exprs.specs.declared.expressions.Operator.TheVariants as operator
 use Rattle.sync_parse_exprs.specs.Terminals.{Read, Reader, first_line, listed, in_round}
 use Rattle.sync_parse_exprs.specs.Expressions.{signed, placed, whole, special_of, function_of, relation_of, sum_of, and_of, or_of, factor_of, factor_said, begins_operand, sign_operand, operand_said, operand, prefixed, unary_with, unary, times, product, chain, chained, sums, related, relation, ands, ors, implied, implies, inside, expr_at, exprs_at}
-use Rattle.sync_parse_grammar.specs.Relations.{Spelled, The, AName, ANumber, Yields, ◌>>=◌, Either, the_one, the_other, InRound}
+use Rattle.sync_parse_forms.specs.Relations.{Spelled, The, AName, ANumber, Yields, ◌>>=◌, Either, the_one, the_other, InRound}
 use Rattle.sync_parse_grammar.specs.Expressions.{placed_at, Whole, NoNumber, Operand, Unary, Product, Chain, Chained, Joins, SumSign, Sum, RelationSign, Relation, And, Or, Implied, Nested, AnExpr, Args}
-use Rattle.sync_parse_grammar.proofs.Clears.{code, front, front_of, Set, any, only, both, others, In, only_in, among_in, both_in, others_in, others_first, not_both, Starts, starts_then, starts_the, follows_starts, follows_yields, follows_or, head_is, tail_is}
+use Rattle.sync_parse_forms.specs.Fronts.{code, front, front_of, Set, any, only, both, others}
+use Rattle.sync_parse_forms.proofs.Clears.{In, only_in, among_in, both_in, others_in, others_first, not_both, Starts, starts_then, starts_the, follows_starts, follows_yields, follows_or, head_is, tail_is}
 use Rattle.sync_parse_grammar.proofs.ExpressionsSound.{Table, whole_is, or_table, and_table, sum_table, relation_table}
 use Rattle.sync_parse_grammar.proofs.ExpressionsClear.{Inner, operands, begins, times_sign, sum_signs, relation_signs, and_signs, or_signs, operators, relations, relations_in, starts_operand, starts_whole, number_alone, nested_inner, starts_nested, sum_fork, relation_fork, joins_fork, no_operator, implies_follows, follows_chain_case}
 use Rattle.sync_parse_grammar.proofs.Counting.{silent_nested, silent_expr}

@@ -20,9 +20,9 @@ use Rattle.sync_parse_exprs.specs.declared.expressions.Operator.{Operator}
 use Rattle.sync_parse_exprs.specs.declared.expressions.Operator.TheVariants as operator
 use Rattle.sync_parse_exprs.specs.Terminals.{Read, Reader, first_line}
 use Rattle.sync_parse_exprs.specs.Expressions.{placed, whole, special_of, function_of, relation_of, sum_of, and_of, or_of, factor_of, begins_operand, terminal_operand, sign_operand, operand_said, operand, prefixed, unary_with, unary, times, product, chain, chained, sums, related, relation, ands, ors, implied, implies, inside, expr_at, exprs_at}
-use Rattle.sync_parse_grammar.specs.Relations.{Spelled, The, Yields, ◌>>=◌, Either, the_one, the_other}
+use Rattle.sync_parse_forms.specs.Relations.{Spelled, The, Yields, ◌>>=◌, Either, the_one, the_other}
 use Rattle.sync_parse_grammar.specs.Expressions.{placed_at, Whole, NoNumber, Operand, Unary, Product, Chain, Chained, Joins, SumSign, Sum, RelationSign, Relation, And, Or, Implied, Nested, AnExpr, Args}
-use Rattle.sync_parse_grammar.proofs.Sounds.{Sound, ok_is, stops, yields, then_sound, began, here, first, second, either, tested, is_the, sign_sound, name_sound, number_sound, one_of, the_sign, round_sound}
+use Rattle.sync_parse_forms.proofs.Sounds.{Sound, ok_is, stops, yields, then_sound, began, here, first, second, either, tested, is_the, sign_sound, name_sound, number_sound, one_of, the_sign, round_sound}
 use denote.Enum.Bare.{same_true}
 
 pub whole_sound : {m : Spelled RawExprKind} {read : Reader RawExprKind} → ((ts : List Terminal) → Sound m ts (read ts)) → (ts : List Terminal) → Sound (Whole m) ts (whole read ts)

@@ -1,8 +1,6 @@
-pub mod Sounds
 pub mod ExpressionsSound
 pub mod ScriptsSound
 pub mod MachinesSound
-pub mod Clears
 pub mod ExpressionsClear
 pub mod ScriptsClear
 pub mod MachinesClear

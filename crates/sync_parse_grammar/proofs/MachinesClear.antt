@@ -13,11 +13,12 @@ use Rattle.sync_parse.specs.declared.trees.RawOperation.{RawOperation}
 use Rattle.sync_parse.specs.declared.trees.RawAct.{RawAct}
 use Rattle.sync_parse.specs.declared.trees.RawAct.TheVariants as act
 use Rattle.sync_parse.specs.declared.trees.RawPlace.{RawPlace}
-use Rattle.sync_parse_grammar.specs.Relations.{Spelled, Then, Closed, Many}
+use Rattle.sync_parse_forms.specs.Relations.{Spelled, Then, Closed, Many}
 use Rattle.sync_parse_grammar.specs.Expressions.{AnExpr}
 use Rattle.sync_parse_grammar.specs.Machines.{Pattern, Place, FormulaAct, ValueAct, FieldPlace, PlaceAct, HaveAct, ActKind, Act, Field, Mode, Operation, Invariant, Machine, Claim, Proof, Proofs}
 use Rattle.sync_parse_grammar.specs.Texts.{Version, Text, Spells}
-use Rattle.sync_parse_grammar.proofs.Clears.{code, Set, any, only, among, both, others, In, only_in, among_in, both_in, same_in, any_in, Starts, Follows, Clear, Fork, lone, fork_or, starts_then, starts_here, starts_the, starts_name, follows_starts, follows_yields, follows_or, follows_then, follows_many, clear_the, clear_name, clear_number, clear_strategy, clear_yields, clear_here, clear_then, clear_next, clear_optional, clear_many, clear_closed, clear_names}
+use Rattle.sync_parse_forms.specs.Fronts.{code, Set, any, only, among, both, others}
+use Rattle.sync_parse_forms.proofs.Clears.{In, only_in, among_in, both_in, same_in, any_in, Starts, Follows, Clear, Fork, lone, fork_or, starts_then, starts_here, starts_the, starts_name, follows_starts, follows_yields, follows_or, follows_then, follows_many, clear_the, clear_name, clear_number, clear_strategy, clear_yields, clear_here, clear_then, clear_next, clear_optional, clear_many, clear_closed, clear_names}
 use Rattle.sync_parse_grammar.proofs.ExpressionsClear.{operators, begins, clear_expr, starts_expr}
 use Rattle.sync_parse_grammar.proofs.ScriptsClear.{clear_script}
 

@@ -34,12 +34,13 @@ use Rattle.sync_parse.specs.declared.trees.RawInvariant.{RawInvariant}
 use Rattle.sync_parse_exprs.specs.Terminals.{Read, Reader, begins_with, sign_at, number_at}
 use Rattle.sync_parse.specs.Faults.{refusal_of, refused}
 use Rattle.sync_parse.specs.Machines.{pattern_at, keyed, place_at, closed_expr, closed_place, formula_act, value_act, field_place, place_act, have_act, act_kind, act_at, acts, field_at, fields, mode_of, mode_said, mode_at, operation_at, begins_operation, operations, invariant_at, invariants, machine_at, claim_at, proof_at, proof_row, proofs_at, version_at, at_end, text_of, parsed}
-use Rattle.sync_parse_grammar.specs.Relations.{Spelled, The, ANumber, Yields, Then, ◌>>=◌, Either, the_one, the_other, Closed}
+use Rattle.sync_parse_forms.specs.Relations.{Spelled, The, ANumber, Yields, Then, ◌>>=◌, Either, the_one, the_other, Closed}
 use Rattle.sync_parse_grammar.specs.Expressions.{AnExpr}
 use Rattle.sync_parse_grammar.specs.Scripts.{Script}
 use Rattle.sync_parse_grammar.specs.Machines.{Pattern, Place, FormulaAct, ValueAct, FieldPlace, PlaceAct, HaveAct, ActKind, Act, Field, Mode, Operation, Invariant, Machine, Claim, Proof, Proofs}
 use Rattle.sync_parse_grammar.specs.Texts.{Version, Text, IsVersionOne, Spells, MayRefuse, IsOfVersionOne, MayRefuseVersionOne}
-use Rattle.sync_parse_grammar.proofs.Clears.{code, front, Set, any, only, among, others, In, only_in, among_in, same_in, Starts, Follows, starts_then, starts_or, starts_the, follows_starts, follows_then, follows_yields, follows_or, tail_is, follows_any}
+use Rattle.sync_parse_forms.specs.Fronts.{code, front, Set, any, only, among, others}
+use Rattle.sync_parse_forms.proofs.Clears.{In, only_in, among_in, same_in, Starts, Follows, starts_then, starts_or, starts_the, follows_starts, follows_then, follows_yields, follows_or, tail_is, follows_any}
 use Rattle.sync_parse_grammar.proofs.ExpressionsClear.{operators, operands, starts_expr}
 use Rattle.sync_parse_grammar.proofs.MachinesSound.{text_sound, read_terminals}
 use Rattle.sync_parse_grammar.proofs.MachinesClear.{formula_fork, value_fork, place_fork, have_fork, starts_act, field_fork, modes, operation_fork, invariant_fork, proof_fork, behind_operations, behind_fields, invariants_follow, operations_follow, terminals_are, weaker}

@@ -22,11 +22,11 @@ use Rattle.sync_parse.specs.declared.trees.RawPlace.TheVariants as place
 use Rattle.sync_parse_exprs.specs.Terminals.{Read, begins_with, goes_on}
 use Rattle.sync_parse.specs.Faults.{refused}
 use Rattle.sync_parse.specs.Machines.{pattern_at, keyed, place_at, closed_expr, closed_place, formula_act, value_act, field_place, place_act, have_act, act_kind, act_at, acts, field_at, fields, mode_of, mode_said, mode_at, operation_at, begins_operation, operations, invariant_at, invariants, machine_at, claim_at, proof_at, proof_row, proofs_at, version_at, at_end, text_of, parsed}
-use Rattle.sync_parse_grammar.specs.Relations.{Spelled, The, Yields, Then, ◌>>=◌, ◌>>◌, Either, Closed}
+use Rattle.sync_parse_forms.specs.Relations.{Spelled, The, Yields, Then, ◌>>=◌, ◌>>◌, Either, Closed}
 use Rattle.sync_parse_grammar.specs.Expressions.{AnExpr}
 use Rattle.sync_parse_grammar.specs.Machines.{Pattern, Place, FormulaAct, ValueAct, FieldPlace, PlaceAct, HaveAct, ActKind, Act, Field, Mode, Operation, Invariant, Machine, Claim, Proof, Proofs}
 use Rattle.sync_parse_grammar.specs.Texts.{Version, Text, Spells}
-use Rattle.sync_parse_grammar.proofs.Sounds.{Sound, ok_is, stops, yields, then_sound, began, here, first, second, either, is_the, the_sign, sign_sound, name_sound, number_sound, strategy_sound, row_sound, names_sound}
+use Rattle.sync_parse_forms.proofs.Sounds.{Sound, ok_is, stops, yields, then_sound, began, here, first, second, either, is_the, the_sign, sign_sound, name_sound, number_sound, strategy_sound, row_sound, names_sound}
 use Rattle.sync_parse_grammar.proofs.ExpressionsSound.{expr_sound}
 use Rattle.sync_parse_grammar.proofs.ScriptsSound.{refuse_sound, script_sound}
 

@@ -9,7 +9,7 @@ use Rattle.sync_parse_exprs.specs.declared.expressions.Operator.TheVariants as o
 use Rattle.sync_lex.specs.declared.signs.Sign.TheVariants as sign
 use Rattle.sync_parse_exprs.specs.Expressions.{signed}
 use Rattle.sync_parse_exprs.specs.Terminals.{first_line}
-use Rattle.sync_parse_grammar.specs.Relations.{Spelled, Yields, ◌>>=◌, Either, the_one, the_other}
+use Rattle.sync_parse_forms.specs.Relations.{Spelled, Yields, ◌>>=◌, Either, the_one, the_other}
 use Rattle.sync_parse_grammar.specs.Expressions.{placed_at, Whole, NoNumber, Operand, Unary, Product, Chain, Chained, Joins, SumSign, Sum, RelationSign, Relation, And, Or, Implied}
 use Rattle.sync_parse_grammar.specs.Shallow.{Depth, flat, with_both, Run, signs, sums, ands, ors, implications, only, Extent, extent, expr_depth}
 use Rattle.sync_parse_grammar.proofs.Depths.{Fits, both_first, both_second, fits_both, fits_run, run_fits, run_small, fits_is, FitsKind, FitsExpr, fits_placed, placed_fits, IsSingle, IsLonger, of_number, of_name, of_param, of_nil, of_special, of_bracketed, of_call, of_not, of_minus, of_times, of_two, run_of, run_placed}

@@ -11,10 +11,11 @@ use Rattle.sync_parse.specs.declared.scripts.RawBlock.{RawBlock}
 use Rattle.sync_parse.specs.declared.scripts.RawStepKind.{RawStepKind}
 use Rattle.sync_parse.specs.declared.scripts.RawStepKind.TheVariants as step
 use Rattle.sync_parse.specs.Scripts.{bounded_of}
-use Rattle.sync_parse_grammar.specs.Relations.{Spelled, Then}
+use Rattle.sync_parse_forms.specs.Relations.{Spelled, Then}
 use Rattle.sync_parse_grammar.specs.Expressions.{AnExpr}
 use Rattle.sync_parse_grammar.specs.Scripts.{ASubject, Hyp, Scaled, Part, As, Same, Sum, Inst, Parts, Lookup, Cong, Split, Cut, StepKind, Step, BlockOf, Nested, Block, Script}
-use Rattle.sync_parse_grammar.proofs.Clears.{code, Set, any, only, among, both, others, In, only_in, same_in, any_in, Starts, Clear, Fork, lone, fork_or, starts_then, starts_here, starts_the, starts_name, starts_number, follows_starts, clear_the, clear_name, clear_number, clear_one_of, clear_yields, clear_here, clear_then, clear_next, clear_many, clear_series}
+use Rattle.sync_parse_forms.specs.Fronts.{code, Set, any, only, among, both, others}
+use Rattle.sync_parse_forms.proofs.Clears.{In, only_in, same_in, any_in, Starts, Clear, Fork, lone, fork_or, starts_then, starts_here, starts_the, starts_name, starts_number, follows_starts, clear_the, clear_name, clear_number, clear_one_of, clear_yields, clear_here, clear_then, clear_next, clear_many, clear_series}
 use Rattle.sync_parse_grammar.proofs.ExpressionsClear.{operators, row, starts_table, clear_expr, clear_args}
 
 -- an expression, where what comes next begins with no operator

@@ -18,10 +18,11 @@ use Rattle.sync_parse.specs.declared.scripts.RawStepKind.TheVariants as step
 use Rattle.sync_parse_exprs.specs.Terminals.{Read, Reader, first_line}
 use Rattle.sync_parse_exprs.specs.Expressions.{expr_at}
 use Rattle.sync_parse.specs.Scripts.{subject_terminal, subject_said, subject_at, hyp_at, as_name, scaled, part_at, same_step, sum_step, inst_step, parts_step, lookup_step, cong_step, blockless_step, split_step, cut_step, step_kind, step_at, steps, block_with, nested, block_at, script_at}
-use Rattle.sync_parse_grammar.specs.Relations.{Spelled, Then, the_one, the_other}
+use Rattle.sync_parse_forms.specs.Relations.{Spelled, Then, the_one, the_other}
 use Rattle.sync_parse_grammar.specs.Expressions.{AnExpr}
 use Rattle.sync_parse_grammar.specs.Scripts.{ASubject, Hyp, Scaled, Part, As, Same, Sum, Inst, Parts, Lookup, Cong, Split, Cut, StepKind, Step, BlockOf, Nested, Block, Script}
-use Rattle.sync_parse_grammar.proofs.Clears.{code, front, Set, any, only, both, others, all_of, In, only_in, both_in, same_in, any_in, Starts, Clear, starts_then, starts_or, starts_the, starts_name, follows_starts, tail_is, head_is}
+use Rattle.sync_parse_forms.specs.Fronts.{code, front, Set, any, only, both, others, all_of}
+use Rattle.sync_parse_forms.proofs.Clears.{In, only_in, both_in, same_in, any_in, Starts, Clear, starts_then, starts_or, starts_the, starts_name, follows_starts, tail_is, head_is}
 use Rattle.sync_parse_grammar.proofs.ExpressionsClear.{operators}
 use Rattle.sync_parse_grammar.proofs.ScriptsClear.{starts_as, scaled_fork, same_fork, sum_fork, inst_fork, parts_fork, lookup_fork, cong_fork, split_fork, cut_fork, starts_step, clear_nested}
 use Rattle.sync_parse_grammar.proofs.Counting.{Silent, silent_part, silent_step, silent_nested_block}

@@ -13,9 +13,9 @@ use Rattle.sync_parse.specs.declared.scripts.RawStepKind.{RawStepKind}
 use Rattle.sync_parse.specs.declared.scripts.RawStepKind.TheVariants as step
 use Rattle.sync_parse_exprs.specs.Terminals.{Reader, begins_with, goes_on}
 use Rattle.sync_parse.specs.Scripts.{bounded_of, subject_terminal, subject_said, subject_at, hyp_at, as_name, scaled, part_at, wanted_other, same_step, sum_step, inst_step, parts_step, lookup_step, cong_step, blockless_step, split_step, cut_step, step_kind, step_at, steps, block_with, nested, block_at, script_at}
-use Rattle.sync_parse_grammar.specs.Relations.{Spelled}
+use Rattle.sync_parse_forms.specs.Relations.{Spelled}
 use Rattle.sync_parse_grammar.specs.Scripts.{ASubject, Hyp, Scaled, Part, As, Same, Sum, Inst, Parts, Lookup, Cong, Split, Cut, StepKind, Step, BlockOf, Nested, Block, Script}
-use Rattle.sync_parse_grammar.proofs.Sounds.{Sound, stops, yields, then_sound, began, here, first, second, either, sign_sound, name_sound, number_sound, one_of, row_sound, series_sound}
+use Rattle.sync_parse_forms.proofs.Sounds.{Sound, stops, yields, then_sound, began, here, first, second, either, sign_sound, name_sound, number_sound, one_of, row_sound, series_sound}
 use Rattle.sync_parse_grammar.proofs.ExpressionsSound.{expr_sound, exprs_sound}
 
 pub refuse_sound : {A : Type 0} {m : Spelled A} (ts : List Terminal) → Sound m ts (wanted_other ts)

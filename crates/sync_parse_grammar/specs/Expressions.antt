@@ -11,7 +11,7 @@ use Rattle.sync_parse_exprs.specs.declared.expressions.Operator.{Operator}
 use Rattle.sync_parse_exprs.specs.declared.expressions.Operator.TheVariants as operator
 use Rattle.sync_parse_exprs.specs.Terminals.{first_line}
 use Rattle.sync_parse_exprs.specs.Expressions.{signed, placed, special_of, function_of}
-use Rattle.sync_parse_grammar.specs.Relations.{Spelled, The, AName, ANumber, OneOf, Yields, Here, ◌>>=◌, ◌>>◌, ◌or◌, InRound}
+use Rattle.sync_parse_forms.specs.Relations.{Spelled, The, AName, ANumber, OneOf, Yields, Here, ◌>>=◌, ◌>>◌, ◌or◌, InRound}
 
 -- an expression of this kind that begins with these terminals
 abbrev pub placed_at : RawExprKind → List Terminal → RawExpr

@@ -1,4 +1,3 @@
-pub mod Relations
 pub mod Expressions
 pub mod Scripts
 pub mod Machines

@@ -22,7 +22,7 @@ use Rattle.sync_parse.specs.declared.trees.RawClaim.{RawClaim}
 use Rattle.sync_parse.specs.declared.trees.RawClaim.TheVariants as claim
 use Rattle.sync_parse_exprs.specs.Terminals.{first_line}
 use Rattle.sync_parse.specs.Scripts.{statement_number}
-use Rattle.sync_parse_grammar.specs.Relations.{Spelled, The, AName, ANumber, AStrategy, Yields, Here, ◌>>=◌, ◌>>◌, ◌or◌, Closed, Many, Names}
+use Rattle.sync_parse_forms.specs.Relations.{Spelled, The, AName, ANumber, AStrategy, Yields, Here, ◌>>=◌, ◌>>◌, ◌or◌, Closed, Many, Names}
 use Rattle.sync_parse_grammar.specs.Expressions.{AnExpr}
 use Rattle.sync_parse_grammar.specs.Scripts.{Script}
 

@@ -17,7 +17,7 @@ use Rattle.sync_parse.specs.declared.scripts.RawStepKind.{RawStepKind}
 use Rattle.sync_parse.specs.declared.scripts.RawStepKind.TheVariants as step
 use Rattle.sync_parse_exprs.specs.Terminals.{first_line}
 use Rattle.sync_parse.specs.Scripts.{statement_number, bounded_of, times_of}
-use Rattle.sync_parse_grammar.specs.Relations.{Spelled, The, AName, ANumber, OneOf, Yields, Here, ◌>>=◌, ◌>>◌, ◌or◌, Many, Series}
+use Rattle.sync_parse_forms.specs.Relations.{Spelled, The, AName, ANumber, OneOf, Yields, Here, ◌>>=◌, ◌>>◌, ◌or◌, Many, Series}
 use Rattle.sync_parse_grammar.specs.Expressions.{AnExpr, Args}
 
 -- NAME | "old" | "new" | "wrap"

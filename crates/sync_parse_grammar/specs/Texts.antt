@@ -12,7 +12,7 @@ use Rattle.sync_lex.specs.Terminals.{is_sign, terminals_in}
 use Rattle.sync_parse.specs.declared.trees.RawText.{RawText}
 use Rattle.sync_parse.specs.declared.trees.RawMachine.{RawMachine}
 use Rattle.sync_parse.specs.declared.trees.RawProof.{RawProof}
-use Rattle.sync_parse_grammar.specs.Relations.{Spelled, The, ANumber, Yields, ◌>>=◌, ◌>>◌}
+use Rattle.sync_parse_forms.specs.Relations.{Spelled, The, ANumber, Yields, ◌>>=◌, ◌>>◌}
 use Rattle.sync_parse_grammar.specs.Machines.{Machine, Proofs}
 use Rattle.sync_parse_grammar.specs.Shallow.{IsShallow}
 

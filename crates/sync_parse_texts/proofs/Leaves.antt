@@ -9,14 +9,11 @@ use Rattle.sync_parse_forms.specs.Relations as forms
 use Rattle.sync_parse_forms.specs.Fronts.{Set, code, among, all_of}
 use Rattle.sync_parse_forms.proofs.Counting.{one_shorter}
 use Rattle.sync_parse_forms.proofs.Forms.{Form}
-use Rattle.sync_parse_forms.proofs.Sounds as new_sounds
-use Rattle.sync_parse_forms.proofs.Clears as new_clears
 use Rattle.sync_parse_forms.proofs.Completes as new_completes
 use Rattle.sync_parse_forms.proofs.Bundle.{IsForm}
 use Rattle.sync_parse_forms.proofs.Coded.{from_laws}
 use Rattle.sync_parse_grammar.specs.Scripts.{Script}
-use Rattle.sync_parse_grammar.proofs.Sounds.{Sound}
-use Rattle.sync_parse_grammar.proofs.Clears.{Clear, Starts, starts_then, starts_the, starts_weaker}
+use Rattle.sync_parse_forms.proofs.Clears.{Starts, starts_then, starts_the, starts_weaker}
 use Rattle.sync_parse_grammar.proofs.Completes.{Complete, Met, Shrinks}
 use Rattle.sync_parse_grammar.proofs.Counting.{silent_block}
 use Rattle.sync_parse_grammar.proofs.ExpressionsSound.{expr_sound}
@@ -37,17 +34,8 @@ excused (Err fault.Ended) x h = absurd h.is.0
 excused (Err (fault.Wanted line)) x h = absurd h.is.0
 excused (Err (fault.Unbuilt line)) x h = absurd h.is.0
 
-sound : {A : Type 0} {m : forms.Spelled A} {ts : List Terminal} {r : Read A} → Sound m ts r → new_sounds.Sound m ts r
-sound h = record { holds = h.holds }
-
 complete : {A : Type 0} {q : Set} {m : forms.Spelled A} {S : A → Type 0} {ts : List Terminal} (r : Read A) → Complete q m S ts r → new_completes.Complete q m ts r
 complete r h = record { at = λ x rest d e. excused r (x, rest) (h.at x rest d e) }
-
-clear : {A : Type 0} {q : Set} {m n : forms.Spelled A} → Clear q m n → new_clears.Clear q m n
-clear h = record { at = h.at }
-
-starts : {A : Type 0} {m : forms.Spelled A} {p : Set} → Starts m p → new_clears.Starts m p
-starts h = record { at = h.at }
 
 shrinks : {A : Type 0} {m : forms.Spelled A} → Shrinks m → new_completes.Shrinks m
 shrinks h = record { at = h.at }
@@ -70,6 +58,6 @@ abbrev pub known_form : (X : Type 0) → Known X → Form X
 known_form X c = record { spelled = known_spelled X c; read = known_read X c }
 
 pub known_law : {s : Bool} (X : Type 0) (c : Known X) (n : ℕ) (q : List ℕ) → all_of (known_follow X c) q ≡ true → IsForm s n true (known_first X c) q (known_form X c) (known_form X c)
-known_law X an_expr n q h = from_laws (known_form X an_expr) (known_first X an_expr) (known_follow X an_expr) (λ left ts. sound (expr_sound left ts)) (λ left ts. complete _ (complete_expr left ts)) (clear clear_expr) (starts starts_expr) (shrinks shrinks_expr) q h
-known_law X a_script n q h = from_laws (known_form X a_script) (known_first X a_script) (known_follow X a_script) (λ left ts. sound (script_sound left ts)) (λ left ts. complete _ (complete_script left ts)) (clear clear_script) (starts script_starts)
+known_law X an_expr n q h = from_laws (known_form X an_expr) (known_first X an_expr) (known_follow X an_expr) (λ left ts. expr_sound left ts) (λ left ts. complete _ (complete_expr left ts)) clear_expr starts_expr (shrinks shrinks_expr) q h
+known_law X a_script n q h = from_laws (known_form X a_script) (known_first X a_script) (known_follow X a_script) (λ left ts. script_sound left ts) (λ left ts. complete _ (complete_script left ts)) clear_script script_starts
     (record { at = script_shrinks }) q h

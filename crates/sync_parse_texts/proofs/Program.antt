@@ -8,9 +8,10 @@ use Rattle.sync_parse_exprs.specs.Terminals.{Read}
 use Rattle.sync_parse_forms.specs.Deciding.{decided, first, solid}
 use Rattle.sync_parse_forms.proofs.Bundle.{IsForm}
 use Rattle.sync_parse_forms.proofs.Completes.{Met, Complete}
-use Rattle.sync_parse_grammar.specs.Relations.{Spelled}
-use Rattle.sync_parse_grammar.proofs.Sounds.{Sound}
-use Rattle.sync_parse_grammar.proofs.Clears.{code, Set, among, Clear, Follows}
+use Rattle.sync_parse_forms.specs.Relations.{Spelled}
+use Rattle.sync_parse_forms.proofs.Sounds.{Sound}
+use Rattle.sync_parse_forms.specs.Fronts.{code, Set, among}
+use Rattle.sync_parse_forms.proofs.Clears.{Clear, Follows}
 use Rattle.sync_parse_grammar.proofs.Completes as grammar
 use Rattle.sync_parse_programs.specs.Programs.{program, read}
 use Rattle.sync_parse_programs.specs.Begun.{begun, begins_statement, behind_statement}
@@ -39,14 +40,14 @@ part_known : {s : Bool} {n : ℕ} → IsForm s n (solid program_part) (first beg
 part_known = known program_part (0 ∷ []) part_decided
 
 pub part_sound : (left : ℕ) (ts : List Terminal) → Sound (Spells program_part) ts (read program_part left ts)
-part_sound left ts = record { holds = ((part_known {s = true} {n = 0}).sound tt left ts).holds }
+part_sound = (part_known {s = true} {n = 0}).sound tt
 
 pub part_clear : Clear at_end (Spells program_part) (Spells program_part)
-part_clear = record { at = (part_known {s = true} {n = 0}).clear.at }
+part_clear = (part_known {s = true} {n = 0}).clear
 
 pub part_follows : Follows at_end behind_proofs (Spells program_part)
 unfolding program_part program
-part_follows = record { at = (part_known {s = true} {n = 0}).edge.follows.at }
+part_follows = (part_known {s = true} {n = 0}).edge.follows
 
 pub part_complete : (ts : List Terminal) → Complete at_end (Spells program_part) ts (read program_part 65 ts)
 part_complete ts = record { at = ((part_known {s = true} {n = 66}).complete 65 (omega arith) ts).at }

@@ -7,22 +7,23 @@ use Rattle.sync_parse_exprs.specs.declared.faults.Fault.{Fault}
 use Rattle.sync_parse_exprs.specs.Terminals.{Read}
 use Rattle.sync_parse.specs.Machines.{version_at}
 use Rattle.sync_parse_forms.proofs.Completes.{Met, Complete}
-use Rattle.sync_parse_grammar.specs.Relations.{Spelled, Then, Yields}
+use Rattle.sync_parse_forms.specs.Relations.{Spelled, Then, Yields}
 use Rattle.sync_parse_grammar.specs.Texts.{Version, IsVersionOne}
-use Rattle.sync_parse_grammar.proofs.Sounds.{ok_is, sign_sound}
+use Rattle.sync_parse_forms.proofs.Sounds.{ok_is, sign_sound}
 use Rattle.sync_parse_grammar.proofs.MachinesSound.{Whole, whole_then, version_sound, machine_sound, proofs_sound}
-use Rattle.sync_parse_grammar.proofs.Clears.{code, Set, any, only, others, In, among_in, only_in, same_in, follows_then, follows_yields, follows_any, Follows, Clear, clear_next, clear_then, clear_the, clear_yields}
+use Rattle.sync_parse_forms.specs.Fronts.{code, Set, any, only, others}
+use Rattle.sync_parse_forms.proofs.Clears.{In, among_in, only_in, same_in, follows_then, follows_yields, follows_any, Follows, Clear, clear_next, clear_then, clear_the, clear_yields}
 use Rattle.sync_parse_grammar.proofs.MachinesClear.{clear_version, clear_machine, clear_proofs}
 use Rattle.sync_parse_grammar.proofs.Completes as grammar
 use Rattle.sync_parse_grammar.proofs.Completes.{complete_the}
 use Rattle.sync_parse_grammar.proofs.MachinesComplete.{complete_machine, complete_proofs, Stopped, read_behind}
-use Rattle.sync_parse_texts.specs.Texts.{Sections, ended, sections_of}
+use Rattle.sync_parse_texts.specs.Texts.{Sections, nothing_behind, sections_of}
 use Rattle.sync_parse_texts.specs.Spelled.{WholeText}
 use Rattle.sync_parse_texts.proofs.Program.{at_end, behind_proofs, part_sound, part_clear, part_follows, part_complete, met, complete, IsRead, met_read}
 
 -- ---- what is read is spelled
 
-all_read : {A : Type 0} (x : A) (ts : List Terminal) → Whole (Yields x) ts (ended x ts)
+all_read : {A : Type 0} (x : A) (ts : List Terminal) → Whole (Yields x) ts (nothing_behind x ts)
 all_read x [] = record { holds = λ y e. record { none = refl; is = sym (ok_is e) } }
 all_read x (w ∷ ws) = record { holds = λ y e. absurd cc }
 
@@ -65,7 +66,7 @@ ends_then : {A B : Type 0} {m : Spelled A} {ts : List Terminal} {r : Read A} {g 
     → Complete p m ts r → ((v : A × List Terminal) → Ends (g v.0) v.1 (f v)) → ((x : A) → Follows (only 0) p (g x)) → Ends (Then m g) ts (outcome.◌>>=◌ r f)
 ends_then {r = r} p one next follows = record { at = ends_case r one next follows }
 
-all_spelled : {A : Type 0} (x : A) (ts : List Terminal) → Ends (Yields x) ts (ended x ts)
+all_spelled : {A : Type 0} (x : A) (ts : List Terminal) → Ends (Yields x) ts (nothing_behind x ts)
 all_spelled x [] = record { at = λ y d. record { is = sym d.is } }
 all_spelled x (w ∷ ws) = record { at = λ y d. let e : ◌≡◌ {A = List Terminal} (w ∷ ws) [] = d.none in absurd cc }
 

@@ -6,7 +6,7 @@ use Rattle.sync_base.specs.declared.stops.Rule.TheVariants as rule
 use Rattle.sync_lex.specs.declared.signs.Sign.TheVariants as sign
 use Rattle.sync_lex.specs.declared.terminals.Terminals.{Terminals}
 use Rattle.sync_lex.specs.Terminals.{terminals_in}
-use Rattle.sync_parse_grammar.specs.Relations.{Spelled, The, Yields, ◌>>=◌, ◌>>◌}
+use Rattle.sync_parse_forms.specs.Relations.{Spelled, The, Yields, ◌>>=◌, ◌>>◌}
 use Rattle.sync_parse_grammar.specs.Machines.{Machine, Proofs}
 use Rattle.sync_parse_grammar.specs.Texts.{Version}
 use Rattle.sync_parse_texts.specs.SpelledPrograms as programs

@@ -26,9 +26,9 @@ abbrev pub Sections : Type 0
 Sections = RawMachine × (List RawProof × Option RawProgram)
 
 -- nothing stands behind it
-abbrev pub ended : {A : Type 0} → A → List Terminal → Result A Fault
-ended x [] = Ok x
-ended x (w ∷ ws) = Err (Wanted w.line)
+abbrev pub nothing_behind : {A : Type 0} → A → List Terminal → Result A Fault
+nothing_behind x [] = Ok x
+nothing_behind x (w ∷ ws) = Err (Wanted w.line)
 
 -- text = "version" NUMBER ";" machine [proofs] [program], where all levels are left
 unfoldable pub sections_of : List Terminal → Result Sections Fault
@@ -38,7 +38,7 @@ sections_of ts = do
   m ← machine_at levels s.1
   ps ← proofs_at levels m.1
   p ← read program_part levels ps.1
-  ended (m.0, (ps.0, p.0)) p.1
+  nothing_behind (m.0, (ps.0, p.0)) p.1
 
 -- the raw tree that a text spells, or the first rule L, else the first rule G, that it breaks
 unfoldable pub whole_text : List ℕ → Result RawWholeText Refusal

@@ -11,7 +11,7 @@ use Rattle.sync_parse.specs.declared.trees.RawAct.TheVariants as raw
 use Rattle.sync_parse.specs.declared.trees.RawPlace.{RawPlace}
 use Rattle.sync_parse.specs.declared.trees.RawPlace.TheVariants as raw_place
 use Rattle.sync_parse.specs.declared.trees.RawPattern.TheVariants as raw_pattern
-use Rattle.sync_parse_grammar.specs.Relations.{Spelled, the_one, the_other, Closed}
+use Rattle.sync_parse_forms.specs.Relations.{Spelled, the_one, the_other, Closed}
 use Rattle.sync_parse_grammar.specs.Machines.{Pattern, Place, FormulaAct, ValueAct, FieldPlace, PlaceAct, HaveAct, ActKind, Act}
 use Rattle.sync_print.specs.Exprs.{Plain, plain}
 use Rattle.sync_print.specs.Texts.{PlainPattern, bind, term, PlainPlace, value, key, entry, PlainAct, init, require, assert, update, have_variable, have, guard, add, deposit, remove, withdraw, plain_pattern, plain_place, plain_act_kind, plain_act}

@@ -12,7 +12,7 @@ use Rattle.sync_parse.specs.declared.trees.RawAct.TheVariants as raw
 use Rattle.sync_parse.specs.declared.trees.RawPlace.{RawPlace}
 use Rattle.sync_parse.specs.declared.trees.RawPlace.TheVariants as raw_place
 use Rattle.sync_parse.specs.declared.trees.RawPattern.{RawPattern}
-use Rattle.sync_parse_grammar.specs.Relations.{Yields, Either, The, ◌>>=◌, ◌>>◌, Closed, the_one, the_other}
+use Rattle.sync_parse_forms.specs.Relations.{Yields, Either, The, ◌>>=◌, ◌>>◌, Closed, the_one, the_other}
 use Rattle.sync_parse_grammar.specs.Machines.{Pattern, Place, FormulaAct, ValueAct, FieldPlace, PlaceAct, HaveAct, ActKind, Act}
 use Rattle.sync_print.specs.Exprs.{plain}
 use Rattle.sync_print.specs.Texts.{PlainAct, plain_pattern, plain_place, plain_act_kind, plain_act}

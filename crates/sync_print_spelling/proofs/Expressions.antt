@@ -11,7 +11,7 @@ use Rattle.sync_parse_exprs.specs.declared.expressions.Special.{Special}
 use Rattle.sync_parse_exprs.specs.declared.expressions.Function.{Function}
 use Rattle.sync_parse_exprs.specs.declared.expressions.Operator.{Operator}
 use Rattle.sync_parse_exprs.specs.declared.expressions.Operator.TheVariants as operator
-use Rattle.sync_parse_grammar.specs.Relations.{Spelled, The, the_one, the_other, Many, nothing, more as another, Series, Listed, ◌>>◌}
+use Rattle.sync_parse_forms.specs.Relations.{Spelled, The, the_one, the_other, Many, nothing, more as another, Series, Listed, ◌>>◌}
 use Rattle.sync_parse_grammar.specs.Expressions.{placed_at, Whole, Unary, SumSign, RelationSign, Implied, Nested, AnExpr}
 use Rattle.sync_print.specs.Exprs.{implies, either, both, equal, at_most, below, plus, minus, Plain, number, name, param, nil, special, call, negation, times, two, Plains, none, more, joined, plain, plains_of}
 use Rattle.sync_print.specs.Lexemes.{Lexeme, one, one_name, one_number, needed, with_commas, listed}

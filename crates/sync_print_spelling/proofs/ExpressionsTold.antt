@@ -16,7 +16,7 @@ use Rattle.sync_parse_exprs.specs.declared.expressions.Operator.{Operator}
 use Rattle.sync_parse_exprs.specs.declared.expressions.Operator.TheVariants as operator
 use Rattle.sync_parse_exprs.specs.declared.raw_names.RawName.{RawName}
 use Rattle.sync_parse_exprs.specs.Expressions.{signed}
-use Rattle.sync_parse_grammar.specs.Relations.{Spelled, AName, Yields, Either, the_one, the_other, Then}
+use Rattle.sync_parse_forms.specs.Relations.{Spelled, AName, Yields, Either, the_one, the_other, Then}
 use Rattle.sync_parse_grammar.specs.Expressions.{placed_at, Whole, NoNumber, Operand, Unary, operand, negated, minus as minus_before, Product, Chain, ends, goes_on, Chained, Joins, SumSign, Sum, RelationSign, Relation, And, Or, Implied, plain as no_implies, implies as and_implies, Nested, AnExpr, Args}
 use Rattle.sync_print.specs.Exprs.{Joint, implies, either, both as conjunction, equal, at_most, below, plus, minus, Plain, number, name, param, nil, special, call, negation, times, two, Plains, joined, plain, plains_of}
 use Rattle.sync_print.specs.Lexemes.{Lexeme, one, listed}

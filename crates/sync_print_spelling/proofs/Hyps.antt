@@ -10,7 +10,7 @@ use Rattle.sync_parse_exprs.specs.declared.raw_names.RawName.{RawName}
 use Rattle.sync_parse.specs.declared.scripts.RawSubject.TheVariants as raw_subject
 use Rattle.sync_parse.specs.declared.scripts.RawHypName.TheVariants as raw
 use Rattle.sync_parse.specs.Scripts.{statement_number, bounded_of, times_of, last_statement}
-use Rattle.sync_parse_grammar.specs.Relations.{the_one, the_other}
+use Rattle.sync_parse_forms.specs.Relations.{the_one, the_other}
 use Rattle.sync_parse_grammar.specs.Scripts.{ASubject, Hyp, Scaled, Part, As}
 use Rattle.sync_print.specs.Scripts.{PlainSubject, name, special, PlainHyp, denied, label, at, low, high, PlainPart, plain_subject, plain_hyp, plain_part}
 use Rattle.sync_print.specs.Lexemes.{one, one_name, one_number}

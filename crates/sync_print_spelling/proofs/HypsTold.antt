@@ -15,7 +15,7 @@ use Rattle.sync_parse.specs.declared.scripts.RawSubject.{RawSubject}
 use Rattle.sync_parse.specs.declared.scripts.RawHypName.{RawHypName}
 use Rattle.sync_parse.specs.declared.scripts.RawPart.{RawPart}
 use Rattle.sync_parse.specs.Scripts.{statement_number, bounded_of, times_of, last_statement}
-use Rattle.sync_parse_grammar.specs.Relations.{Yields, the_one, the_other}
+use Rattle.sync_parse_forms.specs.Relations.{Yields, the_one, the_other}
 use Rattle.sync_parse_grammar.specs.Scripts.{ASubject, Hyp, Scaled, Part, As}
 use Rattle.sync_print.specs.Scripts.{plain_subject, plain_hyp, plain_part}
 use Rattle.sync_print.specs.Lexemes.{one, one_number}

@@ -9,7 +9,7 @@ use Rattle.sync_parse_exprs.specs.declared.expressions.RawExprKind.TheVariants a
 use Rattle.sync_parse_exprs.specs.declared.expressions.Operator.{Operator}
 use Rattle.sync_parse_exprs.specs.declared.expressions.Operator.TheVariants as operator
 use Rattle.sync_parse_exprs.specs.Expressions.{placed}
-use Rattle.sync_parse_grammar.specs.Relations.{Spelled, The, the_one, the_other}
+use Rattle.sync_parse_forms.specs.Relations.{Spelled, The, the_one, the_other}
 use Rattle.sync_parse_grammar.specs.Expressions.{placed_at, Whole, Unary, Product, Chain, ends, goes_on, Chained, SumSign, Sum, RelationSign, Relation, And, Or, Implied, plain as no_implies, implies as and_implies, Joins}
 use Rattle.sync_print.specs.Exprs.{Plain, joined, plain, plain_kind, plain_at}
 use Rattle.sync_print.specs.Lexemes.{one}

@@ -4,7 +4,7 @@ use Rattle.std.specs.List.{flat_map, All}
 use Rattle.std.proofs.lemmas.List.Elements.{All-head, All-tail}
 use Rattle.sync_lex.specs.declared.signs.Sign.TheVariants as sign
 use Rattle.sync_lex.specs.declared.terminals.Terminal.{Terminal}
-use Rattle.sync_parse_grammar.specs.Relations.{Spelled, The, the_one, the_other, Many, nothing, more, Series, Listed, InRound, ◌>>◌}
+use Rattle.sync_parse_forms.specs.Relations.{Spelled, The, the_one, the_other, Many, nothing, more, Series, Listed, InRound, ◌>>◌}
 use Rattle.sync_print.specs.Lexemes.{Lexeme, one, with_commas, listed}
 use Rattle.sync_print_spelling.specs.Says.{Says, no_more}
 use Rattle.sync_print_spelling.specs.Laws.{Derives, ShownIsDerived}

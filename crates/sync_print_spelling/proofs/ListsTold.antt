@@ -5,7 +5,7 @@ use Rattle.std.proofs.lemmas.List.Elements.{All-nil, All-cons}
 use Rattle.sync_base.specs.declared.names.NameList.{NameList}
 use Rattle.sync_lex.specs.declared.signs.Sign.TheVariants as sign
 use Rattle.sync_lex.specs.declared.terminals.Terminal.{Terminal}
-use Rattle.sync_parse_grammar.specs.Relations.{Spelled, The, Yields, the_one, the_other, Closed, Many, nothing as no_items, more, Series, Listed, InRound, ◌>>◌}
+use Rattle.sync_parse_forms.specs.Relations.{Spelled, The, Yields, the_one, the_other, Closed, Many, nothing as no_items, more, Series, Listed, InRound, ◌>>◌}
 use Rattle.sync_print.specs.Lexemes.{Lexeme, with_commas, listed}
 use Rattle.sync_print_spelling.proofs.Told.{Tells, both, behind, nothing, sign_read, sign_told}
 

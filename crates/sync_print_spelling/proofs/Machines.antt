@@ -11,7 +11,7 @@ use Rattle.sync_base.specs.declared.strategies.OpMode.TheVariants as mode
 use Rattle.sync_parse.specs.declared.scripts.RawScript.{RawScript}
 use Rattle.sync_parse.specs.declared.trees.RawClaim.TheVariants as raw_claim
 use Rattle.sync_parse.specs.Scripts.{statement_number}
-use Rattle.sync_parse_grammar.specs.Relations.{AName, AStrategy, the_one, the_other, Names}
+use Rattle.sync_parse_forms.specs.Relations.{AName, AStrategy, the_one, the_other, Names}
 use Rattle.sync_parse_grammar.specs.Scripts.{Script}
 use Rattle.sync_parse_grammar.specs.Machines.{Field, Mode, Operation, Invariant, Machine, Claim, Proof, Proofs}
 use Rattle.sync_print.specs.Exprs.{Plain}

@@ -14,7 +14,7 @@ use Rattle.sync_parse.specs.declared.trees.RawInvariant.{RawInvariant}
 use Rattle.sync_parse.specs.declared.trees.RawProof.{RawProof}
 use Rattle.sync_parse.specs.declared.trees.RawClaim.{RawClaim}
 use Rattle.sync_parse.specs.Scripts.{statement_number}
-use Rattle.sync_parse_grammar.specs.Relations.{AName, the_one, the_other, Names}
+use Rattle.sync_parse_forms.specs.Relations.{AName, the_one, the_other, Names}
 use Rattle.sync_parse_grammar.specs.Scripts.{Script}
 use Rattle.sync_parse_grammar.specs.Machines.{Field, Mode, Operation, Invariant, Machine, Claim, Proof, Proofs}
 use Rattle.sync_print.specs.Texts.{name_number, plain_field, plain_operation, plain_invariant, plain_machine, plain_claim, plain_proof}

@@ -16,7 +16,7 @@ use Rattle.sync_parse_exprs.specs.declared.expressions.Operator.{Operator}
 use Rattle.sync_parse_exprs.specs.declared.expressions.Operator.TheVariants as operator
 use Rattle.sync_parse_exprs.specs.declared.raw_names.RawName.{RawName}
 use Rattle.sync_parse_exprs.specs.Expressions.{signed}
-use Rattle.sync_parse_grammar.specs.Relations.{Spelled, Yields, ◌>>=◌, Either, the_one, the_other}
+use Rattle.sync_parse_forms.specs.Relations.{Spelled, Yields, ◌>>=◌, Either, the_one, the_other}
 use Rattle.sync_parse_grammar.specs.Expressions.{placed_at, Whole, NoNumber, Operand, Unary, Product, Chain, Chained, Joins, SumSign, Sum, RelationSign, Relation, And, Or, Implied, Nested}
 use Rattle.sync_parse_grammar.proofs.ExpressionsClear.{nested_inner, clear_implied}
 use Rattle.sync_print.specs.Exprs.{implies, either, both, equal, at_most, below, plus, minus, Plain, negation, times, two}

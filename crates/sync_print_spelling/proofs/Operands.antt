@@ -12,7 +12,7 @@ use Rattle.sync_parse_exprs.specs.declared.expressions.Function.{Function}
 use Rattle.sync_parse_exprs.specs.declared.expressions.Function.TheVariants as function
 use Rattle.sync_parse_exprs.specs.declared.raw_names.RawName.{RawName}
 use Rattle.sync_parse_exprs.specs.Expressions.{signed, special_of, function_of}
-use Rattle.sync_parse_grammar.specs.Relations.{Spelled, The, AName, ANumber, the_one, the_other, Listed, InRound}
+use Rattle.sync_parse_forms.specs.Relations.{Spelled, The, AName, ANumber, the_one, the_other, Listed, InRound}
 use Rattle.sync_parse_grammar.specs.Expressions.{placed_at, Whole, NoNumber, Operand, Unary, operand, negated, Product}
 use Rattle.sync_print.specs.Exprs.{Plain, number, name, param, nil, special, call, negation, times, Plains, plain, plains_of}
 use Rattle.sync_print.specs.Lexemes.{one}

@@ -8,7 +8,7 @@ use Rattle.sync_parse.specs.declared.scripts.RawBlock.{roll-RawBlock, fold-roll-
 use Rattle.sync_parse.specs.declared.scripts.RawScriptStep.{RawScriptStep, roll-RawScriptStep, fold-roll-RawScriptStep}
 use Rattle.sync_parse.specs.declared.scripts.RawStepKind.{RawStepKind}
 use Rattle.sync_parse.specs.declared.scripts.RawStepKind.TheVariants as step
-use Rattle.sync_parse_grammar.specs.Relations.{Many, nothing, more, the_one, the_other}
+use Rattle.sync_parse_forms.specs.Relations.{Many, nothing, more, the_one, the_other}
 use Rattle.sync_parse_grammar.specs.Scripts.{Split, Cut, StepKind, Step, BlockOf, Nested, Block}
 use Rattle.sync_print.specs.Exprs.{Plain}
 use Rattle.sync_print.specs.Scripts.{PlainHyp, PlainStep, same, sum, inst, parts, split, cut, read, size, total, cong, PlainBlock, done, first, block_of, plain_step, plain_block, plain_step_kind, plain_in_block, plain_at}

@@ -11,7 +11,7 @@ use Rattle.sync_parse_exprs.specs.declared.expressions.RawExpr.{RawExpr}
 use Rattle.sync_parse.specs.declared.scripts.RawBlock.{RawBlock}
 use Rattle.sync_parse.specs.declared.scripts.RawStepKind.{RawStepKind}
 use Rattle.sync_parse.specs.declared.scripts.RawStepKind.TheVariants as step
-use Rattle.sync_parse_grammar.specs.Relations.{Spelled, Yields, the_one, the_other}
+use Rattle.sync_parse_forms.specs.Relations.{Spelled, Yields, the_one, the_other}
 use Rattle.sync_parse_grammar.specs.Scripts.{Same, Sum, Inst, Parts, Lookup, Cong, Split, Cut, StepKind, Step, BlockOf, Nested, Block}
 use Rattle.sync_print.specs.Exprs.{Plain, plain}
 use Rattle.sync_print.specs.Scripts.{PlainStep, PlainBlock, plain_block, plain_step, block_of}

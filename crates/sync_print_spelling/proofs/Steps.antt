@@ -13,7 +13,7 @@ use Rattle.sync_parse.specs.declared.scripts.RawStepKind.{RawStepKind, fold-RawS
 use Rattle.sync_parse.specs.declared.scripts.RawStepKind.TheOpen.{RawStepKind-F}
 use Rattle.sync_parse.specs.declared.scripts.RawStepKind.TheVariants as step
 use Rattle.sync_parse.specs.declared.scripts.RawStepKind.TheVariants.{rolls-Same, rolls-Sum, rolls-Inst, rolls-Parts, rolls-Split, rolls-Cut, rolls-Read, rolls-Size, rolls-Total, rolls-Cong}
-use Rattle.sync_parse_grammar.specs.Relations.{Spelled, the_one, the_other}
+use Rattle.sync_parse_forms.specs.Relations.{Spelled, the_one, the_other}
 use Rattle.sync_parse_grammar.specs.Expressions.{Args}
 use Rattle.sync_parse_grammar.specs.Scripts.{Same, Sum, Inst, Parts, Lookup, Cong, StepKind}
 use Rattle.sync_print.specs.Exprs.{Plain, plain}

@@ -3,7 +3,7 @@ use Rattle.std.proofs.Common.{◌≡◌, Option, Some, ℕ, List, [], ◌∷◌,
 use Rattle.sync_lex.specs.declared.signs.Sign.{Sign}
 use Rattle.sync_lex.specs.declared.terminals.Terminal.{Terminal}
 use Rattle.sync_parse_exprs.specs.declared.expressions.RawExprKind.{RawExprKind}
-use Rattle.sync_parse_grammar.specs.Relations.{Spelled, The, AName, ANumber, OneOf, Yields, Here, Then}
+use Rattle.sync_parse_forms.specs.Relations.{Spelled, The, AName, ANumber, OneOf, Yields, Here, Then}
 use Rattle.sync_parse_grammar.specs.Expressions.{placed_at, Whole}
 use Rattle.sync_print.specs.Lexemes.{Lexeme, one, one_name, one_number}
 use Rattle.sync_print_spelling.specs.Says.{Says, no_more, one_more}

@@ -11,7 +11,7 @@ use Rattle.sync_lex.specs.declared.terminals.Terminal.{Terminal}
 use Rattle.sync_lex.specs.Strategies.{spelling_of, strategy_of, strategies}
 use Rattle.sync_base.specs.Limits.{largest}
 use Rattle.sync_parse_exprs.specs.declared.raw_names.RawName.{RawName}
-use Rattle.sync_parse_grammar.specs.Relations.{The, AName, ANumber, AStrategy, OneOf, Yields}
+use Rattle.sync_parse_forms.specs.Relations.{The, AName, ANumber, AStrategy, OneOf, Yields}
 use Rattle.sync_print.specs.Lexemes.{Lexeme, a_sign, a_number, a_name, a_strategy, one, one_name, one_number, one_strategy, needed}
 use Rattle.sync_base.specs.Names.{spelling}
 use Rattle.sync_print_spelling.specs.Namings.{names_said, what_name, terminal_names, LexemeFits}

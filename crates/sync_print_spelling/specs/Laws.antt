@@ -8,7 +8,7 @@ use Rattle.sync_lex.specs.declared.terminals.Terminals.{Terminals}
 use Rattle.sync_lex.specs.Terminals.{terminals_in}
 use Rattle.sync_parse.specs.declared.trees.RawText.{RawText}
 use Rattle.sync_parse.specs.Machines.{parsed}
-use Rattle.sync_parse_grammar.specs.Relations.{Spelled}
+use Rattle.sync_parse_forms.specs.Relations.{Spelled}
 use Rattle.sync_parse_grammar.specs.Expressions.{AnExpr}
 use Rattle.sync_parse_grammar.specs.Scripts.{Block}
 use Rattle.sync_parse_grammar.specs.Texts.{Spells}

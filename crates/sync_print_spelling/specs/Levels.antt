@@ -3,7 +3,7 @@ use Rattle.std.specs.Prelude.{◌≡◌, ℕ, Bool, true, false, List, [], ◌++
 use Rattle.sync_lex.specs.declared.signs.Sign.TheVariants as sign
 use Rattle.sync_lex.specs.declared.terminals.Terminal.{Terminal}
 use Rattle.sync_parse_exprs.specs.declared.expressions.RawExprKind.{RawExprKind}
-use Rattle.sync_parse_grammar.specs.Relations.{Spelled}
+use Rattle.sync_parse_forms.specs.Relations.{Spelled}
 use Rattle.sync_parse_grammar.specs.Expressions.{Unary, Product, Sum, Relation, And, Or, Implied, Nested}
 use Rattle.sync_print.specs.Exprs.{equal, Plain, negation, times, two}
 use Rattle.sync_print.specs.Lexemes.{Lexeme, one}
