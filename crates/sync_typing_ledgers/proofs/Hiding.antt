@@ -1,12 +1,12 @@
 -- The newest entries of keys, while entries come and go.
-use Rattle.std.proofs.Common.{rules, ◌≡◌, ℕ, zero, suc, ◌+◌, ◌-◌, ◌<◌, ◌≤◌, Bool, true, false, cond, if◌then◌else◌, List, [], ◌∷◌, ◌++◌, length, drop, map, Option, Some, None, Result, Ok, Err, refl, sym, ap, subst, ◌∙◌, arith}
+use Rattle.std.proofs.Common.{rules, ◌≡◌, ℕ, suc, ◌-◌, ◌<◌, Bool, true, false, cond, if◌then◌else◌, List, [], ◌∷◌, ◌++◌, length, drop, Option, Some, None, Result, Ok, Err, refl, sym, ap, ◌∙◌, arith}
 use Rattle.std.specs.Prelude.{nat_eq, reverse, OnOk, OnErr, IsOk, is_ok}
 use Rattle.std.proofs.lemmas.Bool.{cond-true, cond-false, eqb-true, eq-eqb}
 use Rattle.std.proofs.lemmas.List.{reverse-append}
 use Rattle.sync_typing_ledgers.specs.declared.ledgers.Place.{Place}
 use Rattle.sync_typing_ledgers.specs.declared.ledgers.Step.{Step}
 use Rattle.sync_typing_ledgers.specs.Entries.{Entry, newest, oldest}
-use Rattle.sync_typing_ledgers.specs.Steps.{entry_of, entries_of, HideOlder}
+use Rattle.sync_typing_ledgers.specs.Steps.{entries_of}
 
 pub turned : (xs : List Step) (x : Step) → reverse (xs ++ x ∷ []) ≡ x ∷ reverse xs
 turned xs x = reverse-append xs (x ∷ [])

@@ -1,5 +1,5 @@
 -- Entries under keys, the newest first. A key stands for its newest entry.
-use Rattle.std.specs.Prelude.{ℕ, ◌-◌, Bool, nat_eq, nat_lt, List, [], ◌∷◌, length, drop, Option, Some, None, if◌then◌else◌}
+use Rattle.std.specs.Prelude.{ℕ, ◌-◌, nat_eq, nat_lt, List, [], ◌∷◌, length, drop, Option, Some, None, if◌then◌else◌}
 use Rattle.sync_typing_ledgers.specs.declared.ledgers.Place.{Place}
 use Rattle.sync_typing_ledgers.specs.declared.ledgers.Found.{Found}
 

@@ -47,7 +47,8 @@ impl Model for Ledger {
 
     ghost view = { λ l. record { entries = entries_of (reverse l.steps.items); floor = l.floor } };
 
-    ghost invariant = { λ l. ((k : ℕ) → get nat_eq l.places k ≡ newest k (entries_of (reverse l.steps.items))) × HideOlder (reverse l.steps.items) };
+    ghost invariant = { λ l. ((k : ℕ) → get nat_eq l.places k ≡ newest k (entries_of (reverse l.steps.items)))
+        × HideOlder (reverse l.steps.items) };
 }
 
 impl Ledger {
@@ -91,7 +92,8 @@ impl Ledger {
 
     /// Adds an entry.
     pub fn push(&mut self, key: u32, value: u32) -> Result<(), NoMemory>
-        ensures ok { OnOk result (self.new ≡ record self.old { entries = record { key = key; value = value } ∷ self.old.entries }) }
+        ensures ok { OnOk result (self.new ≡
+            record self.old { entries = record { key = key; value = value } ∷ self.old.entries }) }
         ensures err { OnErr result (self.new ≡ self.old) }
     {
         let at = self.steps.len();

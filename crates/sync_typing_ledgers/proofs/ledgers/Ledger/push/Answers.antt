@@ -1,8 +1,7 @@
-use Rattle.std.proofs.Common.{◌≡◌, ℕ, List, length, cond, nat_eq, Some, sym, ap, subst, ◌∙◌, arith}
+use Rattle.std.proofs.Common.{◌≡◌, ℕ, List, length, cond, nat_eq, Some, sym, subst, ◌∙◌, arith}
 use Rattle.std.specs.Prelude.{reverse}
 use Rattle.std.specs.HashMap.{get}
 use Rattle.std.proofs.lemmas.List.{length-map, length-reverse}
-use Rattle.sync_typing_ledgers.specs.declared.ledgers.Place.{Place}
 use Rattle.sync_typing_ledgers.specs.declared.ledgers.Step.{Step}
 use Rattle.sync_typing_ledgers.specs.Entries.{newest}
 use Rattle.sync_typing_ledgers.specs.Steps.{entry_of, entries_of, HideOlder}
