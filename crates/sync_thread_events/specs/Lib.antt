@@ -1,0 +1,2 @@
+-- What an event of code is, by parts.
+pub mod Steps

@@ -1,0 +1,10 @@
+//! Events of code: the shared step of whoever waits, and what he does up to the next one.
+#![tactic(auto)]
+
+mod asking;
+mod steps;
+mod stores;
+
+pub use asking::asked;
+pub use steps::{SharedStep, Span, Spans, WordStep};
+pub use stores::Store;
