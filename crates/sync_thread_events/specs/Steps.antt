@@ -9,7 +9,7 @@ use Rattle.sync_thread.specs.declared.program.CodeStmt.{CodeStmt, out-CodeStmt}
 use Rattle.sync_thread.specs.declared.program.CodeStmt.TheOpen.{CodeStmt-F}
 use Rattle.sync_thread.specs.Arrays as arrays
 use Rattle.sync_thread.specs.Control.{Halt, Broken}
-use Rattle.sync_thread.specs.Code.{CodeShared, Read, Write, Peek, Operate, Print, number_in, sum_of, difference_of}
+use Rattle.sync_thread.specs.Code.{CodeShared, Read, Write, Peek, Operate, Print, Memory, assigned, number_in, sum_of, difference_of}
 use Rattle.sync_thread_places.specs.Values.{operand_in}
 use Rattle.sync_thread_events.specs.declared.steps.WordStep.{WordStep}
 use Rattle.sync_thread_events.specs.declared.steps.WordStep.TheVariants.{Load, Store, Swap, Add, Sub, Cas}
@@ -73,6 +73,26 @@ asked_if words cells f None = Err Broken
 abbrev pub asked_by : Spans → (ℕ → ℕ) → CodeStmt → Result SharedStep Halt
 asked_by spans f s = asked_if (λ x. spanned (span_in spans.words.items x)) (λ x. spanned (span_in spans.cells.items x)) f (shared_of (out-CodeStmt s))
 
+-- the local into which a step puts what it finds
+abbrev pub local_of : CodeShared → Option ℕ
+local_of (Read x c i) = Some x
+local_of (Peek x c i) = Some x
+local_of (Write c i o) = None
+local_of (Operate x o w i) = x
+local_of (Print l o) = None
+
+abbrev pub local_in : Option CodeShared → Option ℕ
+local_in (Some a) = local_of a
+local_in None = None
+
+abbrev pub assigned_if : Option ℕ → ℕ → (ℕ → ℕ) → ℕ → ℕ
+assigned_if (Some x) n f = assigned x n f
+assigned_if None n f = f
+
+abbrev pub set_if : Option ℕ → ℕ → List ℕ → List ℕ
+set_if (Some x) n ns = slice_set ns x n
+set_if None n ns = ns
+
 -- ---- what is done
 
 -- what a step makes of a word that is n
@@ -108,3 +128,7 @@ lines_after (step.Word k w) lines = lines
 lines_after (step.Read k) lines = lines
 lines_after (step.Write k n) lines = lines
 lines_after (step.Print l n) lines = lines ++ record { label = l; value = n } ∷ []
+
+-- a memory on which a step is done
+abbrev pub done_on : SharedStep → Memory → Memory
+done_on s m = record m { words = words_after s m.words; cells = cells_after s m.cells; lines = lines_after s m.lines }

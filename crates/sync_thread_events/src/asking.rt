@@ -1,11 +1,12 @@
 //! What a thread asks of what it shares with others.
 
-ghost use Rattle.std.specs.Prelude.{◌≡◌, Err, MatchOption, Ok};
+ghost use Rattle.std.specs.Prelude.{◌≡◌, ◌<◌, Err, IfSome, MatchOption, Ok};
+ghost use Rattle.sync_thread.specs.declared.program.CodeStmt.{out-CodeStmt};
 ghost use Rattle.sync_thread.specs.Code.{number_in};
 ghost use Rattle.sync_thread.specs.Control.{Broken};
-ghost use Rattle.sync_thread_places.specs.Places.{locals_in};
+ghost use Rattle.sync_thread_places.specs.Places.{locals_in, width};
 ghost use Rattle.sync_thread_places.specs.Values.{operand_in};
-ghost use Rattle.sync_thread_events.specs.Steps.{AreNarrow, asked_by, asked_word, span_in, spanned};
+ghost use Rattle.sync_thread_events.specs.Steps.{AreNarrow, asked_by, asked_word, local_in, shared_of, span_in, spanned};
 
 use crate::steps::{SharedStep, Span, Spans, WordStep};
 use sync_thread::{CodeStmt, Opd, WordOp};
@@ -33,6 +34,25 @@ pub fn asked(statement: &CodeStmt, spans: &Spans, locals: &[u64]) -> Option<Shar
         }
         CodeStmt::Print(label, operand) => Some(SharedStep::Print(*label, value(*operand, locals))),
         CodeStmt::Set(_, _)
+        | CodeStmt::If(_, _, _)
+        | CodeStmt::Loop(_)
+        | CodeStmt::Next
+        | CodeStmt::Break
+        | CodeStmt::End => None,
+    }
+}
+
+/// The local into which a statement puts what its shared step finds.
+pub fn local_of(statement: &CodeStmt) -> Option<u32>
+    ensures local { result ≡ local_in (shared_of (out-CodeStmt statement.now)) }
+    ensures within { IfSome result (λ x. x < width statement.now) }
+{
+    match statement {
+        CodeStmt::Read(local, _, _) | CodeStmt::Peek(local, _, _) => Some(*local),
+        CodeStmt::Word(local, _, _, _) => *local,
+        CodeStmt::Write(_, _, _)
+        | CodeStmt::Print(_, _)
+        | CodeStmt::Set(_, _)
         | CodeStmt::If(_, _, _)
         | CodeStmt::Loop(_)
         | CodeStmt::Next

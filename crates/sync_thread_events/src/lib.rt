@@ -2,9 +2,11 @@
 #![tactic(auto)]
 
 mod asking;
+mod finding;
 mod steps;
 mod stores;
 
-pub use asking::asked;
+pub use asking::{asked, local_of};
+pub use finding::list_at;
 pub use steps::{SharedStep, Span, Spans, WordStep};
 pub use stores::Store;

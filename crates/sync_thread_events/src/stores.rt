@@ -61,12 +61,6 @@ fn after(found: u64, step: WordStep) -> u64
         WordStep::Store(new) | WordStep::Swap(new) => new,
         WordStep::Add(n) => found.wrapping_add(n),
         WordStep::Sub(n) => found.wrapping_sub(n),
-        WordStep::Cas(wanted, new) => {
-            if found == wanted {
-                new
-            } else {
-                found
-            }
-        }
+        WordStep::Cas(wanted, new) => { if found == wanted { new } else { found } }
     }
 }
