@@ -89,10 +89,6 @@ abbrev pub assigned_if : Option ℕ → ℕ → (ℕ → ℕ) → ℕ → ℕ
 assigned_if (Some x) n f = assigned x n f
 assigned_if None n f = f
 
-abbrev pub set_if : Option ℕ → ℕ → List ℕ → List ℕ
-set_if (Some x) n ns = slice_set ns x n
-set_if None n ns = ns
-
 -- ---- what is done
 
 -- what a step makes of a word that is n

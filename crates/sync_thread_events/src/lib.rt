@@ -3,10 +3,12 @@
 
 mod asking;
 mod finding;
+mod laws;
 mod steps;
 mod stores;
 
 pub use asking::{asked, local_of};
 pub use finding::list_at;
+pub use laws::steps_are_code_steps;
 pub use steps::{SharedStep, Span, Spans, WordStep};
 pub use stores::Store;
