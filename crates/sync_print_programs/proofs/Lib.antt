@@ -1,3 +1,4 @@
-pub mod Alone
+mod Alone
 pub mod Shrinks
 pub mod Steps
+pub mod Written

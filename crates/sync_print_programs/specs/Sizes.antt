@@ -1,7 +1,11 @@
 -- How many statements a statement has in its braces, to any depth, and itself.
-use Rattle.std.specs.Prelude.{ℕ, suc, ◌+◌, sum}
+use Rattle.std.specs.Prelude.{ℕ, suc, ◌+◌, List, [], ◌∷◌}
 use Rattle.sync_parse_programs.specs.declared.statements.RawStatement.{RawStatement, fold-RawStatement}
 use Rattle.sync_parse_programs.specs.declared.statements.RawRightSide.TheOpen.{RawList-F, RawIf-F, RawLoop-F, RawStatement-F, RawWhen-F, RawTail-F, RawRightSide-F, RawStatementKind-F}
+
+abbrev pub all_sizes : List ℕ → ℕ
+all_sizes [] = 0
+all_sizes (n ∷ ns) = n + all_sizes ns
 
 abbrev pub right_size : RawRightSide-F ℕ ℕ ℕ ℕ ℕ ℕ ℕ ℕ → ℕ
 right_size (RawRightSide-F.Atomic a t) = t
@@ -31,7 +35,7 @@ abbrev pub if_size : RawIf-F ℕ ℕ ℕ ℕ ℕ ℕ ℕ ℕ → ℕ
 if_size x = x.yes + x.no
 
 abbrev pub list_size : RawList-F ℕ ℕ ℕ ℕ ℕ ℕ ℕ ℕ → ℕ
-list_size x = sum x.statements
+list_size x = all_sizes x.statements
 
 abbrev pub loop_size : RawLoop-F ℕ ℕ ℕ ℕ ℕ ℕ ℕ ℕ → ℕ
 loop_size x = x.body

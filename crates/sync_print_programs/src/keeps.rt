@@ -2,11 +2,10 @@
 ghost use Rattle.std.specs.Prelude.{◌≡◌, ◌++◌, Option, OnOk};
 ghost use Rattle.sync_lex.specs.declared.signs.Sign.TheVariants as sign;
 ghost use Rattle.sync_parse_exprs.specs.declared.raw_names.RawName.{RawName};
-ghost use Rattle.sync_parse_forms.specs.Codes.{at_name, a_name, nothing};
-ghost use Rattle.sync_parse_programs.specs.Known.{either_or_none, ◌▸◌};
+ghost use Rattle.sync_parse_forms.specs.Codes.{at_name, at_sign, a_name, nothing, row};
+ghost use Rattle.sync_parse_programs.specs.Known.{either_or_none, braces, ◌∘◌, ◌▸◌};
 ghost use Rattle.sync_parse_programs.specs.ProofStatements.{pattern, place, shape, keep_line, keep_fact, keep, guard, clause, in_squares, with_names, word_fact, word, cell, declaration};
-ghost use Rattle.sync_print_programs.specs.Shown.{show_of};
-ghost use Rattle.sync_print_programs.specs.Written.{bytes_of};
+ghost use Rattle.sync_print_programs.specs.Written.{written_of};
 
 use crate::lexemes::{expr, name, sign};
 use crate::lists::{Repeated, in_row, label, name_list, numbered};
@@ -21,9 +20,9 @@ use sync_parse_programs::{
     RawWord,
 };
 
-#[tactic(auto, using(crate::proofs::Steps::joined_bytes, crate::proofs::Steps::first_bytes, crate::proofs::Steps::no_bytes), unfolding(sync_parse_programs::specs::ProofStatements::pattern))]
+#[tactic(auto, unfolding(sync_parse_programs::specs::ProofStatements::pattern))]
 fn pattern(alloc: Global, names: &NameList, out: &mut Vec<u8>, x: &RawPattern) -> Result<(), AllocError>
-    ensures { OnOk result (out.new.items ≡ out.old.items ++ bytes_of names.now (show_of pattern x.now)) }
+    ensures { OnOk result (out.new.items ≡ out.old.items ++ written_of names.now pattern x.now) }
 {
     match x {
         RawPattern::Bind(named) => {
@@ -35,9 +34,9 @@ fn pattern(alloc: Global, names: &NameList, out: &mut Vec<u8>, x: &RawPattern) -
     }
 }
 
-#[tactic(auto, using(crate::proofs::Steps::joined_bytes, crate::proofs::Steps::first_bytes, crate::proofs::Steps::no_bytes), unfolding(sync_parse_programs::specs::ProofStatements::place))]
+#[tactic(auto, unfolding(sync_parse_programs::specs::ProofStatements::place))]
 fn place(alloc: Global, names: &NameList, out: &mut Vec<u8>, x: &RawPlace) -> Result<(), AllocError>
-    ensures { OnOk result (out.new.items ≡ out.old.items ++ bytes_of names.now (show_of place x.now)) }
+    ensures { OnOk result (out.new.items ≡ out.old.items ++ written_of names.now place x.now) }
 {
     match x {
         RawPlace::Value(p) => {
@@ -64,9 +63,8 @@ fn place(alloc: Global, names: &NameList, out: &mut Vec<u8>, x: &RawPlace) -> Re
 }
 
 /// A field, or `perm`.
-#[tactic(auto, using(crate::proofs::Steps::joined_bytes, crate::proofs::Steps::first_bytes, crate::proofs::Steps::no_bytes))]
 fn field(names: &NameList, out: &mut Vec<u8>, x: Option<RawName>) -> Result<(), AllocError>
-    ensures { OnOk result (out.new.items ≡ out.old.items ++ bytes_of names.now (show_of (either_or_none at_name a_name (sign.Perm ▸ nothing)) x)) }
+    ensures { OnOk result (out.new.items ≡ out.old.items ++ written_of names.now (either_or_none at_name a_name (sign.Perm ▸ nothing)) x) }
 {
     match x {
         Some(field) => name(names, out, field),
@@ -74,9 +72,9 @@ fn field(names: &NameList, out: &mut Vec<u8>, x: Option<RawName>) -> Result<(), 
     }
 }
 
-#[tactic(auto, using(crate::proofs::Steps::joined_bytes, crate::proofs::Steps::first_bytes, crate::proofs::Steps::no_bytes), unfolding(sync_parse_programs::specs::ProofStatements::shape))]
+#[tactic(auto, unfolding(sync_parse_programs::specs::ProofStatements::shape))]
 pub(crate) fn shape(alloc: Global, names: &NameList, out: &mut Vec<u8>, x: &RawShape) -> Result<(), AllocError>
-    ensures { OnOk result (out.new.items ≡ out.old.items ++ bytes_of names.now (show_of shape x.now)) }
+    ensures { OnOk result (out.new.items ≡ out.old.items ++ written_of names.now shape x.now) }
 {
     field(names, out, x.field)?;
     place(alloc, names, out, &x.place)?;
@@ -84,9 +82,9 @@ pub(crate) fn shape(alloc: Global, names: &NameList, out: &mut Vec<u8>, x: &RawS
 }
 
 /// A token that a keep names.
-#[tactic(auto, using(crate::proofs::Steps::joined_bytes, crate::proofs::Steps::first_bytes, crate::proofs::Steps::no_bytes), unfolding(sync_parse_programs::specs::ProofStatements::keep_line))]
+#[tactic(auto, unfolding(sync_parse_programs::specs::ProofStatements::keep_line))]
 fn keep_line(alloc: Global, names: &NameList, out: &mut Vec<u8>, x: &RawKeepLine) -> Result<(), AllocError>
-    ensures { OnOk result (out.new.items ≡ out.old.items ++ bytes_of names.now (show_of keep_line x.now)) }
+    ensures { OnOk result (out.new.items ≡ out.old.items ++ written_of names.now keep_line x.now) }
 {
     name(names, out, x.name)?;
     sign(names, out, Sign::Colon)?;
@@ -96,9 +94,9 @@ fn keep_line(alloc: Global, names: &NameList, out: &mut Vec<u8>, x: &RawKeepLine
 }
 
 /// A formula that a keep states.
-#[tactic(auto, using(crate::proofs::Steps::joined_bytes, crate::proofs::Steps::first_bytes, crate::proofs::Steps::no_bytes), unfolding(sync_parse_programs::specs::ProofStatements::keep_fact))]
+#[tactic(auto, unfolding(sync_parse_programs::specs::ProofStatements::keep_fact))]
 fn keep_fact(alloc: Global, names: &NameList, out: &mut Vec<u8>, x: &RawKeepFact) -> Result<(), AllocError>
-    ensures { OnOk result (out.new.items ≡ out.old.items ++ bytes_of names.now (show_of keep_fact x.now)) }
+    ensures { OnOk result (out.new.items ≡ out.old.items ++ written_of names.now keep_fact x.now) }
 {
     sign(names, out, Sign::Fact)?;
     expr(alloc, names, out, &x.form)?;
@@ -112,7 +110,7 @@ struct KeepLineItem;
 impl Repeated for KeepLineItem {
     type Value = RawKeepLine;
 
-    ghost shows = { show_of keep_line };
+    ghost writes = { λ names. written_of names keep_line };
 
     fn write(alloc: Global, names: &NameList, out: &mut Vec<u8>, x: &RawKeepLine) -> Result<(), AllocError> {
         keep_line(alloc, names, out, x)
@@ -124,29 +122,37 @@ struct KeepFactItem;
 impl Repeated for KeepFactItem {
     type Value = RawKeepFact;
 
-    ghost shows = { show_of keep_fact };
+    ghost writes = { λ names. written_of names keep_fact };
 
     fn write(alloc: Global, names: &NameList, out: &mut Vec<u8>, x: &RawKeepFact) -> Result<(), AllocError> {
         keep_fact(alloc, names, out, x)
     }
 }
 
-#[tactic(auto, using(crate::proofs::Steps::joined_bytes, crate::proofs::Steps::first_bytes, crate::proofs::Steps::no_bytes), unfolding(sync_parse_programs::specs::ProofStatements::keep))]
-pub(crate) fn keep(alloc: Global, names: &NameList, out: &mut Vec<u8>, x: &RawKeep) -> Result<(), AllocError>
-    ensures { OnOk result (out.new.items ≡ out.old.items ++ bytes_of names.now (show_of keep x.now)) }
+/// What a keep says of tokens and values.
+fn keep_body(alloc: Global, names: &NameList, out: &mut Vec<u8>, x: &[RawKeepLine], y: &[RawKeepFact]) -> Result<(), AllocError>
+    ensures { OnOk result (out.new.items ≡ out.old.items ++ written_of names.now (braces (row at_name keep_line ∘ row (at_sign sign.Fact) keep_fact)) (x.now, y.now)) }
 {
-    name_list(alloc, names, out, x.names.as_slice())?;
     sign(names, out, Sign::OpenBrace)?;
-    in_row::<KeepLineItem>(alloc, names, out, x.lines.as_slice())?;
-    in_row::<KeepFactItem>(alloc, names, out, x.facts.as_slice())?;
+    in_row::<KeepLineItem>(alloc, names, out, x)?;
+    in_row::<KeepFactItem>(alloc, names, out, y)?;
     sign(names, out, Sign::CloseBrace)?;
     Ok(())
 }
 
+#[tactic(auto, unfolding(sync_parse_programs::specs::ProofStatements::keep))]
+pub(crate) fn keep(alloc: Global, names: &NameList, out: &mut Vec<u8>, x: &RawKeep) -> Result<(), AllocError>
+    ensures { OnOk result (out.new.items ≡ out.old.items ++ written_of names.now keep x.now) }
+{
+    name_list(alloc, names, out, x.names.as_slice())?;
+    keep_body(alloc, names, out, x.lines.as_slice(), x.facts.as_slice())?;
+    Ok(())
+}
+
 /// The guard of a clause, or nothing.
-#[tactic(auto, using(crate::proofs::Steps::joined_bytes, crate::proofs::Steps::first_bytes, crate::proofs::Steps::no_bytes), unfolding(sync_parse_programs::specs::ProofStatements::guard))]
+#[tactic(auto, unfolding(sync_parse_programs::specs::ProofStatements::guard))]
 fn guard(alloc: Global, names: &NameList, out: &mut Vec<u8>, x: &Option<RawExpr>) -> Result<(), AllocError>
-    ensures { OnOk result (out.new.items ≡ out.old.items ++ bytes_of names.now (show_of guard x.now)) }
+    ensures { OnOk result (out.new.items ≡ out.old.items ++ written_of names.now guard x.now) }
 {
     match x {
         Some(e) => {
@@ -158,9 +164,9 @@ fn guard(alloc: Global, names: &NameList, out: &mut Vec<u8>, x: &Option<RawExpr>
     }
 }
 
-#[tactic(auto, using(crate::proofs::Steps::joined_bytes, crate::proofs::Steps::first_bytes, crate::proofs::Steps::no_bytes), unfolding(sync_parse_programs::specs::ProofStatements::clause))]
+#[tactic(auto, unfolding(sync_parse_programs::specs::ProofStatements::clause))]
 fn clause(alloc: Global, names: &NameList, out: &mut Vec<u8>, x: &RawClause) -> Result<(), AllocError>
-    ensures { OnOk result (out.new.items ≡ out.old.items ++ bytes_of names.now (show_of clause x.now)) }
+    ensures { OnOk result (out.new.items ≡ out.old.items ++ written_of names.now clause x.now) }
 {
     sign(names, out, Sign::Holds)?;
     shape(alloc, names, out, &x.shape)?;
@@ -174,7 +180,7 @@ struct ClauseItem;
 impl Repeated for ClauseItem {
     type Value = RawClause;
 
-    ghost shows = { show_of clause };
+    ghost writes = { λ names. written_of names clause };
 
     fn write(alloc: Global, names: &NameList, out: &mut Vec<u8>, x: &RawClause) -> Result<(), AllocError> {
         clause(alloc, names, out, x)
@@ -182,9 +188,9 @@ impl Repeated for ClauseItem {
 }
 
 /// A number in square brackets.
-#[tactic(auto, using(crate::proofs::Steps::joined_bytes, crate::proofs::Steps::first_bytes, crate::proofs::Steps::no_bytes), unfolding(sync_parse_programs::specs::ProofStatements::in_squares))]
+#[tactic(auto, unfolding(sync_parse_programs::specs::ProofStatements::in_squares))]
 fn in_squares(alloc: Global, names: &NameList, out: &mut Vec<u8>, x: RawNumber) -> Result<(), AllocError>
-    ensures { OnOk result (out.new.items ≡ out.old.items ++ bytes_of names.now (show_of in_squares x)) }
+    ensures { OnOk result (out.new.items ≡ out.old.items ++ written_of names.now in_squares x) }
 {
     sign(names, out, Sign::OpenSquare)?;
     numbered(alloc, names, out, x)?;
@@ -193,9 +199,9 @@ fn in_squares(alloc: Global, names: &NameList, out: &mut Vec<u8>, x: RawNumber) 
 }
 
 /// `with` and names, or nothing.
-#[tactic(auto, using(crate::proofs::Steps::joined_bytes, crate::proofs::Steps::first_bytes, crate::proofs::Steps::no_bytes), unfolding(sync_parse_programs::specs::ProofStatements::with_names))]
+#[tactic(auto, unfolding(sync_parse_programs::specs::ProofStatements::with_names))]
 fn with_names(alloc: Global, names: &NameList, out: &mut Vec<u8>, x: &Option<Items<RawName>>) -> Result<(), AllocError>
-    ensures { OnOk result (out.new.items ≡ out.old.items ++ bytes_of names.now (show_of with_names x.now)) }
+    ensures { OnOk result (out.new.items ≡ out.old.items ++ written_of names.now with_names x.now) }
 {
     match x {
         Some(list) => {
@@ -208,9 +214,9 @@ fn with_names(alloc: Global, names: &NameList, out: &mut Vec<u8>, x: &Option<Ite
 }
 
 /// What a word states, or nothing.
-#[tactic(auto, using(crate::proofs::Steps::joined_bytes, crate::proofs::Steps::first_bytes, crate::proofs::Steps::no_bytes), unfolding(sync_parse_programs::specs::ProofStatements::word_fact))]
+#[tactic(auto, unfolding(sync_parse_programs::specs::ProofStatements::word_fact))]
 fn word_fact(alloc: Global, names: &NameList, out: &mut Vec<u8>, x: &Option<RawExpr>) -> Result<(), AllocError>
-    ensures { OnOk result (out.new.items ≡ out.old.items ++ bytes_of names.now (show_of word_fact x.now)) }
+    ensures { OnOk result (out.new.items ≡ out.old.items ++ written_of names.now word_fact x.now) }
 {
     match x {
         Some(e) => {
@@ -223,9 +229,20 @@ fn word_fact(alloc: Global, names: &NameList, out: &mut Vec<u8>, x: &Option<RawE
     }
 }
 
-#[tactic(auto, using(crate::proofs::Steps::joined_bytes, crate::proofs::Steps::first_bytes, crate::proofs::Steps::no_bytes), unfolding(sync_parse_programs::specs::ProofStatements::word))]
+/// The clauses of a word, and what it states.
+fn word_body(alloc: Global, names: &NameList, out: &mut Vec<u8>, x: &[RawClause], y: &Option<RawExpr>) -> Result<(), AllocError>
+    ensures { OnOk result (out.new.items ≡ out.old.items ++ written_of names.now (braces (row (at_sign sign.Holds) clause ∘ word_fact)) (x.now, y.now)) }
+{
+    sign(names, out, Sign::OpenBrace)?;
+    in_row::<ClauseItem>(alloc, names, out, x)?;
+    word_fact(alloc, names, out, y)?;
+    sign(names, out, Sign::CloseBrace)?;
+    Ok(())
+}
+
+#[tactic(auto, unfolding(sync_parse_programs::specs::ProofStatements::word))]
 fn word(alloc: Global, names: &NameList, out: &mut Vec<u8>, x: &RawWord) -> Result<(), AllocError>
-    ensures { OnOk result (out.new.items ≡ out.old.items ++ bytes_of names.now (show_of word x.now)) }
+    ensures { OnOk result (out.new.items ≡ out.old.items ++ written_of names.now word x.now) }
 {
     sign(names, out, Sign::Word)?;
     name(names, out, x.name)?;
@@ -233,16 +250,13 @@ fn word(alloc: Global, names: &NameList, out: &mut Vec<u8>, x: &RawWord) -> Resu
     sign(names, out, Sign::Equal)?;
     numbered(alloc, names, out, x.value)?;
     with_names(alloc, names, out, &x.with)?;
-    sign(names, out, Sign::OpenBrace)?;
-    in_row::<ClauseItem>(alloc, names, out, x.clauses.as_slice())?;
-    word_fact(alloc, names, out, &x.fact)?;
-    sign(names, out, Sign::CloseBrace)?;
+    word_body(alloc, names, out, x.clauses.as_slice(), &x.fact)?;
     Ok(())
 }
 
-#[tactic(auto, using(crate::proofs::Steps::joined_bytes, crate::proofs::Steps::first_bytes, crate::proofs::Steps::no_bytes), unfolding(sync_parse_programs::specs::ProofStatements::cell))]
+#[tactic(auto, unfolding(sync_parse_programs::specs::ProofStatements::cell))]
 fn cell(alloc: Global, names: &NameList, out: &mut Vec<u8>, x: RawCell) -> Result<(), AllocError>
-    ensures { OnOk result (out.new.items ≡ out.old.items ++ bytes_of names.now (show_of cell x)) }
+    ensures { OnOk result (out.new.items ≡ out.old.items ++ written_of names.now cell x) }
 {
     sign(names, out, Sign::Cell)?;
     name(names, out, x.name)?;
@@ -253,9 +267,9 @@ fn cell(alloc: Global, names: &NameList, out: &mut Vec<u8>, x: RawCell) -> Resul
     Ok(())
 }
 
-#[tactic(auto, using(crate::proofs::Steps::joined_bytes, crate::proofs::Steps::first_bytes, crate::proofs::Steps::no_bytes), unfolding(sync_parse_programs::specs::ProofStatements::declaration))]
+#[tactic(auto, unfolding(sync_parse_programs::specs::ProofStatements::declaration))]
 fn declaration(alloc: Global, names: &NameList, out: &mut Vec<u8>, x: &RawDeclaration) -> Result<(), AllocError>
-    ensures { OnOk result (out.new.items ≡ out.old.items ++ bytes_of names.now (show_of declaration x.now)) }
+    ensures { OnOk result (out.new.items ≡ out.old.items ++ written_of names.now declaration x.now) }
 {
     match x {
         RawDeclaration::Word(w) => word(alloc, names, out, w),
@@ -268,7 +282,7 @@ pub(crate) struct DeclarationItem;
 impl Repeated for DeclarationItem {
     type Value = RawDeclaration;
 
-    ghost shows = { show_of declaration };
+    ghost writes = { λ names. written_of names declaration };
 
     fn write(alloc: Global, names: &NameList, out: &mut Vec<u8>, x: &RawDeclaration) -> Result<(), AllocError> {
         declaration(alloc, names, out, x)

@@ -1,11 +1,9 @@
 //! Writing rows and lists.
-ghost use Rattle.std.specs.Prelude.{◌≡◌, ◌++◌, List, OnOk};
+ghost use Rattle.std.specs.Prelude.{◌≡◌, ◌++◌, ℕ, List, OnOk};
+ghost use Rattle.sync_base.specs.declared.names.NameList.{NameList};
 ghost use Rattle.sync_parse_forms.specs.Codes.{a_name};
-ghost use Rattle.sync_parse_forms.specs.Lexemes.{Lexeme};
-ghost use Rattle.sync_parse_forms.specs.Shows.{all_shown, commas_shown, list_shown};
 ghost use Rattle.sync_parse_programs.specs.Known.{expr, script, scripts, args, names as name_list, label, numbered};
-ghost use Rattle.sync_print_programs.specs.Shown.{show_of};
-ghost use Rattle.sync_print_programs.specs.Written.{bytes_of};
+ghost use Rattle.sync_print_programs.specs.Written.{all_written, commas_written, list_written, written_of};
 
 use crate::lexemes::{expr, name, number, script, sign};
 use std::alloc::{AllocError, Global};
@@ -19,15 +17,15 @@ use sync_parse_programs::RawNumber;
 pub(crate) trait Repeated {
     type Value;
 
-    ghost shows: { Self.Value → List Lexeme };
+    ghost writes: { NameList → Self.Value → List ℕ };
 
     fn write(alloc: Global, names: &NameList, out: &mut Vec<u8>, x: &Self::Value) -> Result<(), AllocError>
-        ensures { OnOk result (out.new.items ≡ out.old.items ++ bytes_of names.now (shows x.now)) };
+        ensures { OnOk result (out.new.items ≡ out.old.items ++ writes names.now x.now) };
 }
 
 /// Items in a row.
 pub(crate) fn in_row<P: Repeated>(alloc: Global, names: &NameList, out: &mut Vec<u8>, list: &[P::Value]) -> Result<(), AllocError>
-    ensures { OnOk result (out.new.items ≡ out.old.items ++ bytes_of names.now (all_shown P.shows list.now)) }
+    ensures { OnOk result (out.new.items ≡ out.old.items ++ all_written (P.writes names.now) list.now) }
 {
     for x in list {
         P::write(alloc, names, out, x)?;
@@ -37,7 +35,7 @@ pub(crate) fn in_row<P: Repeated>(alloc: Global, names: &NameList, out: &mut Vec
 
 /// Items, each behind a comma.
 fn behind_commas<P: Repeated>(alloc: Global, names: &NameList, out: &mut Vec<u8>, list: &[P::Value]) -> Result<(), AllocError>
-    ensures { OnOk result (out.new.items ≡ out.old.items ++ bytes_of names.now (commas_shown P.shows list.now)) }
+    ensures { OnOk result (out.new.items ≡ out.old.items ++ commas_written names.now (P.writes names.now) list.now) }
 {
     for x in list {
         sign(names, out, Sign::Comma)?;
@@ -47,9 +45,8 @@ fn behind_commas<P: Repeated>(alloc: Global, names: &NameList, out: &mut Vec<u8>
 }
 
 /// Items with commas between.
-#[tactic(auto, using(crate::proofs::Steps::joined_bytes, crate::proofs::Steps::first_bytes, crate::proofs::Steps::no_bytes))]
 pub(crate) fn in_list<P: Repeated>(alloc: Global, names: &NameList, out: &mut Vec<u8>, list: &[P::Value]) -> Result<(), AllocError>
-    ensures { OnOk result (out.new.items ≡ out.old.items ++ bytes_of names.now (list_shown P.shows list.now)) }
+    ensures { OnOk result (out.new.items ≡ out.old.items ++ list_written names.now (P.writes names.now) list.now) }
 {
     match list.split_first() {
         Some((first, others)) => {
@@ -66,7 +63,7 @@ struct ExprItem;
 impl Repeated for ExprItem {
     type Value = RawExpr;
 
-    ghost shows = { show_of expr };
+    ghost writes = { λ names. written_of names expr };
 
     fn write(alloc: Global, names: &NameList, out: &mut Vec<u8>, x: &RawExpr) -> Result<(), AllocError> {
         expr(alloc, names, out, x)
@@ -78,7 +75,7 @@ struct ScriptItem;
 impl Repeated for ScriptItem {
     type Value = RawScript;
 
-    ghost shows = { show_of script };
+    ghost writes = { λ names. written_of names script };
 
     fn write(alloc: Global, names: &NameList, out: &mut Vec<u8>, x: &RawScript) -> Result<(), AllocError> {
         script(alloc, names, out, x)
@@ -90,7 +87,7 @@ pub(crate) struct NameItem;
 impl Repeated for NameItem {
     type Value = RawName;
 
-    ghost shows = { show_of a_name };
+    ghost writes = { λ names. written_of names a_name };
 
     fn write(_alloc: Global, names: &NameList, out: &mut Vec<u8>, x: &RawName) -> Result<(), AllocError> {
         name(names, out, *x)
@@ -98,9 +95,9 @@ impl Repeated for NameItem {
 }
 
 /// Expressions in round brackets.
-#[tactic(auto, using(crate::proofs::Steps::joined_bytes, crate::proofs::Steps::first_bytes, crate::proofs::Steps::no_bytes), unfolding(sync_parse_programs::specs::Known::args))]
+#[tactic(auto, unfolding(sync_parse_programs::specs::Known::args))]
 pub(crate) fn args(alloc: Global, names: &NameList, out: &mut Vec<u8>, x: &[RawExpr]) -> Result<(), AllocError>
-    ensures { OnOk result (out.new.items ≡ out.old.items ++ bytes_of names.now (show_of args x.now)) }
+    ensures { OnOk result (out.new.items ≡ out.old.items ++ written_of names.now args x.now) }
 {
     sign(names, out, Sign::OpenRound)?;
     in_list::<ExprItem>(alloc, names, out, x)?;
@@ -109,9 +106,9 @@ pub(crate) fn args(alloc: Global, names: &NameList, out: &mut Vec<u8>, x: &[RawE
 }
 
 /// Names in round brackets.
-#[tactic(auto, using(crate::proofs::Steps::joined_bytes, crate::proofs::Steps::first_bytes, crate::proofs::Steps::no_bytes), unfolding(sync_parse_programs::specs::Known::names))]
+#[tactic(auto, unfolding(sync_parse_programs::specs::Known::names))]
 pub(crate) fn name_list(alloc: Global, names: &NameList, out: &mut Vec<u8>, x: &[RawName]) -> Result<(), AllocError>
-    ensures { OnOk result (out.new.items ≡ out.old.items ++ bytes_of names.now (show_of name_list x.now)) }
+    ensures { OnOk result (out.new.items ≡ out.old.items ++ written_of names.now name_list x.now) }
 {
     sign(names, out, Sign::OpenRound)?;
     in_list::<NameItem>(alloc, names, out, x)?;
@@ -120,17 +117,17 @@ pub(crate) fn name_list(alloc: Global, names: &NameList, out: &mut Vec<u8>, x: &
 }
 
 /// Scripts in a row.
-#[tactic(auto, using(crate::proofs::Steps::joined_bytes, crate::proofs::Steps::first_bytes, crate::proofs::Steps::no_bytes), unfolding(sync_parse_programs::specs::Known::scripts))]
+#[tactic(auto, unfolding(sync_parse_programs::specs::Known::scripts))]
 pub(crate) fn scripts(alloc: Global, names: &NameList, out: &mut Vec<u8>, x: &[RawScript]) -> Result<(), AllocError>
-    ensures { OnOk result (out.new.items ≡ out.old.items ++ bytes_of names.now (show_of scripts x.now)) }
+    ensures { OnOk result (out.new.items ≡ out.old.items ++ written_of names.now scripts x.now) }
 {
     in_row::<ScriptItem>(alloc, names, out, x)
 }
 
 /// `@` and a name, or nothing.
-#[tactic(auto, using(crate::proofs::Steps::joined_bytes, crate::proofs::Steps::first_bytes, crate::proofs::Steps::no_bytes), unfolding(sync_parse_programs::specs::Known::label))]
+#[tactic(auto, unfolding(sync_parse_programs::specs::Known::label))]
 pub(crate) fn label(names: &NameList, out: &mut Vec<u8>, x: Option<RawName>) -> Result<(), AllocError>
-    ensures { OnOk result (out.new.items ≡ out.old.items ++ bytes_of names.now (show_of label x)) }
+    ensures { OnOk result (out.new.items ≡ out.old.items ++ written_of names.now label x) }
 {
     match x {
         Some(label) => {
@@ -143,9 +140,9 @@ pub(crate) fn label(names: &NameList, out: &mut Vec<u8>, x: Option<RawName>) -> 
 }
 
 /// A number.
-#[tactic(auto, using(crate::proofs::Steps::joined_bytes, crate::proofs::Steps::first_bytes, crate::proofs::Steps::no_bytes), unfolding(sync_parse_programs::specs::Known::numbered))]
+#[tactic(auto, unfolding(sync_parse_programs::specs::Known::numbered))]
 pub(crate) fn numbered(alloc: Global, names: &NameList, out: &mut Vec<u8>, x: RawNumber) -> Result<(), AllocError>
-    ensures { OnOk result (out.new.items ≡ out.old.items ++ bytes_of names.now (show_of numbered x)) }
+    ensures { OnOk result (out.new.items ≡ out.old.items ++ written_of names.now numbered x) }
 {
     number(alloc, names, out, x.number)
 }

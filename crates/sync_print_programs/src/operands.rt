@@ -1,8 +1,7 @@
 //! Writing operands, conditions, calculations and word operations.
 ghost use Rattle.std.specs.Prelude.{◌≡◌, ◌++◌, OnOk};
 ghost use Rattle.sync_parse_programs.specs.Operands.{operand, relation, condition, calculated, index, load, change, stored, cas, word_operation};
-ghost use Rattle.sync_print_programs.specs.Shown.{show_of};
-ghost use Rattle.sync_print_programs.specs.Written.{bytes_of};
+ghost use Rattle.sync_print_programs.specs.Written.{written_of};
 
 use crate::lexemes::{name, sign};
 use crate::lists::{numbered, scripts};
@@ -15,9 +14,9 @@ use sync_parse_programs::{
 };
 
 /// A number or a local.
-#[tactic(auto, using(crate::proofs::Steps::joined_bytes, crate::proofs::Steps::first_bytes, crate::proofs::Steps::no_bytes), unfolding(sync_parse_programs::specs::Operands::operand))]
+#[tactic(auto, unfolding(sync_parse_programs::specs::Operands::operand))]
 pub(crate) fn operand(alloc: Global, names: &NameList, out: &mut Vec<u8>, x: RawOperand) -> Result<(), AllocError>
-    ensures { OnOk result (out.new.items ≡ out.old.items ++ bytes_of names.now (show_of operand x)) }
+    ensures { OnOk result (out.new.items ≡ out.old.items ++ written_of names.now operand x) }
 {
     match x {
         RawOperand::Number(n) => numbered(alloc, names, out, n),
@@ -26,9 +25,9 @@ pub(crate) fn operand(alloc: Global, names: &NameList, out: &mut Vec<u8>, x: Raw
 }
 
 /// How the two operands of a condition compare.
-#[tactic(auto, using(crate::proofs::Steps::joined_bytes, crate::proofs::Steps::first_bytes, crate::proofs::Steps::no_bytes), unfolding(sync_parse_programs::specs::Operands::relation))]
+#[tactic(auto, unfolding(sync_parse_programs::specs::Operands::relation))]
 fn relation(names: &NameList, out: &mut Vec<u8>, x: RawRelation) -> Result<(), AllocError>
-    ensures { OnOk result (out.new.items ≡ out.old.items ++ bytes_of names.now (show_of relation x)) }
+    ensures { OnOk result (out.new.items ≡ out.old.items ++ written_of names.now relation x) }
 {
     match x {
         RawRelation::Equal => sign(names, out, Sign::Equal),
@@ -38,9 +37,9 @@ fn relation(names: &NameList, out: &mut Vec<u8>, x: RawRelation) -> Result<(), A
     }
 }
 
-#[tactic(auto, using(crate::proofs::Steps::joined_bytes, crate::proofs::Steps::first_bytes, crate::proofs::Steps::no_bytes), unfolding(sync_parse_programs::specs::Operands::condition))]
+#[tactic(auto, unfolding(sync_parse_programs::specs::Operands::condition))]
 pub(crate) fn condition(alloc: Global, names: &NameList, out: &mut Vec<u8>, x: RawCondition) -> Result<(), AllocError>
-    ensures { OnOk result (out.new.items ≡ out.old.items ++ bytes_of names.now (show_of condition x)) }
+    ensures { OnOk result (out.new.items ≡ out.old.items ++ written_of names.now condition x) }
 {
     operand(alloc, names, out, x.left)?;
     relation(names, out, x.relation)?;
@@ -49,9 +48,9 @@ pub(crate) fn condition(alloc: Global, names: &NameList, out: &mut Vec<u8>, x: R
 }
 
 /// What a local is set to by arithmetic.
-#[tactic(auto, using(crate::proofs::Steps::joined_bytes, crate::proofs::Steps::first_bytes, crate::proofs::Steps::no_bytes), unfolding(sync_parse_programs::specs::Operands::calculated))]
+#[tactic(auto, unfolding(sync_parse_programs::specs::Operands::calculated))]
 pub(crate) fn calculated(alloc: Global, names: &NameList, out: &mut Vec<u8>, x: RawCalculation) -> Result<(), AllocError>
-    ensures { OnOk result (out.new.items ≡ out.old.items ++ bytes_of names.now (show_of calculated x)) }
+    ensures { OnOk result (out.new.items ≡ out.old.items ++ written_of names.now calculated x) }
 {
     match x {
         RawCalculation::Plain(a) => operand(alloc, names, out, a),
@@ -88,9 +87,9 @@ pub(crate) fn calculated(alloc: Global, names: &NameList, out: &mut Vec<u8>, x: 
     }
 }
 
-#[tactic(auto, using(crate::proofs::Steps::joined_bytes, crate::proofs::Steps::first_bytes, crate::proofs::Steps::no_bytes), unfolding(sync_parse_programs::specs::Operands::index))]
+#[tactic(auto, unfolding(sync_parse_programs::specs::Operands::index))]
 pub(crate) fn index(alloc: Global, names: &NameList, out: &mut Vec<u8>, x: &RawIndex) -> Result<(), AllocError>
-    ensures { OnOk result (out.new.items ≡ out.old.items ++ bytes_of names.now (show_of index x.now)) }
+    ensures { OnOk result (out.new.items ≡ out.old.items ++ written_of names.now index x.now) }
 {
     sign(names, out, Sign::OpenSquare)?;
     operand(alloc, names, out, x.operand)?;
@@ -99,18 +98,18 @@ pub(crate) fn index(alloc: Global, names: &NameList, out: &mut Vec<u8>, x: &RawI
     Ok(())
 }
 
-#[tactic(auto, using(crate::proofs::Steps::joined_bytes, crate::proofs::Steps::first_bytes, crate::proofs::Steps::no_bytes), unfolding(sync_parse_programs::specs::Operands::load))]
+#[tactic(auto, unfolding(sync_parse_programs::specs::Operands::load))]
 fn load(alloc: Global, names: &NameList, out: &mut Vec<u8>, x: &RawLoad) -> Result<(), AllocError>
-    ensures { OnOk result (out.new.items ≡ out.old.items ++ bytes_of names.now (show_of load x.now)) }
+    ensures { OnOk result (out.new.items ≡ out.old.items ++ written_of names.now load x.now) }
 {
     name(names, out, x.word)?;
     index(alloc, names, out, &x.index)?;
     Ok(())
 }
 
-#[tactic(auto, using(crate::proofs::Steps::joined_bytes, crate::proofs::Steps::first_bytes, crate::proofs::Steps::no_bytes), unfolding(sync_parse_programs::specs::Operands::change))]
+#[tactic(auto, unfolding(sync_parse_programs::specs::Operands::change))]
 fn change(alloc: Global, names: &NameList, out: &mut Vec<u8>, x: &RawChange) -> Result<(), AllocError>
-    ensures { OnOk result (out.new.items ≡ out.old.items ++ bytes_of names.now (show_of change x.now)) }
+    ensures { OnOk result (out.new.items ≡ out.old.items ++ written_of names.now change x.now) }
 {
     name(names, out, x.word)?;
     index(alloc, names, out, &x.index)?;
@@ -119,9 +118,9 @@ fn change(alloc: Global, names: &NameList, out: &mut Vec<u8>, x: &RawChange) -> 
 }
 
 /// A word that is set to an operand.
-#[tactic(auto, using(crate::proofs::Steps::joined_bytes, crate::proofs::Steps::first_bytes, crate::proofs::Steps::no_bytes), unfolding(sync_parse_programs::specs::Operands::stored))]
+#[tactic(auto, unfolding(sync_parse_programs::specs::Operands::stored))]
 pub(crate) fn stored(alloc: Global, names: &NameList, out: &mut Vec<u8>, x: &RawChange) -> Result<(), AllocError>
-    ensures { OnOk result (out.new.items ≡ out.old.items ++ bytes_of names.now (show_of stored x.now)) }
+    ensures { OnOk result (out.new.items ≡ out.old.items ++ written_of names.now stored x.now) }
 {
     name(names, out, x.word)?;
     index(alloc, names, out, &x.index)?;
@@ -130,9 +129,9 @@ pub(crate) fn stored(alloc: Global, names: &NameList, out: &mut Vec<u8>, x: &Raw
     Ok(())
 }
 
-#[tactic(auto, using(crate::proofs::Steps::joined_bytes, crate::proofs::Steps::first_bytes, crate::proofs::Steps::no_bytes), unfolding(sync_parse_programs::specs::Operands::cas))]
+#[tactic(auto, unfolding(sync_parse_programs::specs::Operands::cas))]
 fn cas(alloc: Global, names: &NameList, out: &mut Vec<u8>, x: &RawCas) -> Result<(), AllocError>
-    ensures { OnOk result (out.new.items ≡ out.old.items ++ bytes_of names.now (show_of cas x.now)) }
+    ensures { OnOk result (out.new.items ≡ out.old.items ++ written_of names.now cas x.now) }
 {
     name(names, out, x.word)?;
     index(alloc, names, out, &x.index)?;
@@ -141,9 +140,9 @@ fn cas(alloc: Global, names: &NameList, out: &mut Vec<u8>, x: &RawCas) -> Result
     Ok(())
 }
 
-#[tactic(auto, using(crate::proofs::Steps::joined_bytes, crate::proofs::Steps::first_bytes, crate::proofs::Steps::no_bytes), unfolding(sync_parse_programs::specs::Operands::word_operation))]
+#[tactic(auto, unfolding(sync_parse_programs::specs::Operands::word_operation))]
 pub(crate) fn word_operation(alloc: Global, names: &NameList, out: &mut Vec<u8>, x: &RawWordOperation) -> Result<(), AllocError>
-    ensures { OnOk result (out.new.items ≡ out.old.items ++ bytes_of names.now (show_of word_operation x.now)) }
+    ensures { OnOk result (out.new.items ≡ out.old.items ++ written_of names.now word_operation x.now) }
 {
     match x {
         RawWordOperation::Load(operation) => {

@@ -1,8 +1,12 @@
 //! Writing threads and programs.
 ghost use Rattle.std.specs.Prelude.{◌≡◌, ◌++◌, OnOk};
-ghost use Rattle.sync_parse_programs.specs.Programs.{thread, final_block, ended, program};
+ghost use Rattle.sync_parse_programs.specs.Programs.{at_declaration, start, thread, ended, program};
+ghost use Rattle.sync_lex.specs.declared.signs.Sign.TheVariants as sign;
+ghost use Rattle.sync_parse_forms.specs.Codes.{at_sign, row};
+ghost use Rattle.sync_parse_programs.specs.Known.{◌∘◌};
+ghost use Rattle.sync_parse_programs.specs.ProofStatements.{declaration};
 ghost use Rattle.sync_print_programs.specs.Shown.{show_of};
-ghost use Rattle.sync_print_programs.specs.Written.{bytes_of};
+ghost use Rattle.sync_print_programs.specs.Written.{bytes_of, written_of};
 
 use crate::keeps::{DeclarationItem, keep};
 use crate::lexemes::{name, sign};
@@ -14,9 +18,9 @@ use sync_base::NameList;
 use sync_lex::Sign;
 use sync_parse_programs::{RawList, RawProgram, RawThread};
 
-#[tactic(auto, using(crate::proofs::Steps::joined_bytes, crate::proofs::Steps::first_bytes, crate::proofs::Steps::no_bytes), unfolding(sync_parse_programs::specs::Programs::thread))]
+#[tactic(auto, unfolding(sync_parse_programs::specs::Programs::thread))]
 fn thread(alloc: Global, names: &NameList, out: &mut Vec<u8>, x: &RawThread) -> Result<(), AllocError>
-    ensures { OnOk result (out.new.items ≡ out.old.items ++ bytes_of names.now (show_of thread x.now)) }
+    ensures { OnOk result (out.new.items ≡ out.old.items ++ written_of names.now thread x.now) }
 {
     sign(names, out, Sign::Thread)?;
     name(names, out, x.name)?;
@@ -32,7 +36,7 @@ struct ThreadItem;
 impl Repeated for ThreadItem {
     type Value = RawThread;
 
-    ghost shows = { show_of thread };
+    ghost writes = { λ names. written_of names thread };
 
     fn write(alloc: Global, names: &NameList, out: &mut Vec<u8>, x: &RawThread) -> Result<(), AllocError> {
         thread(alloc, names, out, x)
@@ -40,9 +44,9 @@ impl Repeated for ThreadItem {
 }
 
 /// The final block, or nothing.
-#[tactic(auto, using(crate::proofs::Steps::joined_bytes, crate::proofs::Steps::first_bytes, crate::proofs::Steps::no_bytes), unfolding(sync_parse_programs::specs::Programs::ended, sync_parse_programs::specs::Programs::final_block))]
+#[tactic(auto, unfolding(sync_parse_programs::specs::Programs::ended, sync_parse_programs::specs::Programs::final_block))]
 fn ended(alloc: Global, names: &NameList, out: &mut Vec<u8>, x: &Option<RawList>) -> Result<(), AllocError>
-    ensures { OnOk result (out.new.items ≡ out.old.items ++ bytes_of names.now (show_of ended x.now)) }
+    ensures { OnOk result (out.new.items ≡ out.old.items ++ written_of names.now ended x.now) }
 {
     match x {
         Some(l) => {
@@ -54,19 +58,34 @@ fn ended(alloc: Global, names: &NameList, out: &mut Vec<u8>, x: &Option<RawList>
     }
 }
 
-/// Appends the canonical bytes of a program: its lexemes in order, each with a line feed behind it if it is `;`, `{` or `}`,
-/// else with a space. Fails only for want of memory.
-#[tactic(auto, using(crate::proofs::Steps::joined_bytes, crate::proofs::Steps::first_bytes, crate::proofs::Steps::no_bytes), unfolding(sync_parse_programs::specs::Programs::program))]
-pub fn program(alloc: Global, names: &NameList, out: &mut Vec<u8>, x: &RawProgram) -> Result<(), AllocError>
-    ensures { OnOk result (out.new.items ≡ out.old.items ++ bytes_of names.now (show_of program x.now)) }
+/// What stands in the braces of a program.
+fn program_body(alloc: Global, names: &NameList, out: &mut Vec<u8>, x: &RawProgram) -> Result<(), AllocError>
+    ensures { OnOk result (out.new.items ≡ out.old.items ++ written_of names.now (row at_declaration declaration ∘ start ∘ row (at_sign sign.Thread) thread ∘ ended) (x.now.declarations, (x.now.start, (x.now.threads, x.now.last)))) }
 {
-    sign(names, out, Sign::Program)?;
-    sign(names, out, Sign::OpenBrace)?;
     in_row::<DeclarationItem>(alloc, names, out, x.declarations.as_slice())?;
     start(alloc, names, out, &x.start)?;
     in_row::<ThreadItem>(alloc, names, out, x.threads.as_slice())?;
     ended(alloc, names, out, &x.last)?;
+    Ok(())
+}
+
+/// A program, by its production.
+#[tactic(auto, unfolding(sync_parse_programs::specs::Programs::program))]
+fn written_program(alloc: Global, names: &NameList, out: &mut Vec<u8>, x: &RawProgram) -> Result<(), AllocError>
+    ensures { OnOk result (out.new.items ≡ out.old.items ++ written_of names.now program x.now) }
+{
+    sign(names, out, Sign::Program)?;
+    sign(names, out, Sign::OpenBrace)?;
+    program_body(alloc, names, out, x)?;
     sign(names, out, Sign::CloseBrace)?;
     Ok(())
 }
 
+/// Appends the canonical bytes of a program: its lexemes in order, each with a line feed behind it if it is `;`, `{` or `}`,
+/// else with a space. Fails only for want of memory.
+#[tactic(auto, using(crate::proofs::Written::written_shown))]
+pub fn program(alloc: Global, names: &NameList, out: &mut Vec<u8>, x: &RawProgram) -> Result<(), AllocError>
+    ensures { OnOk result (out.new.items ≡ out.old.items ++ bytes_of names.now (show_of program x.now)) }
+{
+    written_program(alloc, names, out, x)
+}

@@ -1,8 +1,7 @@
 //! Writing proof statements and the start.
 ghost use Rattle.std.specs.Prelude.{◌≡◌, ◌++◌, OnOk};
 ghost use Rattle.sync_parse_programs.specs.ProofStatements.{token, tokens, do_form, kept_token, kept_tokens, closing, pair, let_form, split, merge, copy, move_form, assertion, plain_proof, opened, opening, yes, case_form, proof_kind, proof_statement, proof_block, in_squares_number};
-ghost use Rattle.sync_print_programs.specs.Shown.{show_of};
-ghost use Rattle.sync_print_programs.specs.Written.{bytes_of};
+ghost use Rattle.sync_print_programs.specs.Written.{written_of};
 
 use crate::lexemes::{expr, name, number, sign};
 use crate::lists::{NameItem, Repeated, args, in_list, in_row, label, name_list, scripts};
@@ -16,9 +15,9 @@ use sync_parse_programs::{
 };
 
 /// A number in square brackets.
-#[tactic(auto, using(crate::proofs::Steps::joined_bytes, crate::proofs::Steps::first_bytes, crate::proofs::Steps::no_bytes), unfolding(sync_parse_programs::specs::ProofStatements::in_squares_number))]
+#[tactic(auto, unfolding(sync_parse_programs::specs::ProofStatements::in_squares_number))]
 pub(crate) fn in_squares_number(alloc: Global, names: &NameList, out: &mut Vec<u8>, x: u128) -> Result<(), AllocError>
-    ensures { OnOk result (out.new.items ≡ out.old.items ++ bytes_of names.now (show_of in_squares_number x)) }
+    ensures { OnOk result (out.new.items ≡ out.old.items ++ written_of names.now in_squares_number x) }
 {
     sign(names, out, Sign::OpenSquare)?;
     number(alloc, names, out, x)?;
@@ -26,9 +25,9 @@ pub(crate) fn in_squares_number(alloc: Global, names: &NameList, out: &mut Vec<u
     Ok(())
 }
 
-#[tactic(auto, using(crate::proofs::Steps::joined_bytes, crate::proofs::Steps::first_bytes, crate::proofs::Steps::no_bytes), unfolding(sync_parse_programs::specs::ProofStatements::token))]
+#[tactic(auto, unfolding(sync_parse_programs::specs::ProofStatements::token))]
 fn token(alloc: Global, names: &NameList, out: &mut Vec<u8>, x: RawToken) -> Result<(), AllocError>
-    ensures { OnOk result (out.new.items ≡ out.old.items ++ bytes_of names.now (show_of token x)) }
+    ensures { OnOk result (out.new.items ≡ out.old.items ++ written_of names.now token x) }
 {
     name(names, out, x.name)?;
     match x.at {
@@ -42,7 +41,7 @@ struct TokenItem;
 impl Repeated for TokenItem {
     type Value = RawToken;
 
-    ghost shows = { show_of token };
+    ghost writes = { λ names. written_of names token };
 
     fn write(alloc: Global, names: &NameList, out: &mut Vec<u8>, x: &RawToken) -> Result<(), AllocError> {
         token(alloc, names, out, *x)
@@ -50,9 +49,9 @@ impl Repeated for TokenItem {
 }
 
 /// Tokens in round brackets.
-#[tactic(auto, using(crate::proofs::Steps::joined_bytes, crate::proofs::Steps::first_bytes, crate::proofs::Steps::no_bytes), unfolding(sync_parse_programs::specs::ProofStatements::tokens))]
+#[tactic(auto, unfolding(sync_parse_programs::specs::ProofStatements::tokens))]
 fn tokens(alloc: Global, names: &NameList, out: &mut Vec<u8>, x: &[RawToken]) -> Result<(), AllocError>
-    ensures { OnOk result (out.new.items ≡ out.old.items ++ bytes_of names.now (show_of tokens x.now)) }
+    ensures { OnOk result (out.new.items ≡ out.old.items ++ written_of names.now tokens x.now) }
 {
     sign(names, out, Sign::OpenRound)?;
     in_list::<TokenItem>(alloc, names, out, x)?;
@@ -61,9 +60,9 @@ fn tokens(alloc: Global, names: &NameList, out: &mut Vec<u8>, x: &[RawToken]) ->
 }
 
 /// An operation with its tokens.
-#[tactic(auto, using(crate::proofs::Steps::joined_bytes, crate::proofs::Steps::first_bytes, crate::proofs::Steps::no_bytes), unfolding(sync_parse_programs::specs::ProofStatements::do_form))]
+#[tactic(auto, unfolding(sync_parse_programs::specs::ProofStatements::do_form))]
 pub(crate) fn do_form(alloc: Global, names: &NameList, out: &mut Vec<u8>, x: &RawDoForm) -> Result<(), AllocError>
-    ensures { OnOk result (out.new.items ≡ out.old.items ++ bytes_of names.now (show_of do_form x.now)) }
+    ensures { OnOk result (out.new.items ≡ out.old.items ++ written_of names.now do_form x.now) }
 {
     name(names, out, x.operation)?;
     args(alloc, names, out, x.args.as_slice())?;
@@ -76,9 +75,9 @@ pub(crate) fn do_form(alloc: Global, names: &NameList, out: &mut Vec<u8>, x: &Ra
 }
 
 /// A token, or `no`.
-#[tactic(auto, using(crate::proofs::Steps::joined_bytes, crate::proofs::Steps::first_bytes, crate::proofs::Steps::no_bytes), unfolding(sync_parse_programs::specs::ProofStatements::kept_token))]
+#[tactic(auto, unfolding(sync_parse_programs::specs::ProofStatements::kept_token))]
 fn kept_token(alloc: Global, names: &NameList, out: &mut Vec<u8>, x: Option<RawToken>) -> Result<(), AllocError>
-    ensures { OnOk result (out.new.items ≡ out.old.items ++ bytes_of names.now (show_of kept_token x)) }
+    ensures { OnOk result (out.new.items ≡ out.old.items ++ written_of names.now kept_token x) }
 {
     match x {
         Some(t) => token(alloc, names, out, t),
@@ -91,7 +90,7 @@ struct KeptTokenItem;
 impl Repeated for KeptTokenItem {
     type Value = Option<RawToken>;
 
-    ghost shows = { show_of kept_token };
+    ghost writes = { λ names. written_of names kept_token };
 
     fn write(alloc: Global, names: &NameList, out: &mut Vec<u8>, x: &Option<RawToken>) -> Result<(), AllocError> {
         kept_token(alloc, names, out, *x)
@@ -99,9 +98,9 @@ impl Repeated for KeptTokenItem {
 }
 
 /// A token or `no` for each clause of a word.
-#[tactic(auto, using(crate::proofs::Steps::joined_bytes, crate::proofs::Steps::first_bytes, crate::proofs::Steps::no_bytes), unfolding(sync_parse_programs::specs::ProofStatements::kept_tokens))]
+#[tactic(auto, unfolding(sync_parse_programs::specs::ProofStatements::kept_tokens))]
 fn kept_tokens(alloc: Global, names: &NameList, out: &mut Vec<u8>, x: &[Option<RawToken>]) -> Result<(), AllocError>
-    ensures { OnOk result (out.new.items ≡ out.old.items ++ bytes_of names.now (show_of kept_tokens x.now)) }
+    ensures { OnOk result (out.new.items ≡ out.old.items ++ written_of names.now kept_tokens x.now) }
 {
     sign(names, out, Sign::OpenSquare)?;
     in_list::<KeptTokenItem>(alloc, names, out, x)?;
@@ -109,9 +108,9 @@ fn kept_tokens(alloc: Global, names: &NameList, out: &mut Vec<u8>, x: &[Option<R
     Ok(())
 }
 
-#[tactic(auto, using(crate::proofs::Steps::joined_bytes, crate::proofs::Steps::first_bytes, crate::proofs::Steps::no_bytes), unfolding(sync_parse_programs::specs::ProofStatements::closing))]
+#[tactic(auto, unfolding(sync_parse_programs::specs::ProofStatements::closing))]
 pub(crate) fn closing(alloc: Global, names: &NameList, out: &mut Vec<u8>, x: &RawClosing) -> Result<(), AllocError>
-    ensures { OnOk result (out.new.items ≡ out.old.items ++ bytes_of names.now (show_of closing x.now)) }
+    ensures { OnOk result (out.new.items ≡ out.old.items ++ written_of names.now closing x.now) }
 {
     args(alloc, names, out, x.args.as_slice())?;
     kept_tokens(alloc, names, out, x.tokens.as_slice())?;
@@ -120,9 +119,9 @@ pub(crate) fn closing(alloc: Global, names: &NameList, out: &mut Vec<u8>, x: &Ra
 }
 
 /// Two names in round brackets.
-#[tactic(auto, using(crate::proofs::Steps::joined_bytes, crate::proofs::Steps::first_bytes, crate::proofs::Steps::no_bytes), unfolding(sync_parse_programs::specs::ProofStatements::pair))]
+#[tactic(auto, unfolding(sync_parse_programs::specs::ProofStatements::pair))]
 fn pair(names: &NameList, out: &mut Vec<u8>, x: RawName, y: RawName) -> Result<(), AllocError>
-    ensures { OnOk result (out.new.items ≡ out.old.items ++ bytes_of names.now (show_of pair (x, y))) }
+    ensures { OnOk result (out.new.items ≡ out.old.items ++ written_of names.now pair (x, y)) }
 {
     sign(names, out, Sign::OpenRound)?;
     name(names, out, x)?;
@@ -132,9 +131,9 @@ fn pair(names: &NameList, out: &mut Vec<u8>, x: RawName, y: RawName) -> Result<(
     Ok(())
 }
 
-#[tactic(auto, using(crate::proofs::Steps::joined_bytes, crate::proofs::Steps::first_bytes, crate::proofs::Steps::no_bytes), unfolding(sync_parse_programs::specs::ProofStatements::let_form))]
+#[tactic(auto, unfolding(sync_parse_programs::specs::ProofStatements::let_form))]
 fn let_form(alloc: Global, names: &NameList, out: &mut Vec<u8>, x: &RawLet) -> Result<(), AllocError>
-    ensures { OnOk result (out.new.items ≡ out.old.items ++ bytes_of names.now (show_of let_form x.now)) }
+    ensures { OnOk result (out.new.items ≡ out.old.items ++ written_of names.now let_form x.now) }
 {
     sign(names, out, Sign::Let)?;
     name(names, out, x.name)?;
@@ -144,9 +143,9 @@ fn let_form(alloc: Global, names: &NameList, out: &mut Vec<u8>, x: &RawLet) -> R
     Ok(())
 }
 
-#[tactic(auto, using(crate::proofs::Steps::joined_bytes, crate::proofs::Steps::first_bytes, crate::proofs::Steps::no_bytes), unfolding(sync_parse_programs::specs::ProofStatements::split))]
+#[tactic(auto, unfolding(sync_parse_programs::specs::ProofStatements::split))]
 fn split(alloc: Global, names: &NameList, out: &mut Vec<u8>, x: &RawSplit) -> Result<(), AllocError>
-    ensures { OnOk result (out.new.items ≡ out.old.items ++ bytes_of names.now (show_of split x.now)) }
+    ensures { OnOk result (out.new.items ≡ out.old.items ++ written_of names.now split x.now) }
 {
     sign(names, out, Sign::Split)?;
     name(names, out, x.token)?;
@@ -158,9 +157,9 @@ fn split(alloc: Global, names: &NameList, out: &mut Vec<u8>, x: &RawSplit) -> Re
     Ok(())
 }
 
-#[tactic(auto, using(crate::proofs::Steps::joined_bytes, crate::proofs::Steps::first_bytes, crate::proofs::Steps::no_bytes), unfolding(sync_parse_programs::specs::ProofStatements::merge))]
+#[tactic(auto, unfolding(sync_parse_programs::specs::ProofStatements::merge))]
 fn merge(names: &NameList, out: &mut Vec<u8>, x: RawMerge) -> Result<(), AllocError>
-    ensures { OnOk result (out.new.items ≡ out.old.items ++ bytes_of names.now (show_of merge x)) }
+    ensures { OnOk result (out.new.items ≡ out.old.items ++ written_of names.now merge x) }
 {
     sign(names, out, Sign::Merge)?;
     pair(names, out, x.first, x.second)?;
@@ -170,9 +169,9 @@ fn merge(names: &NameList, out: &mut Vec<u8>, x: RawMerge) -> Result<(), AllocEr
     Ok(())
 }
 
-#[tactic(auto, using(crate::proofs::Steps::joined_bytes, crate::proofs::Steps::first_bytes, crate::proofs::Steps::no_bytes), unfolding(sync_parse_programs::specs::ProofStatements::copy))]
+#[tactic(auto, unfolding(sync_parse_programs::specs::ProofStatements::copy))]
 fn copy(names: &NameList, out: &mut Vec<u8>, x: RawCopy) -> Result<(), AllocError>
-    ensures { OnOk result (out.new.items ≡ out.old.items ++ bytes_of names.now (show_of copy x)) }
+    ensures { OnOk result (out.new.items ≡ out.old.items ++ written_of names.now copy x) }
 {
     sign(names, out, Sign::Copy)?;
     name(names, out, x.token)?;
@@ -182,9 +181,9 @@ fn copy(names: &NameList, out: &mut Vec<u8>, x: RawCopy) -> Result<(), AllocErro
     Ok(())
 }
 
-#[tactic(auto, using(crate::proofs::Steps::joined_bytes, crate::proofs::Steps::first_bytes, crate::proofs::Steps::no_bytes), unfolding(sync_parse_programs::specs::ProofStatements::move_form))]
+#[tactic(auto, unfolding(sync_parse_programs::specs::ProofStatements::move_form))]
 fn move_form(alloc: Global, names: &NameList, out: &mut Vec<u8>, x: RawMove) -> Result<(), AllocError>
-    ensures { OnOk result (out.new.items ≡ out.old.items ++ bytes_of names.now (show_of move_form x)) }
+    ensures { OnOk result (out.new.items ≡ out.old.items ++ written_of names.now move_form x) }
 {
     sign(names, out, Sign::Move)?;
     token(alloc, names, out, x.token)?;
@@ -194,9 +193,9 @@ fn move_form(alloc: Global, names: &NameList, out: &mut Vec<u8>, x: RawMove) -> 
     Ok(())
 }
 
-#[tactic(auto, using(crate::proofs::Steps::joined_bytes, crate::proofs::Steps::first_bytes, crate::proofs::Steps::no_bytes), unfolding(sync_parse_programs::specs::ProofStatements::assertion))]
+#[tactic(auto, unfolding(sync_parse_programs::specs::ProofStatements::assertion))]
 fn assertion(alloc: Global, names: &NameList, out: &mut Vec<u8>, x: &RawAssert) -> Result<(), AllocError>
-    ensures { OnOk result (out.new.items ≡ out.old.items ++ bytes_of names.now (show_of assertion x.now)) }
+    ensures { OnOk result (out.new.items ≡ out.old.items ++ written_of names.now assertion x.now) }
 {
     sign(names, out, Sign::Assert)?;
     expr(alloc, names, out, &x.form)?;
@@ -207,9 +206,9 @@ fn assertion(alloc: Global, names: &NameList, out: &mut Vec<u8>, x: &RawAssert) 
 }
 
 /// A proof statement that may stand anywhere.
-#[tactic(auto, using(crate::proofs::Steps::joined_bytes, crate::proofs::Steps::first_bytes, crate::proofs::Steps::no_bytes), unfolding(sync_parse_programs::specs::ProofStatements::plain_proof))]
+#[tactic(auto, unfolding(sync_parse_programs::specs::ProofStatements::plain_proof))]
 pub(crate) fn plain_proof(alloc: Global, names: &NameList, out: &mut Vec<u8>, x: &RawPlainProof) -> Result<(), AllocError>
-    ensures { OnOk result (out.new.items ≡ out.old.items ++ bytes_of names.now (show_of plain_proof x.now)) }
+    ensures { OnOk result (out.new.items ≡ out.old.items ++ written_of names.now plain_proof x.now) }
 {
     match x {
         RawPlainProof::Let(y) => let_form(alloc, names, out, y),
@@ -228,9 +227,9 @@ pub(crate) fn plain_proof(alloc: Global, names: &NameList, out: &mut Vec<u8>, x:
 }
 
 /// Names in square brackets.
-#[tactic(auto, using(crate::proofs::Steps::joined_bytes, crate::proofs::Steps::first_bytes, crate::proofs::Steps::no_bytes), unfolding(sync_parse_programs::specs::ProofStatements::opened))]
+#[tactic(auto, unfolding(sync_parse_programs::specs::ProofStatements::opened))]
 fn opened(alloc: Global, names: &NameList, out: &mut Vec<u8>, x: &[RawName]) -> Result<(), AllocError>
-    ensures { OnOk result (out.new.items ≡ out.old.items ++ bytes_of names.now (show_of opened x.now)) }
+    ensures { OnOk result (out.new.items ≡ out.old.items ++ written_of names.now opened x.now) }
 {
     sign(names, out, Sign::OpenSquare)?;
     in_list::<NameItem>(alloc, names, out, x)?;
@@ -238,9 +237,9 @@ fn opened(alloc: Global, names: &NameList, out: &mut Vec<u8>, x: &[RawName]) -> 
     Ok(())
 }
 
-#[tactic(auto, using(crate::proofs::Steps::joined_bytes, crate::proofs::Steps::first_bytes, crate::proofs::Steps::no_bytes), unfolding(sync_parse_programs::specs::ProofStatements::opening))]
+#[tactic(auto, unfolding(sync_parse_programs::specs::ProofStatements::opening))]
 fn opening(alloc: Global, names: &NameList, out: &mut Vec<u8>, x: &RawOpen) -> Result<(), AllocError>
-    ensures { OnOk result (out.new.items ≡ out.old.items ++ bytes_of names.now (show_of opening x.now)) }
+    ensures { OnOk result (out.new.items ≡ out.old.items ++ written_of names.now opening x.now) }
 {
     sign(names, out, Sign::Open)?;
     name_list(alloc, names, out, x.names.as_slice())?;
@@ -251,9 +250,9 @@ fn opening(alloc: Global, names: &NameList, out: &mut Vec<u8>, x: &RawOpen) -> R
 }
 
 /// `yes` and a name, or `no`.
-#[tactic(auto, using(crate::proofs::Steps::joined_bytes, crate::proofs::Steps::first_bytes, crate::proofs::Steps::no_bytes), unfolding(sync_parse_programs::specs::ProofStatements::yes))]
+#[tactic(auto, unfolding(sync_parse_programs::specs::ProofStatements::yes))]
 fn yes(names: &NameList, out: &mut Vec<u8>, x: Option<RawName>) -> Result<(), AllocError>
-    ensures { OnOk result (out.new.items ≡ out.old.items ++ bytes_of names.now (show_of yes x)) }
+    ensures { OnOk result (out.new.items ≡ out.old.items ++ written_of names.now yes x) }
 {
     match x {
         Some(named) => {
@@ -265,9 +264,9 @@ fn yes(names: &NameList, out: &mut Vec<u8>, x: Option<RawName>) -> Result<(), Al
     }
 }
 
-#[tactic(auto, using(crate::proofs::Steps::joined_bytes, crate::proofs::Steps::first_bytes, crate::proofs::Steps::no_bytes), unfolding(sync_parse_programs::specs::ProofStatements::case_form))]
+#[tactic(auto, unfolding(sync_parse_programs::specs::ProofStatements::case_form))]
 fn case_form(alloc: Global, names: &NameList, out: &mut Vec<u8>, x: &RawCase) -> Result<(), AllocError>
-    ensures { OnOk result (out.new.items ≡ out.old.items ++ bytes_of names.now (show_of case_form x.now)) }
+    ensures { OnOk result (out.new.items ≡ out.old.items ++ written_of names.now case_form x.now) }
 {
     sign(names, out, Sign::Case)?;
     number(alloc, names, out, x.clause)?;
@@ -278,9 +277,9 @@ fn case_form(alloc: Global, names: &NameList, out: &mut Vec<u8>, x: &RawCase) ->
 }
 
 /// What a statement of a proof block does.
-#[tactic(auto, using(crate::proofs::Steps::joined_bytes, crate::proofs::Steps::first_bytes, crate::proofs::Steps::no_bytes), unfolding(sync_parse_programs::specs::ProofStatements::proof_kind))]
+#[tactic(auto, unfolding(sync_parse_programs::specs::ProofStatements::proof_kind))]
 fn proof_kind(alloc: Global, names: &NameList, out: &mut Vec<u8>, x: &RawProofKind) -> Result<(), AllocError>
-    ensures { OnOk result (out.new.items ≡ out.old.items ++ bytes_of names.now (show_of proof_kind x.now)) }
+    ensures { OnOk result (out.new.items ≡ out.old.items ++ written_of names.now proof_kind x.now) }
 {
     match x {
         RawProofKind::Plain(y) => plain_proof(alloc, names, out, y),
@@ -302,9 +301,9 @@ fn proof_kind(alloc: Global, names: &NameList, out: &mut Vec<u8>, x: &RawProofKi
 }
 
 /// A statement of a proof block.
-#[tactic(auto, using(crate::proofs::Steps::joined_bytes, crate::proofs::Steps::first_bytes, crate::proofs::Steps::no_bytes), unfolding(sync_parse_programs::specs::ProofStatements::proof_statement))]
+#[tactic(auto, unfolding(sync_parse_programs::specs::ProofStatements::proof_statement))]
 fn proof_statement(alloc: Global, names: &NameList, out: &mut Vec<u8>, x: &RawProofStatement) -> Result<(), AllocError>
-    ensures { OnOk result (out.new.items ≡ out.old.items ++ bytes_of names.now (show_of proof_statement x.now)) }
+    ensures { OnOk result (out.new.items ≡ out.old.items ++ written_of names.now proof_statement x.now) }
 {
     proof_kind(alloc, names, out, &x.what)
 }
@@ -314,16 +313,16 @@ struct ProofItem;
 impl Repeated for ProofItem {
     type Value = RawProofStatement;
 
-    ghost shows = { show_of proof_statement };
+    ghost writes = { λ names. written_of names proof_statement };
 
     fn write(alloc: Global, names: &NameList, out: &mut Vec<u8>, x: &RawProofStatement) -> Result<(), AllocError> {
         proof_statement(alloc, names, out, x)
     }
 }
 
-#[tactic(auto, using(crate::proofs::Steps::joined_bytes, crate::proofs::Steps::first_bytes, crate::proofs::Steps::no_bytes), unfolding(sync_parse_programs::specs::ProofStatements::proof_block))]
+#[tactic(auto, unfolding(sync_parse_programs::specs::ProofStatements::proof_block))]
 pub(crate) fn proof_block(alloc: Global, names: &NameList, out: &mut Vec<u8>, x: &[RawProofStatement]) -> Result<(), AllocError>
-    ensures { OnOk result (out.new.items ≡ out.old.items ++ bytes_of names.now (show_of proof_block x.now)) }
+    ensures { OnOk result (out.new.items ≡ out.old.items ++ written_of names.now proof_block x.now) }
 {
     sign(names, out, Sign::OpenBrace)?;
     in_row::<ProofItem>(alloc, names, out, x)?;

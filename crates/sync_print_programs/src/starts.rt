@@ -2,8 +2,7 @@
 ghost use Rattle.std.specs.Prelude.{◌≡◌, ◌++◌, OnOk};
 ghost use Rattle.sync_parse_programs.specs.ProofStatements.{seal, give, start_kind, start_statement};
 ghost use Rattle.sync_parse_programs.specs.Programs.{start_block, start};
-ghost use Rattle.sync_print_programs.specs.Shown.{show_of};
-ghost use Rattle.sync_print_programs.specs.Written.{bytes_of};
+ghost use Rattle.sync_print_programs.specs.Written.{written_of};
 
 use crate::lexemes::{name, sign};
 use crate::lists::{Repeated, args, in_row, scripts};
@@ -13,9 +12,9 @@ use sync_base::NameList;
 use sync_lex::Sign;
 use sync_parse_programs::{RawGive, RawSeal, RawStart, RawStartKind, RawStartStatement};
 
-#[tactic(auto, using(crate::proofs::Steps::joined_bytes, crate::proofs::Steps::first_bytes, crate::proofs::Steps::no_bytes), unfolding(sync_parse_programs::specs::ProofStatements::seal))]
+#[tactic(auto, unfolding(sync_parse_programs::specs::ProofStatements::seal))]
 fn seal(alloc: Global, names: &NameList, out: &mut Vec<u8>, x: &RawSeal) -> Result<(), AllocError>
-    ensures { OnOk result (out.new.items ≡ out.old.items ++ bytes_of names.now (show_of seal x.now)) }
+    ensures { OnOk result (out.new.items ≡ out.old.items ++ written_of names.now seal x.now) }
 {
     sign(names, out, Sign::Seal)?;
     name(names, out, x.word)?;
@@ -25,9 +24,9 @@ fn seal(alloc: Global, names: &NameList, out: &mut Vec<u8>, x: &RawSeal) -> Resu
     Ok(())
 }
 
-#[tactic(auto, using(crate::proofs::Steps::joined_bytes, crate::proofs::Steps::first_bytes, crate::proofs::Steps::no_bytes), unfolding(sync_parse_programs::specs::ProofStatements::give))]
+#[tactic(auto, unfolding(sync_parse_programs::specs::ProofStatements::give))]
 fn give(alloc: Global, names: &NameList, out: &mut Vec<u8>, x: &RawGive) -> Result<(), AllocError>
-    ensures { OnOk result (out.new.items ≡ out.old.items ++ bytes_of names.now (show_of give x.now)) }
+    ensures { OnOk result (out.new.items ≡ out.old.items ++ written_of names.now give x.now) }
 {
     sign(names, out, Sign::Give)?;
     name(names, out, x.thread)?;
@@ -38,9 +37,9 @@ fn give(alloc: Global, names: &NameList, out: &mut Vec<u8>, x: &RawGive) -> Resu
 }
 
 /// What a statement of the start does.
-#[tactic(auto, using(crate::proofs::Steps::joined_bytes, crate::proofs::Steps::first_bytes, crate::proofs::Steps::no_bytes), unfolding(sync_parse_programs::specs::ProofStatements::start_kind))]
+#[tactic(auto, unfolding(sync_parse_programs::specs::ProofStatements::start_kind))]
 fn start_kind(alloc: Global, names: &NameList, out: &mut Vec<u8>, x: &RawStartKind) -> Result<(), AllocError>
-    ensures { OnOk result (out.new.items ≡ out.old.items ++ bytes_of names.now (show_of start_kind x.now)) }
+    ensures { OnOk result (out.new.items ≡ out.old.items ++ written_of names.now start_kind x.now) }
 {
     match x {
         RawStartKind::Plain(y) => plain_proof(alloc, names, out, y),
@@ -50,9 +49,9 @@ fn start_kind(alloc: Global, names: &NameList, out: &mut Vec<u8>, x: &RawStartKi
 }
 
 /// A statement of the start.
-#[tactic(auto, using(crate::proofs::Steps::joined_bytes, crate::proofs::Steps::first_bytes, crate::proofs::Steps::no_bytes), unfolding(sync_parse_programs::specs::ProofStatements::start_statement))]
+#[tactic(auto, unfolding(sync_parse_programs::specs::ProofStatements::start_statement))]
 fn start_statement(alloc: Global, names: &NameList, out: &mut Vec<u8>, x: &RawStartStatement) -> Result<(), AllocError>
-    ensures { OnOk result (out.new.items ≡ out.old.items ++ bytes_of names.now (show_of start_statement x.now)) }
+    ensures { OnOk result (out.new.items ≡ out.old.items ++ written_of names.now start_statement x.now) }
 {
     start_kind(alloc, names, out, &x.what)
 }
@@ -62,7 +61,7 @@ struct StartItem;
 impl Repeated for StartItem {
     type Value = RawStartStatement;
 
-    ghost shows = { show_of start_statement };
+    ghost writes = { λ names. written_of names start_statement };
 
     fn write(alloc: Global, names: &NameList, out: &mut Vec<u8>, x: &RawStartStatement) -> Result<(), AllocError> {
         start_statement(alloc, names, out, x)
@@ -70,9 +69,9 @@ impl Repeated for StartItem {
 }
 
 /// The statements of the start.
-#[tactic(auto, using(crate::proofs::Steps::joined_bytes, crate::proofs::Steps::first_bytes, crate::proofs::Steps::no_bytes), unfolding(sync_parse_programs::specs::Programs::start_block))]
+#[tactic(auto, unfolding(sync_parse_programs::specs::Programs::start_block))]
 fn start_block(alloc: Global, names: &NameList, out: &mut Vec<u8>, x: &[RawStartStatement]) -> Result<(), AllocError>
-    ensures { OnOk result (out.new.items ≡ out.old.items ++ bytes_of names.now (show_of start_block x.now)) }
+    ensures { OnOk result (out.new.items ≡ out.old.items ++ written_of names.now start_block x.now) }
 {
     sign(names, out, Sign::OpenBrace)?;
     in_row::<StartItem>(alloc, names, out, x)?;
@@ -80,9 +79,9 @@ fn start_block(alloc: Global, names: &NameList, out: &mut Vec<u8>, x: &[RawStart
     Ok(())
 }
 
-#[tactic(auto, using(crate::proofs::Steps::joined_bytes, crate::proofs::Steps::first_bytes, crate::proofs::Steps::no_bytes), unfolding(sync_parse_programs::specs::Programs::start))]
+#[tactic(auto, unfolding(sync_parse_programs::specs::Programs::start))]
 pub(crate) fn start(alloc: Global, names: &NameList, out: &mut Vec<u8>, x: &RawStart) -> Result<(), AllocError>
-    ensures { OnOk result (out.new.items ≡ out.old.items ++ bytes_of names.now (show_of start x.now)) }
+    ensures { OnOk result (out.new.items ≡ out.old.items ++ written_of names.now start x.now) }
 {
     sign(names, out, Sign::Start)?;
     do_form(alloc, names, out, &x.form)?;
