@@ -170,7 +170,7 @@ Any x = Unit {0}
 
 -- ---- ends of atomic statements
 
-abbrev tail_code : Production (Unit {0} ⊎ (List RawProofStatement ⊎ RawWhen))
+abbrev pub tail_code : Production (Unit {0} ⊎ (List RawProofStatement ⊎ RawWhen))
 tail_code = either (at_sign sign.Semicolon) (sign.Semicolon ▸ nothing) (either (at_sign sign.Proof) (sign.Proof ▸ proof_block ◂ sign.Semicolon) when_form)
 
 abbrev Tail : RawTail → Type 0
@@ -190,7 +190,7 @@ tail_below = ind-RawTail Any Any Tail Any Any Any Any Any (λ x y is. tt) (λ x 
 
 -- ---- what a local is given
 
-abbrev right_code : Production ((RawAtomic × RawTail) ⊎ (RawRead ⊎ (RawPeek ⊎ (RawCalculation × Option RawName))))
+abbrev pub right_code : Production ((RawAtomic × RawTail) ⊎ (RawRead ⊎ (RawPeek ⊎ (RawCalculation × Option RawName))))
 right_code = either at_atomic (atomic ∘ ending) (either (at_sign sign.Read) read_form (either (at_sign sign.Peek) peek (calculated ∘ label ◂ sign.Semicolon)))
 
 abbrev Right : RawRightSide → Type 0
@@ -212,8 +212,8 @@ right_below = ind-RawRightSide Right Any Any Any Any Any Any Any (λ x y is. rig
 
 -- ---- what statements do
 
-abbrev kind_code : Production ((RawStore × RawTail) ⊎ (RawWrite ⊎ ((RawName × RawOperand) ⊎ (RawIf ⊎ (RawLoop ⊎ (RawJump ⊎ (RawJump ⊎ (RawJump ⊎ (RawJump ⊎ (RawPlainProof ⊎ (RawName × RawRightSide)))))))))))
-kind_code = 
+abbrev pub kind_code : Production ((RawStore × RawTail) ⊎ (RawWrite ⊎ ((RawName × RawOperand) ⊎ (RawIf ⊎ (RawLoop ⊎ (RawJump ⊎ (RawJump ⊎ (RawJump ⊎ (RawJump ⊎ (RawPlainProof ⊎ (RawName × RawRightSide)))))))))))
+kind_code =
     either (at_sign sign.Store) (store ∘ ending)
     (either (at_sign sign.Write) write_form
     (either (at_sign sign.Print) print_form

@@ -21,7 +21,12 @@ use sync_parse_programs::{
 };
 
 #[tactic(auto, unfolding(sync_parse_programs::specs::ProofStatements::pattern))]
-fn pattern(alloc: Global, names: &NameList, out: &mut Vec<u8>, x: &RawPattern) -> Result<(), AllocError>
+fn pattern(
+    alloc: Global,
+    names: &NameList,
+    out: &mut Vec<u8>,
+    x: &RawPattern,
+) -> Result<(), AllocError>
     ensures { OnOk result (out.new.items ≡ out.old.items ++ written_of names.now pattern x.now) }
 {
     match x {
@@ -73,7 +78,12 @@ fn field(names: &NameList, out: &mut Vec<u8>, x: Option<RawName>) -> Result<(), 
 }
 
 #[tactic(auto, unfolding(sync_parse_programs::specs::ProofStatements::shape))]
-pub(crate) fn shape(alloc: Global, names: &NameList, out: &mut Vec<u8>, x: &RawShape) -> Result<(), AllocError>
+pub(crate) fn shape(
+    alloc: Global,
+    names: &NameList,
+    out: &mut Vec<u8>,
+    x: &RawShape,
+) -> Result<(), AllocError>
     ensures { OnOk result (out.new.items ≡ out.old.items ++ written_of names.now shape x.now) }
 {
     field(names, out, x.field)?;
@@ -83,7 +93,12 @@ pub(crate) fn shape(alloc: Global, names: &NameList, out: &mut Vec<u8>, x: &RawS
 
 /// A token that a keep names.
 #[tactic(auto, unfolding(sync_parse_programs::specs::ProofStatements::keep_line))]
-fn keep_line(alloc: Global, names: &NameList, out: &mut Vec<u8>, x: &RawKeepLine) -> Result<(), AllocError>
+fn keep_line(
+    alloc: Global,
+    names: &NameList,
+    out: &mut Vec<u8>,
+    x: &RawKeepLine,
+) -> Result<(), AllocError>
     ensures { OnOk result (out.new.items ≡ out.old.items ++ written_of names.now keep_line x.now) }
 {
     name(names, out, x.name)?;
@@ -95,7 +110,12 @@ fn keep_line(alloc: Global, names: &NameList, out: &mut Vec<u8>, x: &RawKeepLine
 
 /// A formula that a keep states.
 #[tactic(auto, unfolding(sync_parse_programs::specs::ProofStatements::keep_fact))]
-fn keep_fact(alloc: Global, names: &NameList, out: &mut Vec<u8>, x: &RawKeepFact) -> Result<(), AllocError>
+fn keep_fact(
+    alloc: Global,
+    names: &NameList,
+    out: &mut Vec<u8>,
+    x: &RawKeepFact,
+) -> Result<(), AllocError>
     ensures { OnOk result (out.new.items ≡ out.old.items ++ written_of names.now keep_fact x.now) }
 {
     sign(names, out, Sign::Fact)?;
@@ -112,7 +132,12 @@ impl Repeated for KeepLineItem {
 
     ghost writes = { λ names. written_of names keep_line };
 
-    fn write(alloc: Global, names: &NameList, out: &mut Vec<u8>, x: &RawKeepLine) -> Result<(), AllocError> {
+    fn write(
+        alloc: Global,
+        names: &NameList,
+        out: &mut Vec<u8>,
+        x: &RawKeepLine,
+    ) -> Result<(), AllocError> {
         keep_line(alloc, names, out, x)
     }
 }
@@ -124,13 +149,24 @@ impl Repeated for KeepFactItem {
 
     ghost writes = { λ names. written_of names keep_fact };
 
-    fn write(alloc: Global, names: &NameList, out: &mut Vec<u8>, x: &RawKeepFact) -> Result<(), AllocError> {
+    fn write(
+        alloc: Global,
+        names: &NameList,
+        out: &mut Vec<u8>,
+        x: &RawKeepFact,
+    ) -> Result<(), AllocError> {
         keep_fact(alloc, names, out, x)
     }
 }
 
 /// What a keep says of tokens and values.
-fn keep_body(alloc: Global, names: &NameList, out: &mut Vec<u8>, x: &[RawKeepLine], y: &[RawKeepFact]) -> Result<(), AllocError>
+fn keep_body(
+    alloc: Global,
+    names: &NameList,
+    out: &mut Vec<u8>,
+    x: &[RawKeepLine],
+    y: &[RawKeepFact],
+) -> Result<(), AllocError>
     ensures { OnOk result (out.new.items ≡ out.old.items ++ written_of names.now (braces (row at_name keep_line ∘ row (at_sign sign.Fact) keep_fact)) (x.now, y.now)) }
 {
     sign(names, out, Sign::OpenBrace)?;
@@ -141,7 +177,12 @@ fn keep_body(alloc: Global, names: &NameList, out: &mut Vec<u8>, x: &[RawKeepLin
 }
 
 #[tactic(auto, unfolding(sync_parse_programs::specs::ProofStatements::keep))]
-pub(crate) fn keep(alloc: Global, names: &NameList, out: &mut Vec<u8>, x: &RawKeep) -> Result<(), AllocError>
+pub(crate) fn keep(
+    alloc: Global,
+    names: &NameList,
+    out: &mut Vec<u8>,
+    x: &RawKeep,
+) -> Result<(), AllocError>
     ensures { OnOk result (out.new.items ≡ out.old.items ++ written_of names.now keep x.now) }
 {
     name_list(alloc, names, out, x.names.as_slice())?;
@@ -151,7 +192,12 @@ pub(crate) fn keep(alloc: Global, names: &NameList, out: &mut Vec<u8>, x: &RawKe
 
 /// The guard of a clause, or nothing.
 #[tactic(auto, unfolding(sync_parse_programs::specs::ProofStatements::guard))]
-fn guard(alloc: Global, names: &NameList, out: &mut Vec<u8>, x: &Option<RawExpr>) -> Result<(), AllocError>
+fn guard(
+    alloc: Global,
+    names: &NameList,
+    out: &mut Vec<u8>,
+    x: &Option<RawExpr>,
+) -> Result<(), AllocError>
     ensures { OnOk result (out.new.items ≡ out.old.items ++ written_of names.now guard x.now) }
 {
     match x {
@@ -165,7 +211,12 @@ fn guard(alloc: Global, names: &NameList, out: &mut Vec<u8>, x: &Option<RawExpr>
 }
 
 #[tactic(auto, unfolding(sync_parse_programs::specs::ProofStatements::clause))]
-fn clause(alloc: Global, names: &NameList, out: &mut Vec<u8>, x: &RawClause) -> Result<(), AllocError>
+fn clause(
+    alloc: Global,
+    names: &NameList,
+    out: &mut Vec<u8>,
+    x: &RawClause,
+) -> Result<(), AllocError>
     ensures { OnOk result (out.new.items ≡ out.old.items ++ written_of names.now clause x.now) }
 {
     sign(names, out, Sign::Holds)?;
@@ -182,14 +233,24 @@ impl Repeated for ClauseItem {
 
     ghost writes = { λ names. written_of names clause };
 
-    fn write(alloc: Global, names: &NameList, out: &mut Vec<u8>, x: &RawClause) -> Result<(), AllocError> {
+    fn write(
+        alloc: Global,
+        names: &NameList,
+        out: &mut Vec<u8>,
+        x: &RawClause,
+    ) -> Result<(), AllocError> {
         clause(alloc, names, out, x)
     }
 }
 
 /// A number in square brackets.
 #[tactic(auto, unfolding(sync_parse_programs::specs::ProofStatements::in_squares))]
-fn in_squares(alloc: Global, names: &NameList, out: &mut Vec<u8>, x: RawNumber) -> Result<(), AllocError>
+fn in_squares(
+    alloc: Global,
+    names: &NameList,
+    out: &mut Vec<u8>,
+    x: RawNumber,
+) -> Result<(), AllocError>
     ensures { OnOk result (out.new.items ≡ out.old.items ++ written_of names.now in_squares x) }
 {
     sign(names, out, Sign::OpenSquare)?;
@@ -200,7 +261,12 @@ fn in_squares(alloc: Global, names: &NameList, out: &mut Vec<u8>, x: RawNumber) 
 
 /// `with` and names, or nothing.
 #[tactic(auto, unfolding(sync_parse_programs::specs::ProofStatements::with_names))]
-fn with_names(alloc: Global, names: &NameList, out: &mut Vec<u8>, x: &Option<Items<RawName>>) -> Result<(), AllocError>
+fn with_names(
+    alloc: Global,
+    names: &NameList,
+    out: &mut Vec<u8>,
+    x: &Option<Items<RawName>>,
+) -> Result<(), AllocError>
     ensures { OnOk result (out.new.items ≡ out.old.items ++ written_of names.now with_names x.now) }
 {
     match x {
@@ -215,7 +281,12 @@ fn with_names(alloc: Global, names: &NameList, out: &mut Vec<u8>, x: &Option<Ite
 
 /// What a word states, or nothing.
 #[tactic(auto, unfolding(sync_parse_programs::specs::ProofStatements::word_fact))]
-fn word_fact(alloc: Global, names: &NameList, out: &mut Vec<u8>, x: &Option<RawExpr>) -> Result<(), AllocError>
+fn word_fact(
+    alloc: Global,
+    names: &NameList,
+    out: &mut Vec<u8>,
+    x: &Option<RawExpr>,
+) -> Result<(), AllocError>
     ensures { OnOk result (out.new.items ≡ out.old.items ++ written_of names.now word_fact x.now) }
 {
     match x {
@@ -230,7 +301,13 @@ fn word_fact(alloc: Global, names: &NameList, out: &mut Vec<u8>, x: &Option<RawE
 }
 
 /// The clauses of a word, and what it states.
-fn word_body(alloc: Global, names: &NameList, out: &mut Vec<u8>, x: &[RawClause], y: &Option<RawExpr>) -> Result<(), AllocError>
+fn word_body(
+    alloc: Global,
+    names: &NameList,
+    out: &mut Vec<u8>,
+    x: &[RawClause],
+    y: &Option<RawExpr>,
+) -> Result<(), AllocError>
     ensures { OnOk result (out.new.items ≡ out.old.items ++ written_of names.now (braces (row (at_sign sign.Holds) clause ∘ word_fact)) (x.now, y.now)) }
 {
     sign(names, out, Sign::OpenBrace)?;
@@ -268,7 +345,12 @@ fn cell(alloc: Global, names: &NameList, out: &mut Vec<u8>, x: RawCell) -> Resul
 }
 
 #[tactic(auto, unfolding(sync_parse_programs::specs::ProofStatements::declaration))]
-fn declaration(alloc: Global, names: &NameList, out: &mut Vec<u8>, x: &RawDeclaration) -> Result<(), AllocError>
+fn declaration(
+    alloc: Global,
+    names: &NameList,
+    out: &mut Vec<u8>,
+    x: &RawDeclaration,
+) -> Result<(), AllocError>
     ensures { OnOk result (out.new.items ≡ out.old.items ++ written_of names.now declaration x.now) }
 {
     match x {
@@ -284,8 +366,12 @@ impl Repeated for DeclarationItem {
 
     ghost writes = { λ names. written_of names declaration };
 
-    fn write(alloc: Global, names: &NameList, out: &mut Vec<u8>, x: &RawDeclaration) -> Result<(), AllocError> {
+    fn write(
+        alloc: Global,
+        names: &NameList,
+        out: &mut Vec<u8>,
+        x: &RawDeclaration,
+    ) -> Result<(), AllocError> {
         declaration(alloc, names, out, x)
     }
 }
-

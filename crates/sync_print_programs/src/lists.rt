@@ -19,12 +19,22 @@ pub(crate) trait Repeated {
 
     ghost writes: { NameList → Self.Value → List ℕ };
 
-    fn write(alloc: Global, names: &NameList, out: &mut Vec<u8>, x: &Self::Value) -> Result<(), AllocError>
+    fn write(
+        alloc: Global,
+        names: &NameList,
+        out: &mut Vec<u8>,
+        x: &Self::Value,
+    ) -> Result<(), AllocError>
         ensures { OnOk result (out.new.items ≡ out.old.items ++ writes names.now x.now) };
 }
 
 /// Items in a row.
-pub(crate) fn in_row<P: Repeated>(alloc: Global, names: &NameList, out: &mut Vec<u8>, list: &[P::Value]) -> Result<(), AllocError>
+pub(crate) fn in_row<P: Repeated>(
+    alloc: Global,
+    names: &NameList,
+    out: &mut Vec<u8>,
+    list: &[P::Value],
+) -> Result<(), AllocError>
     ensures { OnOk result (out.new.items ≡ out.old.items ++ all_written (P.writes names.now) list.now) }
 {
     for x in list {
@@ -34,7 +44,12 @@ pub(crate) fn in_row<P: Repeated>(alloc: Global, names: &NameList, out: &mut Vec
 }
 
 /// Items, each behind a comma.
-fn behind_commas<P: Repeated>(alloc: Global, names: &NameList, out: &mut Vec<u8>, list: &[P::Value]) -> Result<(), AllocError>
+fn behind_commas<P: Repeated>(
+    alloc: Global,
+    names: &NameList,
+    out: &mut Vec<u8>,
+    list: &[P::Value],
+) -> Result<(), AllocError>
     ensures { OnOk result (out.new.items ≡ out.old.items ++ commas_written names.now (P.writes names.now) list.now) }
 {
     for x in list {
@@ -45,7 +60,12 @@ fn behind_commas<P: Repeated>(alloc: Global, names: &NameList, out: &mut Vec<u8>
 }
 
 /// Items with commas between.
-pub(crate) fn in_list<P: Repeated>(alloc: Global, names: &NameList, out: &mut Vec<u8>, list: &[P::Value]) -> Result<(), AllocError>
+pub(crate) fn in_list<P: Repeated>(
+    alloc: Global,
+    names: &NameList,
+    out: &mut Vec<u8>,
+    list: &[P::Value],
+) -> Result<(), AllocError>
     ensures { OnOk result (out.new.items ≡ out.old.items ++ list_written names.now (P.writes names.now) list.now) }
 {
     match list.split_first() {
@@ -65,7 +85,12 @@ impl Repeated for ExprItem {
 
     ghost writes = { λ names. written_of names expr };
 
-    fn write(alloc: Global, names: &NameList, out: &mut Vec<u8>, x: &RawExpr) -> Result<(), AllocError> {
+    fn write(
+        alloc: Global,
+        names: &NameList,
+        out: &mut Vec<u8>,
+        x: &RawExpr,
+    ) -> Result<(), AllocError> {
         expr(alloc, names, out, x)
     }
 }
@@ -77,7 +102,12 @@ impl Repeated for ScriptItem {
 
     ghost writes = { λ names. written_of names script };
 
-    fn write(alloc: Global, names: &NameList, out: &mut Vec<u8>, x: &RawScript) -> Result<(), AllocError> {
+    fn write(
+        alloc: Global,
+        names: &NameList,
+        out: &mut Vec<u8>,
+        x: &RawScript,
+    ) -> Result<(), AllocError> {
         script(alloc, names, out, x)
     }
 }
@@ -89,14 +119,24 @@ impl Repeated for NameItem {
 
     ghost writes = { λ names. written_of names a_name };
 
-    fn write(_alloc: Global, names: &NameList, out: &mut Vec<u8>, x: &RawName) -> Result<(), AllocError> {
+    fn write(
+        _alloc: Global,
+        names: &NameList,
+        out: &mut Vec<u8>,
+        x: &RawName,
+    ) -> Result<(), AllocError> {
         name(names, out, *x)
     }
 }
 
 /// Expressions in round brackets.
 #[tactic(auto, unfolding(sync_parse_programs::specs::Known::args))]
-pub(crate) fn args(alloc: Global, names: &NameList, out: &mut Vec<u8>, x: &[RawExpr]) -> Result<(), AllocError>
+pub(crate) fn args(
+    alloc: Global,
+    names: &NameList,
+    out: &mut Vec<u8>,
+    x: &[RawExpr],
+) -> Result<(), AllocError>
     ensures { OnOk result (out.new.items ≡ out.old.items ++ written_of names.now args x.now) }
 {
     sign(names, out, Sign::OpenRound)?;
@@ -107,7 +147,12 @@ pub(crate) fn args(alloc: Global, names: &NameList, out: &mut Vec<u8>, x: &[RawE
 
 /// Names in round brackets.
 #[tactic(auto, unfolding(sync_parse_programs::specs::Known::names))]
-pub(crate) fn name_list(alloc: Global, names: &NameList, out: &mut Vec<u8>, x: &[RawName]) -> Result<(), AllocError>
+pub(crate) fn name_list(
+    alloc: Global,
+    names: &NameList,
+    out: &mut Vec<u8>,
+    x: &[RawName],
+) -> Result<(), AllocError>
     ensures { OnOk result (out.new.items ≡ out.old.items ++ written_of names.now name_list x.now) }
 {
     sign(names, out, Sign::OpenRound)?;
@@ -118,7 +163,12 @@ pub(crate) fn name_list(alloc: Global, names: &NameList, out: &mut Vec<u8>, x: &
 
 /// Scripts in a row.
 #[tactic(auto, unfolding(sync_parse_programs::specs::Known::scripts))]
-pub(crate) fn scripts(alloc: Global, names: &NameList, out: &mut Vec<u8>, x: &[RawScript]) -> Result<(), AllocError>
+pub(crate) fn scripts(
+    alloc: Global,
+    names: &NameList,
+    out: &mut Vec<u8>,
+    x: &[RawScript],
+) -> Result<(), AllocError>
     ensures { OnOk result (out.new.items ≡ out.old.items ++ written_of names.now scripts x.now) }
 {
     in_row::<ScriptItem>(alloc, names, out, x)
@@ -126,7 +176,11 @@ pub(crate) fn scripts(alloc: Global, names: &NameList, out: &mut Vec<u8>, x: &[R
 
 /// `@` and a name, or nothing.
 #[tactic(auto, unfolding(sync_parse_programs::specs::Known::label))]
-pub(crate) fn label(names: &NameList, out: &mut Vec<u8>, x: Option<RawName>) -> Result<(), AllocError>
+pub(crate) fn label(
+    names: &NameList,
+    out: &mut Vec<u8>,
+    x: Option<RawName>,
+) -> Result<(), AllocError>
     ensures { OnOk result (out.new.items ≡ out.old.items ++ written_of names.now label x) }
 {
     match x {
@@ -141,9 +195,13 @@ pub(crate) fn label(names: &NameList, out: &mut Vec<u8>, x: Option<RawName>) -> 
 
 /// A number.
 #[tactic(auto, unfolding(sync_parse_programs::specs::Known::numbered))]
-pub(crate) fn numbered(alloc: Global, names: &NameList, out: &mut Vec<u8>, x: RawNumber) -> Result<(), AllocError>
+pub(crate) fn numbered(
+    alloc: Global,
+    names: &NameList,
+    out: &mut Vec<u8>,
+    x: RawNumber,
+) -> Result<(), AllocError>
     ensures { OnOk result (out.new.items ≡ out.old.items ++ written_of names.now numbered x) }
 {
     number(alloc, names, out, x.number)
 }
-

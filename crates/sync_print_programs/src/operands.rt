@@ -15,7 +15,12 @@ use sync_parse_programs::{
 
 /// A number or a local.
 #[tactic(auto, unfolding(sync_parse_programs::specs::Operands::operand))]
-pub(crate) fn operand(alloc: Global, names: &NameList, out: &mut Vec<u8>, x: RawOperand) -> Result<(), AllocError>
+pub(crate) fn operand(
+    alloc: Global,
+    names: &NameList,
+    out: &mut Vec<u8>,
+    x: RawOperand,
+) -> Result<(), AllocError>
     ensures { OnOk result (out.new.items ≡ out.old.items ++ written_of names.now operand x) }
 {
     match x {
@@ -38,7 +43,12 @@ fn relation(names: &NameList, out: &mut Vec<u8>, x: RawRelation) -> Result<(), A
 }
 
 #[tactic(auto, unfolding(sync_parse_programs::specs::Operands::condition))]
-pub(crate) fn condition(alloc: Global, names: &NameList, out: &mut Vec<u8>, x: RawCondition) -> Result<(), AllocError>
+pub(crate) fn condition(
+    alloc: Global,
+    names: &NameList,
+    out: &mut Vec<u8>,
+    x: RawCondition,
+) -> Result<(), AllocError>
     ensures { OnOk result (out.new.items ≡ out.old.items ++ written_of names.now condition x) }
 {
     operand(alloc, names, out, x.left)?;
@@ -49,7 +59,12 @@ pub(crate) fn condition(alloc: Global, names: &NameList, out: &mut Vec<u8>, x: R
 
 /// What a local is set to by arithmetic.
 #[tactic(auto, unfolding(sync_parse_programs::specs::Operands::calculated))]
-pub(crate) fn calculated(alloc: Global, names: &NameList, out: &mut Vec<u8>, x: RawCalculation) -> Result<(), AllocError>
+pub(crate) fn calculated(
+    alloc: Global,
+    names: &NameList,
+    out: &mut Vec<u8>,
+    x: RawCalculation,
+) -> Result<(), AllocError>
     ensures { OnOk result (out.new.items ≡ out.old.items ++ written_of names.now calculated x) }
 {
     match x {
@@ -88,7 +103,12 @@ pub(crate) fn calculated(alloc: Global, names: &NameList, out: &mut Vec<u8>, x: 
 }
 
 #[tactic(auto, unfolding(sync_parse_programs::specs::Operands::index))]
-pub(crate) fn index(alloc: Global, names: &NameList, out: &mut Vec<u8>, x: &RawIndex) -> Result<(), AllocError>
+pub(crate) fn index(
+    alloc: Global,
+    names: &NameList,
+    out: &mut Vec<u8>,
+    x: &RawIndex,
+) -> Result<(), AllocError>
     ensures { OnOk result (out.new.items ≡ out.old.items ++ written_of names.now index x.now) }
 {
     sign(names, out, Sign::OpenSquare)?;
@@ -108,7 +128,12 @@ fn load(alloc: Global, names: &NameList, out: &mut Vec<u8>, x: &RawLoad) -> Resu
 }
 
 #[tactic(auto, unfolding(sync_parse_programs::specs::Operands::change))]
-fn change(alloc: Global, names: &NameList, out: &mut Vec<u8>, x: &RawChange) -> Result<(), AllocError>
+fn change(
+    alloc: Global,
+    names: &NameList,
+    out: &mut Vec<u8>,
+    x: &RawChange,
+) -> Result<(), AllocError>
     ensures { OnOk result (out.new.items ≡ out.old.items ++ written_of names.now change x.now) }
 {
     name(names, out, x.word)?;
@@ -119,7 +144,12 @@ fn change(alloc: Global, names: &NameList, out: &mut Vec<u8>, x: &RawChange) -> 
 
 /// A word that is set to an operand.
 #[tactic(auto, unfolding(sync_parse_programs::specs::Operands::stored))]
-pub(crate) fn stored(alloc: Global, names: &NameList, out: &mut Vec<u8>, x: &RawChange) -> Result<(), AllocError>
+pub(crate) fn stored(
+    alloc: Global,
+    names: &NameList,
+    out: &mut Vec<u8>,
+    x: &RawChange,
+) -> Result<(), AllocError>
     ensures { OnOk result (out.new.items ≡ out.old.items ++ written_of names.now stored x.now) }
 {
     name(names, out, x.word)?;
@@ -141,7 +171,12 @@ fn cas(alloc: Global, names: &NameList, out: &mut Vec<u8>, x: &RawCas) -> Result
 }
 
 #[tactic(auto, unfolding(sync_parse_programs::specs::Operands::word_operation))]
-pub(crate) fn word_operation(alloc: Global, names: &NameList, out: &mut Vec<u8>, x: &RawWordOperation) -> Result<(), AllocError>
+pub(crate) fn word_operation(
+    alloc: Global,
+    names: &NameList,
+    out: &mut Vec<u8>,
+    x: &RawWordOperation,
+) -> Result<(), AllocError>
     ensures { OnOk result (out.new.items ≡ out.old.items ++ written_of names.now word_operation x.now) }
 {
     match x {
@@ -172,4 +207,3 @@ pub(crate) fn word_operation(alloc: Global, names: &NameList, out: &mut Vec<u8>,
         }
     }
 }
-

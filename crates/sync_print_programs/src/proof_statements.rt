@@ -16,7 +16,12 @@ use sync_parse_programs::{
 
 /// A number in square brackets.
 #[tactic(auto, unfolding(sync_parse_programs::specs::ProofStatements::in_squares_number))]
-pub(crate) fn in_squares_number(alloc: Global, names: &NameList, out: &mut Vec<u8>, x: u128) -> Result<(), AllocError>
+pub(crate) fn in_squares_number(
+    alloc: Global,
+    names: &NameList,
+    out: &mut Vec<u8>,
+    x: u128,
+) -> Result<(), AllocError>
     ensures { OnOk result (out.new.items ≡ out.old.items ++ written_of names.now in_squares_number x) }
 {
     sign(names, out, Sign::OpenSquare)?;
@@ -43,14 +48,24 @@ impl Repeated for TokenItem {
 
     ghost writes = { λ names. written_of names token };
 
-    fn write(alloc: Global, names: &NameList, out: &mut Vec<u8>, x: &RawToken) -> Result<(), AllocError> {
+    fn write(
+        alloc: Global,
+        names: &NameList,
+        out: &mut Vec<u8>,
+        x: &RawToken,
+    ) -> Result<(), AllocError> {
         token(alloc, names, out, *x)
     }
 }
 
 /// Tokens in round brackets.
 #[tactic(auto, unfolding(sync_parse_programs::specs::ProofStatements::tokens))]
-fn tokens(alloc: Global, names: &NameList, out: &mut Vec<u8>, x: &[RawToken]) -> Result<(), AllocError>
+fn tokens(
+    alloc: Global,
+    names: &NameList,
+    out: &mut Vec<u8>,
+    x: &[RawToken],
+) -> Result<(), AllocError>
     ensures { OnOk result (out.new.items ≡ out.old.items ++ written_of names.now tokens x.now) }
 {
     sign(names, out, Sign::OpenRound)?;
@@ -61,7 +76,12 @@ fn tokens(alloc: Global, names: &NameList, out: &mut Vec<u8>, x: &[RawToken]) ->
 
 /// An operation with its tokens.
 #[tactic(auto, unfolding(sync_parse_programs::specs::ProofStatements::do_form))]
-pub(crate) fn do_form(alloc: Global, names: &NameList, out: &mut Vec<u8>, x: &RawDoForm) -> Result<(), AllocError>
+pub(crate) fn do_form(
+    alloc: Global,
+    names: &NameList,
+    out: &mut Vec<u8>,
+    x: &RawDoForm,
+) -> Result<(), AllocError>
     ensures { OnOk result (out.new.items ≡ out.old.items ++ written_of names.now do_form x.now) }
 {
     name(names, out, x.operation)?;
@@ -76,7 +96,12 @@ pub(crate) fn do_form(alloc: Global, names: &NameList, out: &mut Vec<u8>, x: &Ra
 
 /// A token, or `no`.
 #[tactic(auto, unfolding(sync_parse_programs::specs::ProofStatements::kept_token))]
-fn kept_token(alloc: Global, names: &NameList, out: &mut Vec<u8>, x: Option<RawToken>) -> Result<(), AllocError>
+fn kept_token(
+    alloc: Global,
+    names: &NameList,
+    out: &mut Vec<u8>,
+    x: Option<RawToken>,
+) -> Result<(), AllocError>
     ensures { OnOk result (out.new.items ≡ out.old.items ++ written_of names.now kept_token x) }
 {
     match x {
@@ -92,14 +117,24 @@ impl Repeated for KeptTokenItem {
 
     ghost writes = { λ names. written_of names kept_token };
 
-    fn write(alloc: Global, names: &NameList, out: &mut Vec<u8>, x: &Option<RawToken>) -> Result<(), AllocError> {
+    fn write(
+        alloc: Global,
+        names: &NameList,
+        out: &mut Vec<u8>,
+        x: &Option<RawToken>,
+    ) -> Result<(), AllocError> {
         kept_token(alloc, names, out, *x)
     }
 }
 
 /// A token or `no` for each clause of a word.
 #[tactic(auto, unfolding(sync_parse_programs::specs::ProofStatements::kept_tokens))]
-fn kept_tokens(alloc: Global, names: &NameList, out: &mut Vec<u8>, x: &[Option<RawToken>]) -> Result<(), AllocError>
+fn kept_tokens(
+    alloc: Global,
+    names: &NameList,
+    out: &mut Vec<u8>,
+    x: &[Option<RawToken>],
+) -> Result<(), AllocError>
     ensures { OnOk result (out.new.items ≡ out.old.items ++ written_of names.now kept_tokens x.now) }
 {
     sign(names, out, Sign::OpenSquare)?;
@@ -109,7 +144,12 @@ fn kept_tokens(alloc: Global, names: &NameList, out: &mut Vec<u8>, x: &[Option<R
 }
 
 #[tactic(auto, unfolding(sync_parse_programs::specs::ProofStatements::closing))]
-pub(crate) fn closing(alloc: Global, names: &NameList, out: &mut Vec<u8>, x: &RawClosing) -> Result<(), AllocError>
+pub(crate) fn closing(
+    alloc: Global,
+    names: &NameList,
+    out: &mut Vec<u8>,
+    x: &RawClosing,
+) -> Result<(), AllocError>
     ensures { OnOk result (out.new.items ≡ out.old.items ++ written_of names.now closing x.now) }
 {
     args(alloc, names, out, x.args.as_slice())?;
@@ -132,7 +172,12 @@ fn pair(names: &NameList, out: &mut Vec<u8>, x: RawName, y: RawName) -> Result<(
 }
 
 #[tactic(auto, unfolding(sync_parse_programs::specs::ProofStatements::let_form))]
-fn let_form(alloc: Global, names: &NameList, out: &mut Vec<u8>, x: &RawLet) -> Result<(), AllocError>
+fn let_form(
+    alloc: Global,
+    names: &NameList,
+    out: &mut Vec<u8>,
+    x: &RawLet,
+) -> Result<(), AllocError>
     ensures { OnOk result (out.new.items ≡ out.old.items ++ written_of names.now let_form x.now) }
 {
     sign(names, out, Sign::Let)?;
@@ -182,7 +227,12 @@ fn copy(names: &NameList, out: &mut Vec<u8>, x: RawCopy) -> Result<(), AllocErro
 }
 
 #[tactic(auto, unfolding(sync_parse_programs::specs::ProofStatements::move_form))]
-fn move_form(alloc: Global, names: &NameList, out: &mut Vec<u8>, x: RawMove) -> Result<(), AllocError>
+fn move_form(
+    alloc: Global,
+    names: &NameList,
+    out: &mut Vec<u8>,
+    x: RawMove,
+) -> Result<(), AllocError>
     ensures { OnOk result (out.new.items ≡ out.old.items ++ written_of names.now move_form x) }
 {
     sign(names, out, Sign::Move)?;
@@ -194,7 +244,12 @@ fn move_form(alloc: Global, names: &NameList, out: &mut Vec<u8>, x: RawMove) -> 
 }
 
 #[tactic(auto, unfolding(sync_parse_programs::specs::ProofStatements::assertion))]
-fn assertion(alloc: Global, names: &NameList, out: &mut Vec<u8>, x: &RawAssert) -> Result<(), AllocError>
+fn assertion(
+    alloc: Global,
+    names: &NameList,
+    out: &mut Vec<u8>,
+    x: &RawAssert,
+) -> Result<(), AllocError>
     ensures { OnOk result (out.new.items ≡ out.old.items ++ written_of names.now assertion x.now) }
 {
     sign(names, out, Sign::Assert)?;
@@ -207,7 +262,12 @@ fn assertion(alloc: Global, names: &NameList, out: &mut Vec<u8>, x: &RawAssert) 
 
 /// A proof statement that may stand anywhere.
 #[tactic(auto, unfolding(sync_parse_programs::specs::ProofStatements::plain_proof))]
-pub(crate) fn plain_proof(alloc: Global, names: &NameList, out: &mut Vec<u8>, x: &RawPlainProof) -> Result<(), AllocError>
+pub(crate) fn plain_proof(
+    alloc: Global,
+    names: &NameList,
+    out: &mut Vec<u8>,
+    x: &RawPlainProof,
+) -> Result<(), AllocError>
     ensures { OnOk result (out.new.items ≡ out.old.items ++ written_of names.now plain_proof x.now) }
 {
     match x {
@@ -228,7 +288,12 @@ pub(crate) fn plain_proof(alloc: Global, names: &NameList, out: &mut Vec<u8>, x:
 
 /// Names in square brackets.
 #[tactic(auto, unfolding(sync_parse_programs::specs::ProofStatements::opened))]
-fn opened(alloc: Global, names: &NameList, out: &mut Vec<u8>, x: &[RawName]) -> Result<(), AllocError>
+fn opened(
+    alloc: Global,
+    names: &NameList,
+    out: &mut Vec<u8>,
+    x: &[RawName],
+) -> Result<(), AllocError>
     ensures { OnOk result (out.new.items ≡ out.old.items ++ written_of names.now opened x.now) }
 {
     sign(names, out, Sign::OpenSquare)?;
@@ -238,7 +303,12 @@ fn opened(alloc: Global, names: &NameList, out: &mut Vec<u8>, x: &[RawName]) -> 
 }
 
 #[tactic(auto, unfolding(sync_parse_programs::specs::ProofStatements::opening))]
-fn opening(alloc: Global, names: &NameList, out: &mut Vec<u8>, x: &RawOpen) -> Result<(), AllocError>
+fn opening(
+    alloc: Global,
+    names: &NameList,
+    out: &mut Vec<u8>,
+    x: &RawOpen,
+) -> Result<(), AllocError>
     ensures { OnOk result (out.new.items ≡ out.old.items ++ written_of names.now opening x.now) }
 {
     sign(names, out, Sign::Open)?;
@@ -265,7 +335,12 @@ fn yes(names: &NameList, out: &mut Vec<u8>, x: Option<RawName>) -> Result<(), Al
 }
 
 #[tactic(auto, unfolding(sync_parse_programs::specs::ProofStatements::case_form))]
-fn case_form(alloc: Global, names: &NameList, out: &mut Vec<u8>, x: &RawCase) -> Result<(), AllocError>
+fn case_form(
+    alloc: Global,
+    names: &NameList,
+    out: &mut Vec<u8>,
+    x: &RawCase,
+) -> Result<(), AllocError>
     ensures { OnOk result (out.new.items ≡ out.old.items ++ written_of names.now case_form x.now) }
 {
     sign(names, out, Sign::Case)?;
@@ -278,7 +353,12 @@ fn case_form(alloc: Global, names: &NameList, out: &mut Vec<u8>, x: &RawCase) ->
 
 /// What a statement of a proof block does.
 #[tactic(auto, unfolding(sync_parse_programs::specs::ProofStatements::proof_kind))]
-fn proof_kind(alloc: Global, names: &NameList, out: &mut Vec<u8>, x: &RawProofKind) -> Result<(), AllocError>
+fn proof_kind(
+    alloc: Global,
+    names: &NameList,
+    out: &mut Vec<u8>,
+    x: &RawProofKind,
+) -> Result<(), AllocError>
     ensures { OnOk result (out.new.items ≡ out.old.items ++ written_of names.now proof_kind x.now) }
 {
     match x {
@@ -302,7 +382,12 @@ fn proof_kind(alloc: Global, names: &NameList, out: &mut Vec<u8>, x: &RawProofKi
 
 /// A statement of a proof block.
 #[tactic(auto, unfolding(sync_parse_programs::specs::ProofStatements::proof_statement))]
-fn proof_statement(alloc: Global, names: &NameList, out: &mut Vec<u8>, x: &RawProofStatement) -> Result<(), AllocError>
+fn proof_statement(
+    alloc: Global,
+    names: &NameList,
+    out: &mut Vec<u8>,
+    x: &RawProofStatement,
+) -> Result<(), AllocError>
     ensures { OnOk result (out.new.items ≡ out.old.items ++ written_of names.now proof_statement x.now) }
 {
     proof_kind(alloc, names, out, &x.what)
@@ -315,13 +400,23 @@ impl Repeated for ProofItem {
 
     ghost writes = { λ names. written_of names proof_statement };
 
-    fn write(alloc: Global, names: &NameList, out: &mut Vec<u8>, x: &RawProofStatement) -> Result<(), AllocError> {
+    fn write(
+        alloc: Global,
+        names: &NameList,
+        out: &mut Vec<u8>,
+        x: &RawProofStatement,
+    ) -> Result<(), AllocError> {
         proof_statement(alloc, names, out, x)
     }
 }
 
 #[tactic(auto, unfolding(sync_parse_programs::specs::ProofStatements::proof_block))]
-pub(crate) fn proof_block(alloc: Global, names: &NameList, out: &mut Vec<u8>, x: &[RawProofStatement]) -> Result<(), AllocError>
+pub(crate) fn proof_block(
+    alloc: Global,
+    names: &NameList,
+    out: &mut Vec<u8>,
+    x: &[RawProofStatement],
+) -> Result<(), AllocError>
     ensures { OnOk result (out.new.items ≡ out.old.items ++ written_of names.now proof_block x.now) }
 {
     sign(names, out, Sign::OpenBrace)?;
@@ -329,4 +424,3 @@ pub(crate) fn proof_block(alloc: Global, names: &NameList, out: &mut Vec<u8>, x:
     sign(names, out, Sign::CloseBrace)?;
     Ok(())
 }
-

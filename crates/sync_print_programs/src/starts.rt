@@ -38,7 +38,12 @@ fn give(alloc: Global, names: &NameList, out: &mut Vec<u8>, x: &RawGive) -> Resu
 
 /// What a statement of the start does.
 #[tactic(auto, unfolding(sync_parse_programs::specs::ProofStatements::start_kind))]
-fn start_kind(alloc: Global, names: &NameList, out: &mut Vec<u8>, x: &RawStartKind) -> Result<(), AllocError>
+fn start_kind(
+    alloc: Global,
+    names: &NameList,
+    out: &mut Vec<u8>,
+    x: &RawStartKind,
+) -> Result<(), AllocError>
     ensures { OnOk result (out.new.items ≡ out.old.items ++ written_of names.now start_kind x.now) }
 {
     match x {
@@ -50,7 +55,12 @@ fn start_kind(alloc: Global, names: &NameList, out: &mut Vec<u8>, x: &RawStartKi
 
 /// A statement of the start.
 #[tactic(auto, unfolding(sync_parse_programs::specs::ProofStatements::start_statement))]
-fn start_statement(alloc: Global, names: &NameList, out: &mut Vec<u8>, x: &RawStartStatement) -> Result<(), AllocError>
+fn start_statement(
+    alloc: Global,
+    names: &NameList,
+    out: &mut Vec<u8>,
+    x: &RawStartStatement,
+) -> Result<(), AllocError>
     ensures { OnOk result (out.new.items ≡ out.old.items ++ written_of names.now start_statement x.now) }
 {
     start_kind(alloc, names, out, &x.what)
@@ -63,14 +73,24 @@ impl Repeated for StartItem {
 
     ghost writes = { λ names. written_of names start_statement };
 
-    fn write(alloc: Global, names: &NameList, out: &mut Vec<u8>, x: &RawStartStatement) -> Result<(), AllocError> {
+    fn write(
+        alloc: Global,
+        names: &NameList,
+        out: &mut Vec<u8>,
+        x: &RawStartStatement,
+    ) -> Result<(), AllocError> {
         start_statement(alloc, names, out, x)
     }
 }
 
 /// The statements of the start.
 #[tactic(auto, unfolding(sync_parse_programs::specs::Programs::start_block))]
-fn start_block(alloc: Global, names: &NameList, out: &mut Vec<u8>, x: &[RawStartStatement]) -> Result<(), AllocError>
+fn start_block(
+    alloc: Global,
+    names: &NameList,
+    out: &mut Vec<u8>,
+    x: &[RawStartStatement],
+) -> Result<(), AllocError>
     ensures { OnOk result (out.new.items ≡ out.old.items ++ written_of names.now start_block x.now) }
 {
     sign(names, out, Sign::OpenBrace)?;
@@ -80,7 +100,12 @@ fn start_block(alloc: Global, names: &NameList, out: &mut Vec<u8>, x: &[RawStart
 }
 
 #[tactic(auto, unfolding(sync_parse_programs::specs::Programs::start))]
-pub(crate) fn start(alloc: Global, names: &NameList, out: &mut Vec<u8>, x: &RawStart) -> Result<(), AllocError>
+pub(crate) fn start(
+    alloc: Global,
+    names: &NameList,
+    out: &mut Vec<u8>,
+    x: &RawStart,
+) -> Result<(), AllocError>
     ensures { OnOk result (out.new.items ≡ out.old.items ++ written_of names.now start x.now) }
 {
     sign(names, out, Sign::Start)?;
@@ -88,4 +113,3 @@ pub(crate) fn start(alloc: Global, names: &NameList, out: &mut Vec<u8>, x: &RawS
     start_block(alloc, names, out, x.statements.as_slice())?;
     Ok(())
 }
-

@@ -18,13 +18,18 @@ use sync_lex::Sign;
 use sync_parse::RawScript;
 use sync_parse_exprs::RawName;
 use sync_parse_programs::{
-    RawAtomic, RawIf, RawJump, RawKeep, RawList, RawLoop, RawOperand, RawPeek,
-    RawProofStatement, RawRead, RawRightSide, RawStatement, RawStatementKind, RawStore, RawTail, RawWhen, RawWrite,
+    RawAtomic, RawIf, RawJump, RawKeep, RawList, RawLoop, RawOperand, RawPeek, RawProofStatement,
+    RawRead, RawRightSide, RawStatement, RawStatementKind, RawStore, RawTail, RawWhen, RawWrite,
 };
 
 /// `join` and a keep, or nothing.
 #[tactic(auto, unfolding(sync_parse_programs::specs::Statements::joined))]
-fn joined(alloc: Global, names: &NameList, out: &mut Vec<u8>, x: &Option<RawKeep>) -> Result<(), AllocError>
+fn joined(
+    alloc: Global,
+    names: &NameList,
+    out: &mut Vec<u8>,
+    x: &Option<RawKeep>,
+) -> Result<(), AllocError>
     ensures { OnOk result (out.new.items ≡ out.old.items ++ written_of names.now joined x.now) }
 {
     match x {
@@ -39,7 +44,12 @@ fn joined(alloc: Global, names: &NameList, out: &mut Vec<u8>, x: &Option<RawKeep
 
 /// `after` and a keep, or nothing.
 #[tactic(auto, unfolding(sync_parse_programs::specs::Statements::behind_loop))]
-fn behind_loop(alloc: Global, names: &NameList, out: &mut Vec<u8>, x: &Option<RawKeep>) -> Result<(), AllocError>
+fn behind_loop(
+    alloc: Global,
+    names: &NameList,
+    out: &mut Vec<u8>,
+    x: &Option<RawKeep>,
+) -> Result<(), AllocError>
     ensures { OnOk result (out.new.items ≡ out.old.items ++ written_of names.now behind_loop x.now) }
 {
     match x {
@@ -53,7 +63,12 @@ fn behind_loop(alloc: Global, names: &NameList, out: &mut Vec<u8>, x: &Option<Ra
 }
 
 #[tactic(auto, unfolding(sync_parse_programs::specs::Statements::atomic))]
-fn atomic(alloc: Global, names: &NameList, out: &mut Vec<u8>, x: &RawAtomic) -> Result<(), AllocError>
+fn atomic(
+    alloc: Global,
+    names: &NameList,
+    out: &mut Vec<u8>,
+    x: &RawAtomic,
+) -> Result<(), AllocError>
     ensures { OnOk result (out.new.items ≡ out.old.items ++ written_of names.now atomic x.now) }
 {
     word_operation(alloc, names, out, &x.operation)?;
@@ -72,7 +87,13 @@ fn store(alloc: Global, names: &NameList, out: &mut Vec<u8>, x: &RawStore) -> Re
 }
 
 /// `with`, a permission and its scripts.
-fn with_permission(alloc: Global, names: &NameList, out: &mut Vec<u8>, x: RawName, y: &[RawScript]) -> Result<(), AllocError>
+fn with_permission(
+    alloc: Global,
+    names: &NameList,
+    out: &mut Vec<u8>,
+    x: RawName,
+    y: &[RawScript],
+) -> Result<(), AllocError>
     ensures { OnOk result (out.new.items ≡ out.old.items ++ written_of names.now (sign.With ▸ a_name ∘ scripts ◂ sign.Semicolon) (x, y.now)) }
 {
     sign(names, out, Sign::With)?;
@@ -83,7 +104,12 @@ fn with_permission(alloc: Global, names: &NameList, out: &mut Vec<u8>, x: RawNam
 }
 
 #[tactic(auto, unfolding(sync_parse_programs::specs::Statements::read_form))]
-fn read_form(alloc: Global, names: &NameList, out: &mut Vec<u8>, x: &RawRead) -> Result<(), AllocError>
+fn read_form(
+    alloc: Global,
+    names: &NameList,
+    out: &mut Vec<u8>,
+    x: &RawRead,
+) -> Result<(), AllocError>
     ensures { OnOk result (out.new.items ≡ out.old.items ++ written_of names.now read_form x.now) }
 {
     sign(names, out, Sign::Read)?;
@@ -107,7 +133,12 @@ fn peek(alloc: Global, names: &NameList, out: &mut Vec<u8>, x: &RawPeek) -> Resu
 }
 
 #[tactic(auto, unfolding(sync_parse_programs::specs::Statements::write_form))]
-fn write_form(alloc: Global, names: &NameList, out: &mut Vec<u8>, x: &RawWrite) -> Result<(), AllocError>
+fn write_form(
+    alloc: Global,
+    names: &NameList,
+    out: &mut Vec<u8>,
+    x: &RawWrite,
+) -> Result<(), AllocError>
     ensures { OnOk result (out.new.items ≡ out.old.items ++ written_of names.now write_form x.now) }
 {
     sign(names, out, Sign::Write)?;
@@ -121,7 +152,13 @@ fn write_form(alloc: Global, names: &NameList, out: &mut Vec<u8>, x: &RawWrite) 
 
 /// A line that is printed.
 #[tactic(auto, unfolding(sync_parse_programs::specs::Statements::print_form))]
-fn print_form(alloc: Global, names: &NameList, out: &mut Vec<u8>, x: &RawName, y: &RawOperand) -> Result<(), AllocError>
+fn print_form(
+    alloc: Global,
+    names: &NameList,
+    out: &mut Vec<u8>,
+    x: &RawName,
+    y: &RawOperand,
+) -> Result<(), AllocError>
     ensures { OnOk result (out.new.items ≡ out.old.items ++ written_of names.now print_form (x.now, y.now)) }
 {
     sign(names, out, Sign::Print)?;
@@ -133,7 +170,13 @@ fn print_form(alloc: Global, names: &NameList, out: &mut Vec<u8>, x: &RawName, y
 
 /// A sign, and what a jump gives to its keep.
 #[tactic(auto, unfolding(sync_parse_programs::specs::Statements::jump))]
-fn jump(alloc: Global, names: &NameList, out: &mut Vec<u8>, first: Sign, x: &RawJump) -> Result<(), AllocError>
+fn jump(
+    alloc: Global,
+    names: &NameList,
+    out: &mut Vec<u8>,
+    first: Sign,
+    x: &RawJump,
+) -> Result<(), AllocError>
     ensures { OnOk result (out.new.items ≡ out.old.items ++ written_of names.now (first ▸ jump) x.now) }
 {
     sign(names, out, first)?;
@@ -144,7 +187,12 @@ fn jump(alloc: Global, names: &NameList, out: &mut Vec<u8>, first: Sign, x: &Raw
 }
 
 /// `proof`, a proof block and `;`.
-fn proof_ending(alloc: Global, names: &NameList, out: &mut Vec<u8>, x: &[RawProofStatement]) -> Result<(), AllocError>
+fn proof_ending(
+    alloc: Global,
+    names: &NameList,
+    out: &mut Vec<u8>,
+    x: &[RawProofStatement],
+) -> Result<(), AllocError>
     ensures { OnOk result (out.new.items ≡ out.old.items ++ written_of names.now (sign.Proof ▸ proof_block ◂ sign.Semicolon) x.now) }
 {
     sign(names, out, Sign::Proof)?;
@@ -158,7 +206,12 @@ fn proof_ending(alloc: Global, names: &NameList, out: &mut Vec<u8>, x: &[RawProo
 /// Statements in a row.
 #[cycle(statements)]
 #[tactic(auto, unfolding(sync_parse_programs::specs::Statements::statement_row))]
-fn statement_row(alloc: Global, names: &NameList, out: &mut Vec<u8>, x: &[RawStatement]) -> Result<(), AllocError>
+fn statement_row(
+    alloc: Global,
+    names: &NameList,
+    out: &mut Vec<u8>,
+    x: &[RawStatement],
+) -> Result<(), AllocError>
     ensures { OnOk result (out.new.items ≡ out.old.items ++ all_written (written_statement names.now) x.now) }
 {
     for one in x {
@@ -170,7 +223,12 @@ fn statement_row(alloc: Global, names: &NameList, out: &mut Vec<u8>, x: &[RawSta
 /// Statements in braces.
 #[cycle(statements)]
 #[tactic(auto, unfolding(sync_parse_programs::specs::Statements::list, sync_parse_programs::specs::Statements::statement_row))]
-pub(crate) fn list(alloc: Global, names: &NameList, out: &mut Vec<u8>, x: &RawList) -> Result<(), AllocError>
+pub(crate) fn list(
+    alloc: Global,
+    names: &NameList,
+    out: &mut Vec<u8>,
+    x: &RawList,
+) -> Result<(), AllocError>
     ensures { OnOk result (out.new.items ≡ out.old.items ++ written_of names.now list x.now) }
 {
     sign(names, out, Sign::OpenBrace)?;
@@ -181,7 +239,13 @@ pub(crate) fn list(alloc: Global, names: &NameList, out: &mut Vec<u8>, x: &RawLi
 
 /// What an atomic statement does for an outcome of its condition.
 #[cycle(statements)]
-fn outcome(alloc: Global, names: &NameList, out: &mut Vec<u8>, x: &[RawProofStatement], y: &RawList) -> Result<(), AllocError>
+fn outcome(
+    alloc: Global,
+    names: &NameList,
+    out: &mut Vec<u8>,
+    x: &[RawProofStatement],
+    y: &RawList,
+) -> Result<(), AllocError>
     ensures { OnOk result (out.new.items ≡ out.old.items ++ written_of names.now (sign.Proof ▸ proof_block ∘ list) (x.now, y.now)) }
 {
     sign(names, out, Sign::Proof)?;
@@ -192,7 +256,12 @@ fn outcome(alloc: Global, names: &NameList, out: &mut Vec<u8>, x: &[RawProofStat
 
 #[cycle(statements)]
 #[tactic(auto, unfolding(sync_parse_programs::specs::Statements::when_form))]
-fn when_form(alloc: Global, names: &NameList, out: &mut Vec<u8>, x: &RawWhen) -> Result<(), AllocError>
+fn when_form(
+    alloc: Global,
+    names: &NameList,
+    out: &mut Vec<u8>,
+    x: &RawWhen,
+) -> Result<(), AllocError>
     ensures { OnOk result (out.new.items ≡ out.old.items ++ written_of names.now when_form x.now) }
 {
     sign(names, out, Sign::When)?;
@@ -221,7 +290,12 @@ fn ending(alloc: Global, names: &NameList, out: &mut Vec<u8>, x: &RawTail) -> Re
 /// What a local is given.
 #[cycle(statements)]
 #[tactic(auto, unfolding(sync_parse_programs::specs::Statements::right_side))]
-fn right_side(alloc: Global, names: &NameList, out: &mut Vec<u8>, x: &RawRightSide) -> Result<(), AllocError>
+fn right_side(
+    alloc: Global,
+    names: &NameList,
+    out: &mut Vec<u8>,
+    x: &RawRightSide,
+) -> Result<(), AllocError>
     ensures { OnOk result (out.new.items ≡ out.old.items ++ written_of names.now right_side x.now) }
 {
     match x {
@@ -258,7 +332,12 @@ fn if_form(alloc: Global, names: &NameList, out: &mut Vec<u8>, x: &RawIf) -> Res
 
 #[cycle(statements)]
 #[tactic(auto, unfolding(sync_parse_programs::specs::Statements::loop_form))]
-fn loop_form(alloc: Global, names: &NameList, out: &mut Vec<u8>, x: &RawLoop) -> Result<(), AllocError>
+fn loop_form(
+    alloc: Global,
+    names: &NameList,
+    out: &mut Vec<u8>,
+    x: &RawLoop,
+) -> Result<(), AllocError>
     ensures { OnOk result (out.new.items ≡ out.old.items ++ written_of names.now loop_form x.now) }
 {
     sign(names, out, Sign::Loop)?;
@@ -274,7 +353,13 @@ fn loop_form(alloc: Global, names: &NameList, out: &mut Vec<u8>, x: &RawLoop) ->
 /// A local, `=` and what it is given.
 #[cycle(statements)]
 #[tactic(auto, unfolding(sync_parse_programs::specs::Statements::assignment))]
-fn assignment(alloc: Global, names: &NameList, out: &mut Vec<u8>, x: &RawName, y: &RawRightSide) -> Result<(), AllocError>
+fn assignment(
+    alloc: Global,
+    names: &NameList,
+    out: &mut Vec<u8>,
+    x: &RawName,
+    y: &RawRightSide,
+) -> Result<(), AllocError>
     ensures { OnOk result (out.new.items ≡ out.old.items ++ written_of names.now assignment (x.now, y.now)) }
 {
     name(names, out, *x)?;
@@ -286,7 +371,12 @@ fn assignment(alloc: Global, names: &NameList, out: &mut Vec<u8>, x: &RawName, y
 /// What a statement does.
 #[cycle(statements)]
 #[tactic(auto, unfolding(sync_parse_programs::specs::Statements::statement_kind))]
-fn statement_kind(alloc: Global, names: &NameList, out: &mut Vec<u8>, x: &RawStatementKind) -> Result<(), AllocError>
+fn statement_kind(
+    alloc: Global,
+    names: &NameList,
+    out: &mut Vec<u8>,
+    x: &RawStatementKind,
+) -> Result<(), AllocError>
     ensures { OnOk result (out.new.items ≡ out.old.items ++ written_of names.now statement_kind x.now) }
 {
     match x {
@@ -310,7 +400,12 @@ fn statement_kind(alloc: Global, names: &NameList, out: &mut Vec<u8>, x: &RawSta
 
 #[cycle(statements)]
 #[tactic(auto, using(crate::proofs::Written::statement_written), unfolding(sync_parse_programs::specs::Statements::statement))]
-fn statement(alloc: Global, names: &NameList, out: &mut Vec<u8>, x: &RawStatement) -> Result<(), AllocError>
+fn statement(
+    alloc: Global,
+    names: &NameList,
+    out: &mut Vec<u8>,
+    x: &RawStatement,
+) -> Result<(), AllocError>
     ensures { OnOk result (out.new.items ≡ out.old.items ++ written_statement names.now x.now) }
 {
     statement_kind(alloc, names, out, &x.what)
