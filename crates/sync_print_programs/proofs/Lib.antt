@@ -2,4 +2,4 @@ mod Alone
 pub mod Shrinks
 pub mod Steps
 pub mod Written
-mod Kinds
+mod Endings

@@ -2,7 +2,7 @@ use Rattle.std.proofs.Common.{◌≡◌, ◌++◌, subst}
 use Rattle.std.specs.Prelude.{OnOk}
 use Rattle.sync_print_programs.specs.Written.{written_statement}
 use Rattle.sync_print_programs.proofs.Steps.{row_end, row_more}
-use Rattle.sync_print_programs.proofs.Kinds.{ending_block, printed_line}
+use Rattle.sync_print_programs.proofs.Endings.{ending_block, printed_line}
 use Rattle.sync_print_programs.proofs.statements.+statements.Goals as goal
 
 pub statement_row-returns : goal.statement_row-returns
