@@ -1,5 +1,5 @@
 -- What is written of a statement or an ending of one kind.
-use Rattle.std.proofs.Common.{◌≡◌, List, [], ◌++◌, inl, inr, sym, ap, ◌∙◌}
+use Rattle.std.proofs.Common.{◌≡◌, List, [], inl, inr, sym, ap, ◌∙◌}
 use Rattle.sync_base.specs.declared.names.NameList.{NameList}
 use Rattle.sync_lex.specs.declared.signs.Sign.TheVariants as sign
 use Rattle.sync_parse_exprs.specs.declared.raw_names.RawName.{RawName}

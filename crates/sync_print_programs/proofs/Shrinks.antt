@@ -1,5 +1,5 @@
 -- What stands in a statement's braces is smaller than it, so what is shown of a statement is what its production shows.
-use Rattle.std.proofs.Common.{◌≡◌, ◌≤◌, ◌+◌, ℕ, suc, true, List, [], ◌∷◌, map, Option, ◌⊎◌, inl, inr, refl, sym, ap, ◌∙◌, subst, arith}
+use Rattle.std.proofs.Common.{◌≡◌, ◌≤◌, ◌+◌, ℕ, suc, true, List, [], ◌∷◌, map, Option, ◌⊎◌, inl, inr, refl, sym, subst, arith}
 use Rattle.sync_lex.specs.declared.signs.Sign.TheVariants as sign
 use Rattle.sync_parse_forms.specs.Codes.{at_sign, nothing, either}
 use Rattle.sync_parse_forms.specs.Shows.{Each, no_one, and_next, Inner, Shrinking}

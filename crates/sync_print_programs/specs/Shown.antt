@@ -1,6 +1,5 @@
 -- The canonical lexemes of programs: expressions and scripts as they are shown in machines, all else by the productions.
 use Rattle.std.specs.Prelude.{List, map, ◌++◌}
-use Rattle.sync_base.specs.declared.strategies.Strategy.{Strategy}
 use Rattle.sync_lex.specs.declared.signs.Sign.TheVariants as sign
 use Rattle.sync_parse_forms.specs.Lexemes as lexeme
 use Rattle.sync_parse_forms.specs.Lexemes.{Lexeme}
