@@ -52,14 +52,14 @@ before {names = names} {s = s} {xs = xs} {ts = ts} {rest = rest} p d = record {
 none : {names : NameList} {ts rest : List Terminal} → ts ≡ rest → Reads names (Unit {0}) [] ts rest
 none e = record { fits = λ t. tt; tells = told.nothing e }
 
-within : {names : NameList} {ts rest : List Terminal} {n : ℕ} → ANumber ts rest n → TerminalsAreTrue names ts → n ≤ largest
-within {names = names} {rest = rest} d t = subst (KindIsTrue names) d.is (All-head (TerminalIsTrue names) d.terminal rest (subst (TerminalsAreTrue names) d.stands t))
+within : (names : NameList) {ts rest : List Terminal} {n : ℕ} → ANumber ts rest n → TerminalsAreTrue names ts → n ≤ largest
+within names {rest = rest} d t = subst (KindIsTrue names) d.is (All-head (TerminalIsTrue names) d.terminal rest (subst (TerminalsAreTrue names) d.stands t))
 
 the_number : {names : NameList} {ts rest : List Terminal} {n : ℕ} → ANumber ts rest n → Reads names (n ≤ largest) (lexeme.a_number n ∷ []) ts rest
 unfolding one_number
 the_number {names = names} {ts = ts} {rest = rest} {n = n} d =
     let e : grammar.ANumber ts rest n = record { terminal = d.terminal; stands = d.stands; is = d.is } in
-    record { fits = λ t. within d t; tells = record { told = λ t. (told.number_told {names = names} n (within d t) e).told t } }
+    record { fits = λ t. within names d t; tells = record { told = λ t. (told.number_told {names = names} n (within names d t) e).told t } }
 
 the_name : {names : NameList} {ts rest : List Terminal} {x : RawName} → AName ts rest x → Reads names (Unit {0}) (lexeme.a_name x.name ∷ []) ts rest
 unfolding one_name

@@ -49,6 +49,15 @@ fn write(
     Ok(())
 }
 
+/// The bytes of what is shown of a text.
+fn print_exactly(alloc: Global, text: &RawWholeText) -> Result<Items<u8>, AllocError>
+    ensures { IfOk result (λ bytes. bytes ≡ printed text.now.names (show_whole text.now)) }
+{
+    let mut out = Vec::new(alloc);
+    write(alloc, &text.names, &mut out, text)?;
+    Ok(Items::from_vec(out))
+}
+
 /// The canonical bytes of a text, its program included: its lexemes in order, each with a line feed behind it if it is `;`,
 /// `{` or `}`, else with a space. Brackets stand only where their place would not spell its tree without them.
 ///
@@ -59,7 +68,5 @@ pub fn print_whole(alloc: Global, text: &RawWholeText) -> Result<Items<u8>, Allo
     ensures exact { IfOk result (λ bytes. bytes ≡ printed text.now.names (show_whole text.now)) }
     ensures reads_back { IfOk result (λ bytes. (source : List ℕ) → Spells source text.now → ReadsBack text.now bytes) }
 {
-    let mut out = Vec::new(alloc);
-    write(alloc, &text.names, &mut out, text)?;
-    Ok(Items::from_vec(out))
+    print_exactly(alloc, text)
 }
