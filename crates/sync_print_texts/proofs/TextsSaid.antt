@@ -1,12 +1,12 @@
 -- Terminals that say what is shown of a whole text spell a text that says the same.
-use Rattle.std.proofs.Common.{◌≡◌, ℕ, List, [], ◌++◌, map, refl, subst}
+use Rattle.std.proofs.Common.{◌≡◌, List, [], ◌++◌, map}
 use Rattle.sync_lex.specs.declared.signs.Sign.TheVariants as sign
 use Rattle.sync_lex.specs.declared.terminals.Terminal.{Terminal}
 use Rattle.sync_parse_grammar.specs.Texts.{Version, IsVersionOne}
 use Rattle.sync_parse_texts.specs.declared.text_reader.RawWholeText.{RawWholeText}
 use Rattle.sync_parse_texts.specs.Texts.{Sections, program_part}
 use Rattle.sync_parse_texts.specs.Spelled.{WholeText}
-use Rattle.sync_print.specs.Texts.{PlainMachine, PlainProof, PlainText, plain_machine, plain_proof}
+use Rattle.sync_print.specs.Texts.{plain_machine, plain_proof}
 use Rattle.sync_print.specs.Lexemes.{one, one_number}
 use Rattle.sync_print.specs.ShowTexts.{show_machine, show_proofs, show_version, show}
 use Rattle.sync_print_programs.specs.Shown.{show_of}
