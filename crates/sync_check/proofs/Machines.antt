@@ -17,10 +17,14 @@ not_first : {A : Type 0} {m : Spelled A} {ts us : List Terminal} {x : A ⊎ Unit
 not_first f some (the_one d) none = let e = none ∙ ap f d.next.is ∙ some d.value in absurd cc
 not_first f some (the_other d) none = d.one.none ∙ d.next.none
 
+abbrev option_of : RawProgram ⊎ Unit {0} → Option RawProgram
+option_of (inl x) = Some x
+option_of (inr u) = None
+
 -- no program is spelled by no terminals
 no_terminals : (ts rest : List Terminal) → programs.Spells program_part ts rest None → ts ≡ rest
 unfolding program_part
-no_terminals ts rest d = d.one.none ∙ not_first _ (λ y. refl) d.next.one d.next.next.is ∙ d.next.next.none
+no_terminals ts rest d = d.one.none ∙ not_first option_of (λ y. refl) d.next.one d.next.next.is ∙ d.next.next.none
 
 pub machine_alone : (bytes : List ℕ) (raw : RawWholeText) → Spells bytes raw → raw.program ≡ None → machines.Spells bytes (without_program raw)
 unfolding WholeText machines.Text

@@ -1,32 +1,18 @@
 //! Reads one text.
 ghost use Rattle.std.specs.Prelude.{◌≡◌, None, IfOk};
-ghost use Rattle.sync_base.specs.Outcome.{Gives, Passes};
+ghost use Rattle.sync_base.specs.Outcome.{Gives};
 ghost use Rattle.sync_machine.specs.Views.{machine_tree, HasOwnIds};
 ghost use Rattle.sync_machine.specs.Naming.{machine_fault, AreTextNames};
 ghost use Rattle.sync_terms.specs.Proofs.{AreScriptsOf};
 ghost use Rattle.sync_read.specs.declared.texts.Text.{Text};
 ghost use Rattle.sync_read.specs.Texts.{text_tree};
-ghost use Rattle.sync_check.specs.Texts.{text_in, unbuilt};
+ghost use Rattle.sync_check.specs.Texts.{text_in};
 
 use std::alloc::Global;
 use sync_base::{Refusal, Rule, Stop};
 use sync_parse::RawText;
-use sync_parse_programs::RawProgram;
 use sync_parse_texts::{RawWholeText, read_whole};
 use sync_read::{Text, resolve};
-
-/// Refuses a program, since programs are not built yet.
-fn refuse_program(program: Option<&RawProgram>) -> Result<(), Stop>
-    ensures { Passes result (unbuilt program.now) }
-{
-    match program {
-        None => Ok(()),
-        Some(program) => Err(Stop::Refused(Refusal {
-            line: program.line,
-            rule: Rule::G9,
-        })),
-    }
-}
 
 /// The machine, the proofs and the names of the text in these bytes.
 ///
@@ -51,6 +37,11 @@ pub fn read(alloc: Global, bytes: &[u8]) -> Result<Text, Stop>
         names,
     };
     let text = resolve(alloc, raw)?;
-    refuse_program(program.as_ref())?;
-    Ok(text)
+    match program {
+        None => Ok(text),
+        Some(program) => Err(Stop::Refused(Refusal {
+            line: program.line,
+            rule: Rule::G9,
+        })),
+    }
 }

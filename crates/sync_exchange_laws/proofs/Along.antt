@@ -4,37 +4,43 @@ use Rattle.std.specs.List.{AllByRecursion, range_with_len}
 use Rattle.sync_terms.specs.Trees.{Tree, Name}
 use Rattle.sync_terms.specs.Values.{Valuation, truth}
 use Rattle.sync_machine.specs.declared.fields.Field.{Field}
-use Rattle.sync_machine.specs.Machines.{PlaceTree, ActTree, StepTree}
+use Rattle.sync_machine.specs.Machines.{PlaceTree, ActTree, StepTree, OperationTree}
 use Rattle.sync_machine.specs.Machines as acts
 use Rattle.sync_machine.specs.Naming.{bound_by}
 use Rattle.sync_machine.specs.Statements.{binds, safety, field_of}
-use Rattle.sync_machine.specs.States.{Value, sort_of, strategy_at, strategy_of, current_of, advanced, IsMet}
+use Rattle.sync_machine.specs.States.{Value, sort_of, strategy_at, strategy_of, current_of, advanced, IsMet, State}
 use Rattle.sync_rules.specs.Locality.{place_names_only}
 use Rattle.sync_rules.specs.Shapes.{fits}
 use Rattle.sync_join.specs.declared.tokens.Token.{Token}
 use Rattle.sync_join.specs.Shards.{perm}
 use Rattle.sync_exchange.specs.declared.hands.XStop.TheVariants.{Width, RequireFalse}
-use Rattle.sync_exchange.specs.Exchange.{Exchanging, named, held_as, next_name, stored_at, withdrawn, permission, token_of, key_at, amount_at, is_asked, after_reading, after_taking, after_seeing, after_giving, binding, storing, raising, started, updated, does}
-use Rattle.sync_exchange.proofs.Terms.{truth-same, value-same}
+use Rattle.sync_exchange.specs.Exchange.{Exchanging, named, held_as, next_name, stored_at, withdrawn, permission, token_of, key_at, amount_at, is_asked, after_reading, after_taking, after_seeing, after_giving, binding, storing, raising, started, updated, variable_slots, beginning, does, Exchanged}
+use Rattle.sync_exchange.specs.declared.hands.Held.{Held}
+use Rattle.sync_join.specs.Shards.{Kept}
+use Rattle.sync_exchange.proofs.Terms.{Same, truth-same, value-same}
 use Rattle.sync_exchange.proofs.Passing.{unless-ok, ok_is, asked-token, asked-object}
-use Rattle.sync_exchange.proofs.Lawful.{reads_only, place-key, place-asked, place-amount}
+use Rattle.sync_exchange.proofs.Lawful.{IsLawful, reads_only, place-key, place-asked, place-amount}
 use Rattle.sync_exchange.proofs.OneStrategy.{nothing-bound}
-use Rattle.sync_exchange.proofs.Standing.{IsReady, binding-own}
+use Rattle.sync_exchange.proofs.Standing.{binding-own}
 use Rattle.sync_exchange.proofs.Going.{Walk}
 use Rattle.sync_exchange_laws.specs.Conditions.{names_at}
-use Rattle.sync_exchange_laws.specs.Along.{ExchangesGoAlong, key_under, value_under, IsThere, left_under, AreThere, all_left, ended, AssertHolds}
+use Rattle.sync_exchange_laws.specs.Along.{ExchangesGoAlong, key_under, value_under, IsThere, left_under, AreThere, all_left, AreVariablesThere, begun_under, ended, IsAlong, AssertHolds}
+use Rattle.sync_exchange_laws.proofs.Variables.{token-is, variables-found}
 use Rattle.sync_exchange_laws.proofs.Ending.{walked-at}
 
 -- a held token is the one that the next slot names
 pub named-is : (x : Exchanging) (t : Token) → held_as (next_name x.tokens) x.hand ≡ Some t → named x ≡ Ok t
 named-is x t e = rw e refl
 
-pub token-is : (t : Token) (f : ℕ) (k n : ℤ) → f ≡ t.field → t.key ≡ k → t.value ≡ n → t ≡ token_of f k n
-token-is t f k n field key value i = record { field = sym field i; key = key i; value = value i }
+-- a statement whose terms have their values under a valuation, and whose bound name has behind it
+pub record IsAgreed (fs : List Field) (v : Valuation) (q : ℕ → Bool) (x y : Exchanging) (a : ActTree) : Type 0 where
+  pub same : Same q x.names v
+  pub lawful : IsLawful fs q a
+  pub bound : (z : ℕ) → bound_by a ≡ Some z → y.names.number z ≡ v.number z
 
-module _ (fit : ℤ → Bool) (fs : List Field) (v : Valuation) (q : ℕ → Bool) (x y : Exchanging) (cur : List Tree) where
+module _ (fit : ℤ → Bool) (fs : List Field) (v : Valuation) (q : ℕ → Bool) (x y : Exchanging) where
   -- the value that a place asks for, where it is bound too
-  asked-is : (a : ActTree) (p : PlaceTree) (n : ℤ) (z : Exchanging) → IsReady fs v q x y cur a
+  asked-is : (a : ActTree) (p : PlaceTree) (n : ℤ) (z : Exchanging) → IsAgreed fs v q x y a
       → (place_names_only q p ≡ true)
       → is_asked p n x ≡ true → binding (binds p) n z ≡ y → ((w : ℕ) → binds p ≡ Some w → bound_by a ≡ Some w)
       → n ≡ value_under v p
@@ -42,7 +48,7 @@ module _ (fit : ℤ → Bool) (fs : List Field) (v : Valuation) (q : ℕ → Boo
       place-asked q v p n x r.same reads is
       (λ w b. sym (binding-own (binds p) n z w b) ∙ ap (λ (u : Exchanging). u.names.number w) answer ∙ r.bound w (binds_it w b))
 
-  pub goes-under : (line : ℕ) (a : ActTree) → IsReady fs v q x y cur a
+  pub goes-under : (line : ℕ) (a : ActTree) → IsAgreed fs v q x y a
       → does fit fs (record { act = a; line = line }) x ≡ Ok y → IsThere v a x × (left_under fs v a x ≡ y)
   unfolding does reads_only bound_by fits safety field_of
   goes-under line (acts.Require form) r e =
@@ -143,7 +149,8 @@ pub all-along : (fit : ℤ → Bool) (fs : List Field) (v : Valuation) (others :
 unfolding Walk
 all-along fit fs v others [] x y cur w = record { there = tt; leaves = w.1; asserts = tt }
 all-along fit fs v others (s ∷ ss) x y cur w =
-    let one = goes-under fit fs v w.1.reads x w.0 cur s.line s.act w.1.ready w.1.did in
+    let r = w.1.ready in
+    let one = goes-under fit fs v w.1.reads x w.0 s.line s.act (record { same = r.same; lawful = r.lawful; bound = r.bound }) w.1.did in
     let rest = all-along fit fs v others ss w.0 y (advanced fs cur s.act) w.2 in
     record {
       there = (one.0, subst (AreThere fs v ss) (sym one.1) rest.there);
@@ -153,18 +160,31 @@ all-along fit fs v others (s ∷ ss) x y cur w =
 
 -- ---- whole exchanges
 
+-- the slots of the variables and the statements together
+pub went-along : (fs : List Field) (v : Valuation) (o : OperationTree) (args : List ℤ) (tokens given : List ℕ) (hand : List Held) (kept : Kept) (whole : State) (begun end : Exchanging) (x : Exchanged)
+    → AreVariablesThere v (variable_slots fs o) (beginning fs o args tokens given whole hand kept)
+    → begun_under fs v o args tokens given whole hand kept ≡ begun → WentUnder fs v o.steps begun end → x ≡ ended end
+    → IsAlong fs v o args tokens given hand kept whole x
+went-along fs v o args tokens given hand kept whole begun end x there is went leaves = record {
+  variables = there;
+  found = subst (AreThere fs v o.steps) (sym is) went.there;
+  leaves = leaves ∙ ap ended (sym went.leaves) ∙ ap (λ (u : Exchanging). ended (all_left fs v o.steps u)) (sym is);
+}
+
 pub exchanges-go-along : ExchangesGoAlong
 exchanges-go-along fit m proved o has other args long tokens given hand names others kept sound s joined reached whole
     either x e =
     let w =
     walked-at fit m proved o has other args long tokens given hand names others kept sound s joined reached whole
     either x e in
+    let v = names_at m.fields s o args x.bound in
     let went =
-    all-along fit m.fields (names_at m.fields s o args x.bound) others o.steps w.begun w.end
-    (map Name (range_with_len 0 (length m.fields))) w.walk in
+    all-along fit m.fields v others o.steps w.begun w.end (map Name (range_with_len 0 (length m.fields))) w.walk in
+    let slots = variables-found m.fields o.steps v (length m.fields) 0
+    (beginning m.fields o args tokens given whole hand kept) w.begun w.first w.learns in
     record {
       before = w.before;
       named_as = w.named_as;
       asserts = went.asserts;
-      along = record { begun = w.begun; first = w.first; found = went.there; leaves = w.leaves ∙ ap ended (sym went.leaves) };
+      along = went-along m.fields v o args tokens given hand kept whole w.begun w.end x slots.0 slots.1 went w.leaves;
     }

@@ -1,7 +1,7 @@
 -- The names at the end of an exchange are those of the state, the arguments and the values that it answers.
-use Rattle.std.proofs.Common.{◌≡◌, ℕ, ◌+◌, ◌≤◌, ℤ, pos, Bool, true, false, ◌||◌, List, [], ◌∷◌, ◌++◌, length, map, get_or, Option, Some, None, Ok, refl, sym, ap, subst, ◌∙◌, arith, ◌⊎◌, if◌then◌else◌, nat_eq, nat_lt}
+use Rattle.std.proofs.Common.{◌≡◌, ℕ, ◌+◌, ◌≤◌, ℤ, pos, Bool, true, false, ◌||◌, List, [], ◌∷◌, ◌++◌, length, map, get_or, Option, Some, None, is_some, Ok, refl, sym, ap, subst, ◌∙◌, arith, ◌⊎◌, if◌then◌else◌, nat_eq, nat_lt}
 use Rattle.std.specs.Prelude.{Contains}
-use Rattle.std.specs.List.{cons_option, range_with_len}
+use Rattle.std.specs.List.{AllByRecursion, cons_option, range_with_len}
 use Rattle.std.proofs.lemmas.Bool.{eqb-true, eq-eqb, ltb-false}
 use Rattle.std.proofs.lemmas.List.Folds.{list_any-append}
 use Rattle.std.proofs.lemmas.List.{get_or_past}
@@ -19,22 +19,23 @@ use Rattle.sync_machine.specs.Statements.{binds}
 use Rattle.sync_machine.specs.States.{State, strategy_at, last_values, first_values, values_in, IsInit, IsAt, AreGiven, AreMet, IsKeptSafe, IsReached}
 use Rattle.sync_machine.proofs.Tests.{conditions-are-tests, safety-is-a-test}
 use Rattle.sync_rules.specs.Plain.{is_plain}
+use Rattle.sync_rules.specs.Slots.{field_slot}
 use Rattle.sync_join.specs.declared.tokens.Token.{Token}
 use Rattle.sync_join.specs.Shards.{Kept, perm, AreRecords, AreSoundShards}
 use Rattle.sync_join.specs.Join.{number_of, entries_of, value_at, join_of}
 use Rattle.sync_join.proofs.States.{joined-state}
 use Rattle.sync_exchange.specs.declared.hands.Held.{Held}
 use Rattle.sync_exchange.specs.declared.hands.XStop.TheVariants.{Width, RequireFalse}
-use Rattle.sync_exchange.specs.Exchange.{Exchanging, Exchanged, argument, seen, key_at, after_reading, after_taking, after_seeing, after_giving, binding, storing, withdrawn, permission, new_value, tokens_in, use_variables, variable_slots, beginning, does, does_all, outcome, exchange_in}
+use Rattle.sync_exchange.specs.Exchange.{Exchanging, Exchanged, argument, seen, key_at, after_reading, after_taking, after_seeing, after_giving, binding, storing, withdrawn, permission, token_name, new_value, tokens_in, use_variables, variable_slots, beginning, does, does_all, outcome, exchange_in}
 use Rattle.sync_exchange.specs.Projection.{AreNames, IsProved}
 use Rattle.sync_exchange.proofs.Passing.{unless-ok, ok_is, bind-ok, asked-token, asked-object}
 use Rattle.sync_exchange.proofs.Making.{records-length}
 use Rattle.sync_exchange.proofs.Standing.{bag_at}
 use Rattle.sync_exchange.proofs.Doing.{beyond}
-use Rattle.sync_exchange.proofs.Going.{Walk, walked, started-names, updated-names, names-kept}
+use Rattle.sync_exchange.proofs.Going.{IsSameAt, Walk, walked, started-names, updated-names, names-kept}
 use Rattle.sync_exchange.proofs.Answering.{all-answered, used-bind-nothing}
 use Rattle.sync_exchange.proofs.Rules.{regular}
-use Rattle.sync_exchange.proofs.Beginning.{valuation, same-outside, at-state, trust}
+use Rattle.sync_exchange.proofs.Beginning.{valuation, same-outside, at-state, all-one, trust}
 use Rattle.sync_exchange.proofs.Transitions.{outcome-ok, laws, given-args, known, walk}
 use Rattle.sync_exchange.proofs.Whole.{nothing, state-length, first-names, values-list}
 use Rattle.sync_exchange_laws.specs.Along.{ended}
@@ -54,7 +55,7 @@ pub or-neither : (b c : Bool) → (b || c) ≡ false → (b ≡ false) × (c ≡
 or-neither true c e = absurd (cc)
 or-neither false c e = (refl, e)
 
-is-argument : (ps : List ℕ) (ns : List ℤ) (v : Valuation) (z : ℕ) → AreGiven ps ns v → is_in z ps ≡ true
+pub is-argument : (ps : List ℕ) (ns : List ℤ) (v : Valuation) (z : ℕ) → AreGiven ps ns v → is_in z ps ≡ true
     → argument ps ns z ≡ v.number z
 unfolding argument
 is-argument [] ns v z given e = absurd (cc)
@@ -64,7 +65,7 @@ is-argument (p ∷ ps) (n ∷ ns) v z given e =
     (λ same. sym given.0 ∙ ap v.number (sym (eqb-true z p same)))
     (λ other. or-cases (nat_eq z p) (is_in z ps) (argument ps ns z ≡ v.number z) e (λ same. let no = sym same ∙ other in absurd (cc)) (λ later. is-argument ps ns v z given.1 later))
 
-no-argument : (ps : List ℕ) (ns : List ℤ) (z : ℕ) → is_in z ps ≡ false → argument ps ns z ≡ pos 0
+pub no-argument : (ps : List ℕ) (ns : List ℤ) (z : ℕ) → is_in z ps ≡ false → argument ps ns z ≡ pos 0
 unfolding argument
 no-argument [] ns z e = refl
 no-argument (p ∷ ps) [] z e = refl
@@ -81,7 +82,7 @@ given-append (p ∷ ps) qs [] ms v a b = absurd a
 given-append (p ∷ ps) qs (n ∷ ns) ms v a b = (a.0, given-append ps qs ns ms v a.1 b)
 
 -- a symbol that is none of the names is 0
-own-or-free : (o : OperationTree) (args bound : List ℤ) (v w : Valuation) (z : ℕ)
+pub own-or-free : (o : OperationTree) (args bound : List ℤ) (v w : Valuation) (z : ℕ)
     → AreGiven (own_names o) (args ++ bound) v → w.number z ≡ v.number z
     → (is_in z o.params ≡ false → is_in z (bound_names o.steps) ≡ false → w.number z ≡ pos 0)
     → w.number z ≡ argument (own_names o) (args ++ bound) z
@@ -204,6 +205,8 @@ pub record IsWalked (fit : ℤ → Bool) (m : MachineTree) (s : State) (o : Oper
   pub end : Exchanging
   pub first : use_variables (variable_slots m.fields o) (beginning m.fields o args tokens given whole hand kept) ≡ Ok begun
   pub leaves : x ≡ ended end
+  -- behind their slots the variables stand for the state's values
+  pub learns : AllByRecursion (λ (f : ℕ). is_some (field_slot m.fields o.steps f) ≡ true → begun.names.number f ≡ (names_at m.fields s o args x.bound).number f) (range_with_len 0 (length m.fields))
   pub before : IsAt s (names_at m.fields s o args x.bound)
   pub named_as : AreGiven (own_names o) (args ++ x.bound) (names_at m.fields s o args x.bound)
   pub safe : IsKeptSafe m.fields (names_at m.fields s o args x.bound) (map Name (range_with_len 0 (length m.fields))) o.steps
@@ -268,6 +271,8 @@ walked-at fit m proved o has other args long tokens given hand names others kept
       end = y;
       first = a.1;
       leaves = sym (ok_is _ x (ap outcome (sym out.1) ∙ e));
+      learns = subst (λ (u : Valuation). AllByRecursion (λ (f : ℕ). is_some (field_slot m.fields o.steps f) ≡ true → a.0.names.number f ≡ u.number f) (range_with_len 0 (length m.fields))) same
+          (all-one (λ (f : ℕ). is_some (field_slot m.fields o.steps f) ≡ true → IsSameAt f a.0.names v × (is_some (token_name f a.0.variables) ≡ true)) (λ (f : ℕ). is_some (field_slot m.fields o.steps f) ≡ true → a.0.names.number f ≡ v.number f) (range_with_len 0 (length m.fields)) (λ f h some. (h some).0.number) begins.learns);
       before = subst (IsAt s) same at;
       named_as = subst (AreGiven (own_names o) (args ++ x.bound)) same own;
       safe = subst (λ u. IsKeptSafe m.fields u (map Name (range_with_len 0 (length m.fields))) o.steps) same safe;

@@ -9,7 +9,9 @@ pub mod Bringing
 pub mod Slotting
 pub mod Stopping
 pub mod Progressing
+pub mod Succeeding
 pub mod Handling
+pub mod Variables
 pub mod Ending
 pub mod Along
 pub mod Guarding

@@ -189,7 +189,7 @@ spends = progresses counted proved spend (1, omega arith, refl) (λ e. absurd (c
 goes : IsAlong counted.fields (names_at counted.fields three spend [] []) spend [] (1 ∷ []) [] hand kept []
     (record { hand = record { name = 2; token = token_of 0 (pos 0) (pos 2) } ∷ []; kept = kept; bound = [] })
 unfolding held_as
-goes = record { begun = beginning counted.fields spend [] (1 ∷ []) [] [] hand kept; first = refl; found = (refl, tt); leaves = refl }
+goes = record { variables = tt; found = (refl, tt); leaves = refl }
 
 follows : exchange_of counted.fields spend [] (1 ∷ []) [] [] hand kept ≡ Ok (record { hand = record { name = 2; token = token_of 0 (pos 0) (pos 2) } ∷ []; kept = kept; bound = [] })
 unfolding bound_by

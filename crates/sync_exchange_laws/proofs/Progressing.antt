@@ -43,7 +43,7 @@ front-all : (P : StepTree → Type 0) (xs ys : List StepTree) → AllByRecursion
 front-all P [] ys h = tt
 front-all P (x ∷ xs) ys h = (h.0, front-all P xs ys h.1)
 
-front-lawful : (fs : List Field) (trusted : ℕ → Bool) (params : List ℕ) (before xs ys : List StepTree)
+pub front-lawful : (fs : List Field) (trusted : ℕ → Bool) (params : List ℕ) (before xs ys : List StepTree)
     → AreLawful fs trusted params before (xs ++ ys) → AreLawful fs trusted params before xs
 front-lawful fs trusted params before [] ys h = tt
 front-lawful fs trusted params before (x ∷ xs) ys h = (h.0, h.1, front-lawful fs trusted params (before ++ x ∷ []) xs ys h.2)
@@ -79,7 +79,7 @@ safe-first : (fs : List Field) (v : Valuation) (cur : List Tree) (s : StepTree) 
 unfolding IsKeptSafe
 safe-first fs v cur s ss h = h.0
 
-more-done : (fs : List Field) (before : List StepTree) (s : StepTree) (w x y : Exchanging)
+pub more-done : (fs : List Field) (before : List StepTree) (s : StepTree) (w x y : Exchanging)
     → does_all unbounded fs before w ≡ Ok x → does unbounded fs s x ≡ Ok y
     → does_all unbounded fs (before ++ s ∷ []) w ≡ Ok y
 more-done fs [] s w x y e one = ap (λ u. does unbounded fs s u >>= does_all unbounded fs []) (ok_is w x e)
@@ -126,7 +126,7 @@ module _ (m : MachineTree) (o : OperationTree) (args : List ℤ) (tokens given :
     abbrev names_of : Valuation
     names_of = valuation m.fields s x.names
 
-    known : AreKnown m.fields names_of others o.steps none cur (first-name m.fields) (start-nil m.fields o args tokens given hand others kept s whole joined sound x.names) (range_with_len 0 (length m.fields)) start y0
+    pub known : AreKnown m.fields names_of others o.steps none cur (first-name m.fields) (start-nil m.fields o args tokens given hand others kept s whole joined sound x.names) (range_with_len 0 (length m.fields)) start y0
     known = using m.fields names_of others o.steps none cur (first-name m.fields) (start-nil m.fields o args tokens given hand others kept s whole joined sound x.names)
         (range_with_len 0 (length m.fields)) start y0 (below-length (length m.fields)) first
         (start-stands m.fields o args tokens given hand others kept s whole joined sound x.names names)
@@ -158,7 +158,7 @@ module _ (m : MachineTree) (o : OperationTree) (args : List ℤ) (tokens given :
       cases (inl lt) = same-through z x.names y0.names names_of (turned z y0.names x.names (kept-to z (field-known z lt))) (field-first z lt e)
       cases (inr le) = same-outside m.fields s x.names z (le-ltb z (length m.fields) le)
 
-    same : Same t.test x.names names_of
+    pub same : Same t.test x.names names_of
     same = record { number = λ z e. (at-end z e).number; mapping = λ z e. (at-end z e).mapping }
 
     param-value : (z : ℕ) → IsTextName z → is_in z o.params ≡ true → names_of.number z ≡ argument o.params args z
@@ -171,7 +171,7 @@ module _ (m : MachineTree) (o : OperationTree) (args : List ℤ) (tokens given :
         sym (same-outside m.fields s x.names z out).number
         ∙ sym (kept-to z (known-in m.fields (o.params ++ bound_names []) z here)).number ∙ sym begun.number ∙ is
 
-    given-args : AreGiven o.params args names_of
+    pub given-args : AreGiven o.params args names_of
     given-args = are-given names_of o.params args long (params-apart m.fields [] o.params rules.params).1
         (all-both IsTextName (λ z. is_in z o.params ≡ true) (λ z. names_of.number z ≡ argument o.params args z) o.params param-value rules.texts.params (all-in o.params))
 

@@ -28,7 +28,7 @@ use Rattle.sync_join.specs.Shards.{Kept, perm, AreSoundShards}
 use Rattle.sync_join.specs.Join.{number_of, join_of}
 use Rattle.sync_exchange.specs.declared.hands.Held.{Held}
 use Rattle.sync_exchange.specs.declared.hands.XStop.TheVariants.{Width, RequireFalse}
-use Rattle.sync_exchange.specs.Exchange.{Exchanging, Exchanged, Answer, unless, named, is_at_place, key_at, amount_at, is_asked, place_fits, value_fits, new_value, stored_at, withdrawn, permission, token_of, token_name, argument, asked_token, revaluing, after_reading, after_taking, after_seeing, after_giving, binding, storing, raising, started, updated, use_variables, variable_slots, beginning, does, does_all, outcome, tokens_in}
+use Rattle.sync_exchange.specs.Exchange.{Exchanging, Exchanged, Answer, unless, named, is_at_place, key_at, amount_at, is_asked, place_fits, value_fits, new_value, stored_at, withdrawn, permission, token_of, token_name, argument, asked_token, revaluing, after_reading, after_taking, after_seeing, after_giving, binding, storing, raising, started, updated, use_variables, variable_slots, beginning, does, does_all, exchange_of, outcome, tokens_in}
 use Rattle.sync_exchange.specs.Projection.{AreNames}
 use Rattle.sync_exchange.proofs.Asking.{both-true}
 use Rattle.sync_exchange.proofs.Terms.{Same, truth-same, value-same, and_left, and_right}
@@ -46,8 +46,9 @@ use Rattle.sync_exchange.proofs.Whole.{nothing, AreApart, first-name, params-apa
 use Rattle.sync_exchange.proofs.Beginning.{same-outside, Trust, trust, no-inits, start-nil, start-stands, start-same, all-one, text-outside}
 use Rattle.sync_exchange.proofs.Transitions.{below-length, at-number}
 use Rattle.sync_exchange_laws.specs.Conditions.{names_at}
-use Rattle.sync_exchange_laws.specs.Along.{ExchangesFollow, key_under, value_under, IsThere, left_under, AreThere, all_left}
+use Rattle.sync_exchange_laws.specs.Along.{ExchangesFollow, key_under, value_under, IsThere, left_under, AreThere, all_left, begun_under, IsAlong}
 use Rattle.sync_exchange_laws.proofs.Bringing.{passed, token-asked, object-asked, is-asked-cases}
+use Rattle.sync_exchange_laws.proofs.Variables.{variables-used}
 use Rattle.sync_exchange_laws.proofs.Ending.{or-neither, first-nil, start-number}
 use Rattle.sync_exchange_laws.proofs.Testing.{argument-front}
 
@@ -164,7 +165,7 @@ left-bound fs v (acts.HaveVariable f) x z fit e = absurd (cc)
 
 -- ---- which symbols are known behind a statement
 
-known-cases : (b c : Bool) (s : Sort) → is_some (if b then Some s else (if c then Some Numbers else None)) ≡ true
+pub known-cases : (b c : Bool) (s : Sort) → is_some (if b then Some s else (if c then Some Numbers else None)) ≡ true
     → (b ≡ true) ⊎ (c ≡ true)
 known-cases true c s e = inl refl
 known-cases false true s e = inr refl
@@ -416,6 +417,9 @@ module _ (m : MachineTree) (o : OperationTree) (args : List ℤ) (tokens given :
       (range_with_len 0 (length m.fields)) start begun (below-length (length m.fields)) first
       (start-stands m.fields o args tokens given hand others kept s whole joined sound beyond_fields names)
 
+  pub learned : AllByRecursion (λ (f : ℕ). is_some (field_slot m.fields o.steps f) ≡ true → begun.names.number f ≡ v.number f) (range_with_len 0 (length m.fields))
+  learned = all-one (λ (f : ℕ). is_some (field_slot m.fields o.steps f) ≡ true → IsSameAt f begun.names v × (is_some (token_name f begun.variables) ≡ true)) (λ (f : ℕ). is_some (field_slot m.fields o.steps f) ≡ true → begun.names.number f ≡ v.number f) (range_with_len 0 (length m.fields)) (λ f h some. (h some).0.number) begins.learns
+
   at-field : (z : ℕ) → z < length m.fields → t.test z ≡ true → IsSameAt z begun.names v
   at-field z lt e = cases (t.knows z lt e) where
     cases : ((is_kept (strategy_at m.fields z) ≡ true) ⊎ (get_or whole z nothing ≡ get_or s z nothing)) ⊎ (is_some (field_slot m.fields o.steps z) ≡ true) → IsSameAt z begun.names v
@@ -468,6 +472,29 @@ module _ (m : MachineTree) (o : OperationTree) (args : List ℤ) (tokens given :
       (all-one IsTextName (λ z. v.number z ≡ argument (own_names o) (args ++ bound) z) (own_names o)
       (λ z text. sym (same-outside m.fields s beyond_fields z (text-outside m.fields z rules.few text)).number) texts))
 
+-- ---- the whole
+
+-- what goes along a valuation of the machine's names succeeds, and answers what they stand for
+pub follows-along : (fs : List Field) (v : Valuation) (trusted : ℕ → Bool) (o : OperationTree) (args : List ℤ) (tokens given : List ℕ) (hand : List Held) (kept : Kept) (whole : State)
+    → ((z : ℕ) → nat_lt z (length fs) ≡ false → v.mapping z ≡ maps.nil) → AreLawful fs trusted o.params [] o.steps
+    → (x : Exchanged) → IsAlong fs v o args tokens given hand kept whole x
+    → Same (λ z. trusted z && is_known_by fs (o.params ++ bound_names []) z) (begun_under fs v o args tokens given whole hand kept).names v
+    → (exchange_of fs o args tokens given whole hand kept ≡ Ok x) × AreGiven (bound_names o.steps) x.bound v
+follows-along fs v trusted o args tokens given hand kept whole nil lawful x along same =
+    let start = beginning fs o args tokens given whole hand kept in
+    let begun = begun_under fs v o args tokens given whole hand kept in
+    let first = variables-used v (variable_slots fs o) start along.variables in
+    let did = all-under fs trusted o.params v nil [] o.steps begun lawful along.found same in
+    let bears = all-bear fs trusted o.params v [] o.steps begun lawful in
+    let none-yet : start.bound ≡ begun.bound = used-bind-nothing (variable_slots fs o) start begun first in
+    let values : x.bound ≡ bears.values =
+    ap (λ (u : Exchanged). u.bound) along.leaves ∙ bears.bound
+    ∙ ap (λ (bs : List ℤ). bs ++ bears.values) (sym none-yet) in (
+      ap (λ r. outcome (r >>= does_all unbounded fs o.steps)) first ∙ ap outcome did
+          ∙ ap (λ (u : Exchanged). Ok u) (sym along.leaves),
+      subst (λ (bs : List ℤ). AreGiven (bound_names o.steps) bs v) (sym values) bears.given,
+    )
+
 pub exchanges-follow : ExchangesFollow
 exchanges-follow m proved o has other args long tokens given hand names others kept sound s joined reached whole
     either bound many x along =
@@ -475,26 +502,20 @@ exchanges-follow m proved o has other args long tokens given hand names others k
     let t = trust m.fields o s whole other rules.rules either in
     let v = names_at m.fields s o args bound in
     let w : Valuation = record { number = argument (own_names o) (args ++ bound); mapping = λ z. maps.nil } in
-    let start = beginning m.fields o args tokens given whole hand kept in
+    let begun = begun_under m.fields v o args tokens given whole hand kept in
+    let first =
+    variables-used v (variable_slots m.fields o) (beginning m.fields o args tokens given whole hand kept)
+    along.variables in
     let lawful =
     are-lawful m.fields o.mode t.test o.params [] o.steps rules.few rules.rules rules.statements rules.texts.bound
     t.reading in
     let nil : (z : ℕ) → nat_lt z (length m.fields) ≡ false → v.mapping z ≡ maps.nil = λ z out. sym (same-outside m.fields s w z out).mapping in
-    let did = all-under m.fields t.test o.params v nil [] o.steps along.begun lawful along.found
-    (first-same m o args tokens given hand others kept s whole joined sound other names rules t along.begun along.first long bound) in
-    let bears = all-bear m.fields t.test o.params v [] o.steps along.begun lawful in
-    let none-yet : start.bound ≡ along.begun.bound =
-    used-bind-nothing (variable_slots m.fields o) start along.begun along.first in
-    let values : x.bound ≡ bears.values =
-    ap (λ (u : Exchanged). u.bound) along.leaves ∙ bears.bound
-    ∙ ap (λ (bs : List ℤ). bs ++ bears.values) (sym none-yet) in
+    let done = follows-along m.fields v t.test o args tokens given hand kept whole nil lawful x along
+    (first-same m o args tokens given hand others kept s whole joined sound other names rules t begun first long bound) in
     let params : AreApart (o.params ++ bound_names []) =
     subst AreApart (sym (append-nil o.params)) (params-apart m.fields [] o.params rules.params).1 in
     let apart = names-apart m.fields t.test o.params [] o.steps lawful params in
     let own =
-    own-given m o args tokens given hand others kept s whole joined sound other names rules t along.begun
-    along.first long bound apart many in (
-      ap (λ r. outcome (r >>= does_all unbounded m.fields o.steps)) along.first ∙ ap outcome did
-          ∙ ap (λ (u : Exchanged). Ok u) (sym along.leaves),
-      values ∙ given-same (bound_names o.steps) bears.values bound v bears.given own,
-    )
+    own-given m o args tokens given hand others kept s whole joined sound other names rules t begun first long
+    bound apart many in
+    (done.0, given-same (bound_names o.steps) x.bound bound v done.1 own)

@@ -1,5 +1,5 @@
 -- An exchange of terms is, under a valuation under which its dues hold, the exchange of their values.
-use Rattle.std.proofs.Common.{◌≡◌, ℕ, ℤ, pos, Bool, true, false, not, List, [], ◌∷◌, ◌++◌, Option, Some, None, Ok, refl, sym, ap, subst, ◌∙◌, if◌then◌else◌, nat_eq}
+use Rattle.std.proofs.Common.{◌≡◌, ℕ, ℤ, pos, Bool, true, false, not, List, [], ◌∷◌, ◌++◌, length, Option, Some, None, Ok, refl, sym, ap, subst, ◌∙◌, if◌then◌else◌, nat_eq}
 use Rattle.std.specs.List.{AllByRecursion}
 use Rattle.std.proofs.lemmas.List.{map-append}
 use Rattle.sync_terms.specs.Trees.{Tree, Formula, replaced}
@@ -16,13 +16,17 @@ use Rattle.sync_join.specs.declared.tokens.Token.{Token}
 use Rattle.sync_join.specs.Shards.{perm}
 use Rattle.sync_join.proofs.Maps.{equal}
 use Rattle.sync_exchange.specs.declared.hands.Held.{Held}
-use Rattle.sync_exchange.specs.Exchange.{Exchanging, named, held_as, without, revalued, next_name, later_names, token_name, stored_at, withdrawn, permission, token_of, after_reading, after_taking, after_seeing, after_giving, binding, recording, storing, revaluing, raising, started, updated}
+use Rattle.sync_exchange.specs.Exchange.{Exchanging, named, held_as, without, revalued, next_name, later_names, token_name, stored_at, withdrawn, permission, token_of, after_reading, after_taking, after_seeing, after_giving, binding, recording, storing, revaluing, raising, started, updated, beginning}
 use Rattle.sync_exchange.proofs.Passing.{either}
 use Rattle.sync_exchange.proofs.Strategies.{some_is}
 use Rattle.sync_exchange_laws.specs.Along.{key_under, value_under, IsThere, left_under, AreThere, all_left, ended}
 use Rattle.sync_exchange_laws.specs.Terms.{TokenTerms, HeldTerms, token_under, held_under, hand_under, terms_as, terms_without, terms_revalued, TermsUnderWay, is_token, place_dues, dues_at, terms_taken, terms_read, terms_given, terms_changed, terms_started, terms_updated, terms_left, all_dues, HasTerms, IsStoredThere, ReadsSame, TermsAreExchanged, ExchangesOfTermsFollow}
-use Rattle.sync_exchange_laws.proofs.Along.{named-is, token-is}
-use Rattle.sync_exchange_laws.proofs.Returning.{exchanges-follow}
+use Rattle.sync_exchange.proofs.Rules.{regular}
+use Rattle.sync_exchange.proofs.Beginning.{trust}
+use Rattle.sync_exchange_laws.specs.Conditions.{names_at}
+use Rattle.sync_exchange_laws.proofs.Variables.{token-is, variables-found}
+use Rattle.sync_exchange_laws.proofs.Along.{named-is}
+use Rattle.sync_exchange_laws.proofs.Returning.{learned, exchanges-follow}
 
 -- ---- hands
 
@@ -311,11 +315,21 @@ all-same fs v w (s ∷ ss) x reads there =
 pub exchanges-of-terms-follow : ExchangesOfTermsFollow
 exchanges-of-terms-follow m proved o has other args long tokens given hand apart others kept sound s joined reached
     whole either bound many begun first names v reads d h dues stored =
+    let w = names_at m.fields s o args bound in
     let went = terms-are-exchanged m.fields names v o.steps d begun h dues stored in
-    let same = all-same m.fields (with_terms names v) _ o.steps begun reads went.0 in
+    let same = all-same m.fields (with_terms names v) w o.steps begun reads went.0 in
+    let rules = regular m proved.symbols proved.named proved.strategies o has in
+    let t = trust m.fields o s whole other rules.rules either in
+    let slots = variables-found m.fields o.steps w (length m.fields) 0
+    (beginning m.fields o args tokens given whole hand kept) begun first
+    (learned m o args tokens given hand others kept s whole joined sound other apart rules t begun first long bound) in
     let follow =
     exchanges-follow m proved o has other args long tokens given hand apart others kept sound s joined reached
     whole either bound many
     (ended (all_left m.fields (with_terms names v) o.steps begun))
-    (record { begun = begun; first = first; found = same.0; leaves = ap ended same.1 }) in
+    (record {
+      variables = slots.0;
+      found = subst (AreThere m.fields w o.steps) (sym slots.1) same.0;
+      leaves = ap ended same.1 ∙ ap (λ (u : Exchanging). ended (all_left m.fields w o.steps u)) (sym slots.1);
+    }) in
     (follow.0, went.1, follow.1)

@@ -1,5 +1,5 @@
 -- An exchange along one valuation: what each statement finds and leaves, with the values that its terms have there.
-use Rattle.std.specs.Prelude.{◌≡◌, ℕ, ℤ, List, [], ◌∷◌, ◌++◌, length, ◌⊎◌, Bool, true, Some, Ok}
+use Rattle.std.specs.Prelude.{◌≡◌, ℕ, ℤ, pos, List, [], ◌∷◌, ◌++◌, length, ◌⊎◌, Bool, true, Some, Ok}
 use Rattle.std.specs.List.{AllByRecursion, Contains}
 use Rattle.sync_terms.specs.Values.{Valuation, num, Holds}
 use Rattle.sync_machine.specs.declared.fields.Field.{Field}
@@ -14,8 +14,11 @@ use Rattle.sync_join.specs.declared.tokens.Token.{Token}
 use Rattle.sync_join.specs.Shards.{Kept, AreSoundShards}
 use Rattle.sync_join.specs.Join.{join_of}
 use Rattle.sync_exchange.specs.declared.hands.Held.{Held}
-use Rattle.sync_exchange.specs.Exchange.{Exchanging, Exchanged, tokens_in, named, stored_at, withdrawn, permission, token_of, after_reading, after_taking, after_seeing, after_giving, binding, storing, raising, started, updated, use_variables, variable_slots, beginning, exchange_in, exchange_of}
+use Rattle.sync_exchange.specs.Exchange.{Exchanging, Exchanged, tokens_in, named, stored_at, withdrawn, permission, token_of, next_name, after_reading, after_taking, after_seeing, after_giving, knowing, binding, storing, raising, started, updated, variable_slots, beginning, exchange_in, exchange_of}
 use Rattle.sync_exchange.specs.Projection.{AreNames, IsProved}
+use Rattle.sync_rules.specs.declared.slots.Role.{Role}
+use Rattle.sync_rules.specs.declared.slots.Role.TheVariants.{Given}
+use Rattle.sync_rules.specs.Slots.{SlotTree}
 use Rattle.sync_exchange_laws.specs.Conditions.{names_at}
 
 -- the key and the value of a place
@@ -67,19 +70,53 @@ abbrev pub AreThere : List Field → Valuation → List StepTree → Exchanging 
 AreThere fs v [] x = Unit {0}
 AreThere fs v (s ∷ ss) x = IsThere v s.act x × AreThere fs v ss (left_under fs v s.act x)
 
+-- ---- the slots of variables
+
+-- What the slot of a variable asks is there: its token, with the value that the variable has. A new one is given, and
+-- asks nothing.
+abbrev pub IsVariableThere : Valuation → SlotTree → Exchanging → Type 0
+IsVariableThere v s x = asks s.role where
+  asks : Role → Type 0
+  asks Given = Unit {0}
+  asks role = named x ≡ Ok (token_of s.field (pos 0) (v.number s.field))
+
+-- what it leaves then
+abbrev pub variable_left : Valuation → SlotTree → Exchanging → Exchanging
+variable_left v s x = left s.role where
+  left : Role → Exchanging
+  left Given = knowing s.field (next_name x.given) (pos 0) (after_giving (token_of s.field (pos 0) (pos 0)) x)
+  left role = knowing s.field (next_name x.tokens) (v.number s.field) (after_reading x)
+
+-- slot by slot
+abbrev pub variables_left : Valuation → List SlotTree → Exchanging → Exchanging
+variables_left v [] x = x
+variables_left v (s ∷ ss) x = variables_left v ss (variable_left v s x)
+
+abbrev pub AreVariablesThere : Valuation → List SlotTree → Exchanging → Type 0
+AreVariablesThere v [] x = Unit {0}
+AreVariablesThere v (s ∷ ss) x = IsVariableThere v s x × AreVariablesThere v ss (variable_left v s x)
+
+-- an exchange behind its variables' slots
+abbrev pub begun_under : List Field → Valuation → OperationTree → List ℤ → List ℕ → List ℕ → State → List Held → Kept
+    → Exchanging
+begun_under fs v o args tokens given whole hand kept =
+    variables_left v (variable_slots fs o) (beginning fs o args tokens given whole hand kept)
+
+-- ---- the whole
+
 -- what is left behind the last statement
 abbrev pub ended : Exchanging → Exchanged
 ended x = record { hand = x.hand ++ x.entered; kept = x.kept; bound = x.bound }
 
--- The exchange along this valuation leaves this: the tokens of the variables are there; each statement finds what it
--- asks, and what it leaves has the keys and the values of its terms.
+-- The exchange along this valuation leaves this: each slot finds what it asks, the token of a variable, another token
+-- or a stored object, with the key and the value of its terms; each require is true; and what is left has the keys and
+-- the values of the terms.
 pub record IsAlong (fs : List Field) (v : Valuation) (o : OperationTree) (args : List ℤ) (tokens given : List ℕ)
     (hand : List Held)
     (kept : Kept) (whole : State) (x : Exchanged) : Type 0 where
-  pub begun : Exchanging
-  pub first : use_variables (variable_slots fs o) (beginning fs o args tokens given whole hand kept) ≡ Ok begun
-  pub found : AreThere fs v o.steps begun
-  pub leaves : x ≡ ended (all_left fs v o.steps begun)
+  pub variables : AreVariablesThere v (variable_slots fs o) (beginning fs o args tokens given whole hand kept)
+  pub found : AreThere fs v o.steps (begun_under fs v o args tokens given whole hand kept)
+  pub leaves : x ≡ ended (all_left fs v o.steps (begun_under fs v o args tokens given whole hand kept))
 
 -- an assert is true
 abbrev pub AssertHolds : Valuation → ActTree → Type 0

@@ -3,5 +3,6 @@ pub mod Conditions
 pub mod Widths
 pub mod Progress
 pub mod Along
+pub mod Succeeding
 pub mod Guards
 pub mod Terms

@@ -6,6 +6,7 @@ ghost use Rattle.sync_exchange_laws.specs.Conditions.{ConditionsMakeSteps, Excha
 ghost use Rattle.sync_exchange_laws.specs.Guards.{PropertiesShowGuards};
 ghost use Rattle.sync_exchange_laws.specs.Permissions.{PermissionsStay, FirstPermissionsStay, MovesKeepPermissions, WritesKeepShards, PermissionIsOnly, StoredIsOnly};
 ghost use Rattle.sync_exchange_laws.specs.Progress.{Progresses, StopsAreHolders};
+ghost use Rattle.sync_exchange_laws.specs.Succeeding.{ExchangesSucceed};
 ghost use Rattle.sync_exchange_laws.specs.Terms.{TermsAreExchanged, ExchangesOfTermsFollow};
 ghost use Rattle.sync_exchange_laws.specs.Widths.{WidthsAgree};
 
@@ -81,6 +82,12 @@ pub fn properties_show_guards()
 /// And where one can go along the valuation of a list of values for its bound names, it succeeds, and answers these.
 pub fn exchanges_follow()
     ensures { ExchangesFollow }
+{}
+
+/// And where the holder brings what it asks, under the valuation of the values that it binds on its way, it succeeds,
+/// and answers these: the stored objects are there.
+pub fn exchanges_succeed()
+    ensures { ExchangesSucceed }
 {}
 
 /// Behind the tokens of variables: under a valuation under which the dues of an exchange of terms hold, and stored

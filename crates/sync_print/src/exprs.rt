@@ -80,7 +80,7 @@ fn shape_of(operator: Operator) -> Shape
 /// An expression at a place that wants a level.
 #[cycle(exprs)]
 #[tactic(auto, using(crate::proofs::Steps::joined, crate::proofs::Steps::nothing_more))]
-pub(crate) fn expr(
+pub fn expr(
     alloc: Global,
     names: &NameList,
     out: &mut Vec<u8>,

@@ -27,7 +27,7 @@ fn piece(out: &mut Vec<u8>, bytes: &[u8], behind: u8) -> Result<(), AllocError>
 
 /// A sign or a reserved word.
 #[tactic(auto, unfolding(crate::specs::Lexemes::printed, crate::specs::Lexemes::one))]
-pub(crate) fn sign(names: &NameList, out: &mut Vec<u8>, sign: Sign) -> Result<(), AllocError>
+pub fn sign(names: &NameList, out: &mut Vec<u8>, sign: Sign) -> Result<(), AllocError>
     ensures { OnOk result (out.new.items ≡ out.old.items ++ printed names.now (one sign)) }
 {
     piece(out, sign.spelling().as_bytes(), behind_sign(sign))
@@ -48,7 +48,7 @@ pub(crate) fn needed(
 
 /// A name.
 #[tactic(auto, unfolding(crate::specs::Lexemes::printed, crate::specs::Lexemes::one_name))]
-pub(crate) fn name(names: &NameList, out: &mut Vec<u8>, number: u32) -> Result<(), AllocError>
+pub fn name(names: &NameList, out: &mut Vec<u8>, number: u32) -> Result<(), AllocError>
     ensures { OnOk result (out.new.items ≡ out.old.items ++ printed names.now (one_name number)) }
 {
     piece(out, names.spelling(number), b' ')
@@ -68,7 +68,7 @@ pub(crate) fn strategy(
 
 /// A number, without leading zeros.
 #[tactic(auto, unfolding(crate::specs::Lexemes::printed, crate::specs::Lexemes::one_number))]
-pub(crate) fn number(
+pub fn number(
     alloc: Global,
     names: &NameList,
     out: &mut Vec<u8>,

@@ -6,4 +6,7 @@ mod lexemes;
 mod machines;
 mod scripts;
 
-pub use machines::print;
+pub use exprs::expr;
+pub use lexemes::{name, number, sign};
+pub use machines::{machine, print, proofs, version};
+pub use scripts::block;

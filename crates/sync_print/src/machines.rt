@@ -339,8 +339,9 @@ fn invariants(
     Ok(())
 }
 
+/// A machine.
 #[tactic(auto, using(crate::proofs::Steps::joined))]
-fn machine(
+pub fn machine(
     alloc: Global,
     names: &NameList,
     out: &mut Vec<u8>,
@@ -408,7 +409,7 @@ fn proof_row(
 
 /// The proofs, if there are any.
 #[tactic(auto, using(crate::proofs::Steps::joined))]
-fn proofs(
+pub fn proofs(
     alloc: Global,
     names: &NameList,
     out: &mut Vec<u8>,
@@ -430,7 +431,7 @@ fn proofs(
 
 /// What stands before the machine.
 #[tactic(auto, using(crate::proofs::Steps::joined))]
-fn version(alloc: Global, names: &NameList, out: &mut Vec<u8>) -> Result<(), AllocError>
+pub fn version(alloc: Global, names: &NameList, out: &mut Vec<u8>) -> Result<(), AllocError>
     ensures { OnOk result (out.new.items ≡ out.old.items ++ printed names.now show_version) }
 {
     sign(names, out, Sign::Version)?;

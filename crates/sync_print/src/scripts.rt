@@ -291,7 +291,7 @@ fn step(
 /// The steps of a block, in braces.
 #[cycle(blocks)]
 #[tactic(auto, using(crate::proofs::Steps::joined))]
-pub(crate) fn block(
+pub fn block(
     alloc: Global,
     names: &NameList,
     out: &mut Vec<u8>,

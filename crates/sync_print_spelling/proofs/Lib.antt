@@ -1,23 +1,23 @@
 pub mod TrueNames
-mod Terminals
+pub mod Terminals
 mod Levels
 mod Operands
-mod Expressions
+pub mod Expressions
 mod NeededBrackets
 mod Lists
 mod Hyps
 mod Steps
-mod Scripts
+pub mod Scripts
 mod Acts
-mod Machines
+pub mod Machines
 mod Texts
-mod Told
-mod ListsTold
-mod ExpressionsTold
+pub mod Told
+pub mod ListsTold
+pub mod ExpressionsTold
 mod HypsTold
-mod ScriptsTold
+pub mod ScriptsTold
 mod ActsTold
-mod MachinesTold
+pub mod MachinesTold
 mod TextsTold
 mod Lexing
 mod LexingRuns

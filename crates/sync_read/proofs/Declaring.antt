@@ -13,6 +13,7 @@ use Rattle.sync_read_names.specs.declared.scopes.Sort.{Sort}
 use Rattle.sync_read_names.specs.declared.scopes.Meaning.{Meaning}
 use Rattle.sync_read_names.specs.declared.scopes.Meaning.TheVariants as meaning
 use Rattle.sync_read_names.specs.declared.scopes.Owner.{Owner}
+use Rattle.sync_read_names.specs.declared.scopes.Owner.TheVariants as owner
 use Rattle.sync_read_names.specs.declared.scopes.Scope.{Scope}
 use Rattle.sync_read_names.specs.Scopes.{refuse, or_nothing, meaning_of, is_field, if_new, declare}
 use Rattle.sync_read.specs.Acts.{few_before, strategy_sort, new_field, add_field, fields_from}
@@ -66,7 +67,7 @@ pub declared_other : (s : Scope) (n : ℕ) (m : Meaning) (j : ℕ) → (j ≡ n 
 declared_other s n m j apart = ap or_nothing (get_set_other s.meanings n j m apart)
 
 declared_room : (s : Scope) (n : ℕ) (m : Meaning) → HasRoom s → HasRoom (declared s n m)
-declared_room s n m h = record { meanings = subst (λ k. k ≤ 1048576) (sym (length-set s.meanings n m)) h.meanings; owners = h.owners; nobody = h.nobody }
+declared_room s n m h = record { meanings = subst (λ k. k ≤ 1048576) (sym (length-set s.meanings n m)) h.meanings; owners = h.owners; nobody = h.nobody; sight = h.sight }
 
 -- a field's name is not new
 field_apart : (fs : List Field) (s : Scope) (n i : ℕ) → HasFields fs s → meaning_of s n ≡ meaning.Nothing → i < length fs → name_at fs i ≡ n → ⊥
@@ -139,9 +140,14 @@ strategy_last (f ∷ fs) g = strategy_last fs g
 pub same_number : (i j : ℕ) (t u : Sort) → meaning.Field i t ≡ meaning.Field j u → i ≡ j
 same_number i j t u e = cc
 
--- nobody owns a name
+-- of those whom a machine may have, nobody owns a name
 abbrev pub Anybody : Owner → Type 0
-Anybody y = Unit {0}
+Anybody owner.Nobody = Unit {0}
+Anybody (owner.Operation k) = Unit {0}
+Anybody (owner.Invariant k) = Unit {0}
+Anybody (owner.Word name) = ⊥
+Anybody (owner.Thread k) = ⊥
+Anybody (owner.Last k) = ⊥
 
 -- what is known of the fields so far
 pub record AreFields (held : List Field) (s : Scope) : Type 0 where

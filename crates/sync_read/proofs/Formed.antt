@@ -60,7 +60,7 @@ begun x F fs taken s named m h plain some counted here later =
       inside = record {
         mine = refl;
         between = record {
-          room = record { meanings = next.room.meanings; owners = next.room.owners; nobody = next.room.nobody };
+          room = record { meanings = next.room.meanings; owners = next.room.owners; nobody = next.room.nobody; sight = next.room.sight };
           fields = record { few = next.fields.few; named = next.fields.named; only = next.fields.only };
           taken_are = next.taken_are;
           free = λ y l. h.free y (later y l);
@@ -79,36 +79,65 @@ abbrev OperationsFrom : ℕ → Owner → Type 0
 OperationsFrom k owner.Nobody = ⊥
 OperationsFrom k (owner.Operation j) = k ≤ j
 OperationsFrom k (owner.Invariant j) = Unit {0}
+OperationsFrom k (owner.Word n) = ⊥
+OperationsFrom k (owner.Thread j) = ⊥
+OperationsFrom k (owner.Last j) = ⊥
 
 abbrev InvariantsFrom : ℕ → Owner → Type 0
 InvariantsFrom k owner.Nobody = ⊥
 InvariantsFrom k (owner.Operation j) = ⊥
 InvariantsFrom k (owner.Invariant j) = k ≤ j
+InvariantsFrom k (owner.Word n) = ⊥
+InvariantsFrom k (owner.Thread j) = ⊥
+InvariantsFrom k (owner.Last j) = ⊥
 
 operations_later : (k : ℕ) (y : Owner) → IsLater (owner.Operation k) y → OperationsFrom k y
 operations_later k owner.Nobody h = h
 operations_later k (owner.Operation j) h = omega (arith, h)
 operations_later k (owner.Invariant j) h = tt
+operations_later k (owner.Word n) h = h
+operations_later k (owner.Thread j) h = h
+operations_later k (owner.Last j) h = h
 
 later_operations : (k l : ℕ) (y : Owner) → l ≡ k + 1 → OperationsFrom l y → IsLater (owner.Operation k) y
 later_operations k l owner.Nobody e h = h
 later_operations k l (owner.Operation j) e h = omega (arith, e, h)
 later_operations k l (owner.Invariant j) e h = tt
+later_operations k l (owner.Word n) e h = h
+later_operations k l (owner.Thread j) e h = h
+later_operations k l (owner.Last j) e h = h
 
 invariants_later : (k : ℕ) (y : Owner) → IsLater (owner.Invariant k) y → InvariantsFrom k y
 invariants_later k owner.Nobody h = h
 invariants_later k (owner.Operation j) h = h
 invariants_later k (owner.Invariant j) h = omega (arith, h)
+invariants_later k (owner.Word n) h = h
+invariants_later k (owner.Thread j) h = h
+invariants_later k (owner.Last j) h = h
 
 later_invariants : (k l : ℕ) (y : Owner) → l ≡ k + 1 → InvariantsFrom l y → IsLater (owner.Invariant k) y
 later_invariants k l owner.Nobody e h = h
 later_invariants k l (owner.Operation j) e h = h
 later_invariants k l (owner.Invariant j) e h = omega (arith, e, h)
+later_invariants k l (owner.Word n) e h = h
+later_invariants k l (owner.Thread j) e h = h
+later_invariants k l (owner.Last j) e h = h
 
 then_invariants : (k : ℕ) (y : Owner) → InvariantsFrom 0 y → OperationsFrom k y
 then_invariants k owner.Nobody h = h
 then_invariants k (owner.Operation j) h = absurd h
 then_invariants k (owner.Invariant j) h = tt
+then_invariants k (owner.Word n) h = absurd h
+then_invariants k (owner.Thread j) h = absurd h
+then_invariants k (owner.Last j) h = absurd h
+
+any_operations : (y : Owner) → OperationsFrom 0 y → Anybody y
+any_operations owner.Nobody h = tt
+any_operations (owner.Operation j) h = tt
+any_operations (owner.Invariant j) h = tt
+any_operations (owner.Word n) h = h
+any_operations (owner.Thread j) h = h
+any_operations (owner.Last j) h = h
 
 -- where fewer are to come, and the same names are taken
 fewer : (fs : List Field) (taken now : List ℕ) (F G : Owner → Type 0) (s : Scope) → Between fs taken F s → taken ≡ now → ((y : Owner) → G y → F y) → Between fs now G s
@@ -296,15 +325,18 @@ no_flag k = down (nat_lt k 64) where
   down true = ap (λ n. nat_eq n 1) (bit_at-zero k)
   down false = refl
 
-none_owned : (y : Owner) → has_owner unowned y ≡ false
-none_owned owner.Nobody = refl
-none_owned (owner.Operation k) = no_flag k
-none_owned (owner.Invariant k) = no_flag k
+none_owned : (y : Owner) → Anybody y → has_owner unowned y ≡ false
+none_owned owner.Nobody a = refl
+none_owned (owner.Operation k) a = no_flag k
+none_owned (owner.Invariant k) a = no_flag k
+none_owned (owner.Word n) a = absurd a
+none_owned (owner.Thread k) a = absurd a
+none_owned (owner.Last k) a = absurd a
 
-free_first : (m n : ℕ) (y : Owner) → or_unowned (slice_get (replicate m unowned) n) y ≡ false
-free_first zero n y = refl
-free_first (suc m) zero y = none_owned y
-free_first (suc m) (suc n) y = free_first m n y
+free_first : (m n : ℕ) (y : Owner) → Anybody y → or_unowned (slice_get (replicate m unowned) n) y ≡ false
+free_first zero n y a = refl
+free_first (suc m) zero y a = none_owned y a
+free_first (suc m) (suc n) y a = free_first m n y a
 
 first_fields : (count : ℕ) → AreFields [] (first_scope count)
 unfolding first_fault
@@ -312,14 +344,14 @@ first_fields count =
     let size : ℕ = min count 1048576 in
     record {
       between = record {
-        room = record { meanings = omega (arith, length-replicate size meaning.Nothing); owners = omega (arith, length-replicate size unowned); nobody = refl };
+        room = record { meanings = omega (arith, length-replicate size meaning.Nothing); owners = omega (arith, length-replicate size unowned); nobody = refl; sight = refl };
         fields = record {
           few = omega arith;
           named = λ i low. absurd (omega (arith, low));
           only = λ n i t e. let clash : meaning.Nothing ≡ meaning.Field i t = sym (nothing_first size n) ∙ e in absurd cc;
         };
         taken_are = λ n e. absurd (true≢false (sym e));
-        free = λ y a n. free_first size n y;
+        free = λ y a n. free_first size n y a;
       };
       passed = refl;
     }
@@ -332,7 +364,7 @@ unfolding machine_in machine_fault first_fault
 machine_is count m =
     after_ok Keeps (λ x. AreFields x.0 x.1) (fields_from [] (first_scope count) m.fields) _ (fields_are [] (first_scope count) m.fields (first_fields count)) (λ fs f.
     after_ok Keeps (AreOperations fs.0) (operations_from fs.0 [] fs.1 m.operations) _
-    (operations_are fs.0 [] fs.1 m.operations (record { between = fewer fs.0 [] [] Anybody (OperationsFrom 0) fs.1 f.between refl (λ y h. tt); passed = refl })) (λ os o.
+    (operations_are fs.0 [] fs.1 m.operations (record { between = fewer fs.0 [] [] Anybody (OperationsFrom 0) fs.1 f.between refl any_operations; passed = refl })) (λ os o.
     after_ok Keeps (AreInvariants fs.0 os.0) (invariants_from [] os.1 m.invariants) _
     (invariants_are fs.0 os.0 [] os.1 m.invariants (record {
       between = fewer fs.0 (operation_names os.0) (all_names os.0 []) (OperationsFrom (length os.0)) (InvariantsFrom 0) os.1 o.between (sym (append-nil (operation_names os.0))) (then_invariants (length os.0));

@@ -9,4 +9,5 @@ pub mod Stated
 pub mod Formed
 pub mod Going
 pub mod Planned
+pub mod Stepped
 pub mod Whole

@@ -22,7 +22,7 @@ use Rattle.sync_read_names.specs.declared.scopes.Owners.{Owners}
 use Rattle.sync_read_names.specs.declared.scopes.Owner.{Owner}
 use Rattle.sync_read_names.specs.declared.scopes.Owner.TheVariants as owner
 use Rattle.sync_read_names.specs.declared.scopes.Scope.{Scope}
-use Rattle.sync_read_names.specs.Scopes.{refuse, symbol_of, or_nothing, meaning_of, flag, with_flag, has_owner, with_owner, or_unowned, is_owned, is_local, is_field, is_taken, own_more, own, knows_params}
+use Rattle.sync_read_names.specs.Scopes.{refuse, symbol_of, or_nothing, meaning_of, flag, with_flag, has_owner, with_owner, or_unowned, is_owned, is_local, is_field, is_taken, own_more, own, knows_params, machine_sight}
 use Rattle.sync_read.specs.Acts.{strategy_sort}
 use Rattle.sync_read.proofs.Sorted.{Agrees}
 
@@ -57,6 +57,9 @@ abbrev pub IsCounted : Owner → Type 0
 IsCounted owner.Nobody = ⊥
 IsCounted (owner.Operation k) = k < 64
 IsCounted (owner.Invariant k) = k < 64
+IsCounted (owner.Word n) = ⊥
+IsCounted (owner.Thread k) = ⊥
+IsCounted (owner.Last k) = ⊥
 
 -- operations come before invariants
 abbrev pub IsLater : Owner → Owner → Type 0
@@ -64,34 +67,56 @@ IsLater owner.Nobody y = ⊥
 IsLater (owner.Operation k) owner.Nobody = ⊥
 IsLater (owner.Operation k) (owner.Operation j) = k < j
 IsLater (owner.Operation k) (owner.Invariant j) = Unit {0}
+IsLater (owner.Operation k) (owner.Word n) = ⊥
+IsLater (owner.Operation k) (owner.Thread j) = ⊥
+IsLater (owner.Operation k) (owner.Last j) = ⊥
 IsLater (owner.Invariant k) owner.Nobody = ⊥
 IsLater (owner.Invariant k) (owner.Operation j) = ⊥
 IsLater (owner.Invariant k) (owner.Invariant j) = k < j
+IsLater (owner.Invariant k) (owner.Word n) = ⊥
+IsLater (owner.Invariant k) (owner.Thread j) = ⊥
+IsLater (owner.Invariant k) (owner.Last j) = ⊥
+IsLater (owner.Word n) y = ⊥
+IsLater (owner.Thread k) y = ⊥
+IsLater (owner.Last k) y = ⊥
 
 owns_here : (o : Owners) (x : Owner) → IsCounted x → has_owner (with_owner o x) x ≡ true
 owns_here o owner.Nobody h = absurd h
 owns_here o (owner.Operation k) h = up_here o.operations k h
 owns_here o (owner.Invariant k) h = up_here o.invariants k h
+owns_here o (owner.Word n) h = absurd h
+owns_here o (owner.Thread k) h = absurd h
+owns_here o (owner.Last k) h = absurd h
 
 same_later : (o : Owners) (x y : Owner) → IsCounted x → IsLater x y → has_owner (with_owner o x) y ≡ has_owner o y
 same_later o owner.Nobody y h later = absurd h
 same_later o (owner.Operation k) owner.Nobody h later = absurd later
 same_later o (owner.Operation k) (owner.Operation j) h later = same_elsewhere o.operations k j h (λ e. omega (arith, e, later))
 same_later o (owner.Operation k) (owner.Invariant j) h later = refl
+same_later o (owner.Operation k) (owner.Word n) h later = absurd later
+same_later o (owner.Operation k) (owner.Thread j) h later = absurd later
+same_later o (owner.Operation k) (owner.Last j) h later = absurd later
 same_later o (owner.Invariant k) owner.Nobody h later = absurd later
 same_later o (owner.Invariant k) (owner.Operation j) h later = absurd later
 same_later o (owner.Invariant k) (owner.Invariant j) h later = same_elsewhere o.invariants k j h (λ e. omega (arith, e, later))
+same_later o (owner.Invariant k) (owner.Word n) h later = absurd later
+same_later o (owner.Invariant k) (owner.Thread j) h later = absurd later
+same_later o (owner.Invariant k) (owner.Last j) h later = absurd later
+same_later o (owner.Word n) y h later = absurd h
+same_later o (owner.Thread k) y h later = absurd h
+same_later o (owner.Last k) y h later = absurd h
 
 -- ---- what a scope knows
 
 abbrev pub name_at : List Field → ℕ → ℕ
 name_at fs i = slice_index_or (map (λ (f : Field). f.name) fs) i 0
 
--- a text has at most 1,048,576 names, and `$` is not known
+-- a text has at most 1,048,576 names, and neither `$` nor a word of programs is known
 pub record HasRoom (s : Scope) : Type 0 where
   pub meanings : length s.meanings ≤ 1048576
   pub owners : length s.owners ≤ 1048576
   pub nobody : knows_params s.claim ≡ false
+  pub sight : s.sight ≡ machine_sight
 
 -- the names of these fields stand for them, and no other name for a field
 pub record HasFields (fs : List Field) (s : Scope) : Type 0 where
@@ -173,6 +198,7 @@ agrees x fs taken names s h =
     let fields = h.between.fields in
     record {
       nobody = h.between.room.nobody;
+      sight = h.between.room.sight;
       own = λ n e. known_name fs names n fields.few (h.listed n e);
       numbers = λ n i e. let f = field_is fs s n i sort.Number fields e in known_field fs names i Numbers f.0 (number_field (strategy_at fs i) f.2);
       maps = λ n i e. let f = field_is fs s n i sort.Map fields e in known_field fs names i Maps f.0 (map_field (strategy_at fs i) f.2);
@@ -259,7 +285,7 @@ module _ (x : Owner) (fs : List Field) (taken names : List ℕ) (s : Scope) (h :
   now_inside = record {
     mine = h.mine;
     between = record {
-      room = record { meanings = h.between.room.meanings; owners = subst (λ k. k ≤ 1048576) (sym (length-set s.owners name (with_owner w s.owner))) h.between.room.owners; nobody = h.between.room.nobody };
+      room = record { meanings = h.between.room.meanings; owners = subst (λ k. k ≤ 1048576) (sym (length-set s.owners name (with_owner w s.owner))) h.between.room.owners; nobody = h.between.room.nobody; sight = h.between.room.sight };
       fields = record { few = h.between.fields.few; named = h.between.fields.named; only = h.between.fields.only };
       taken_are = h.between.taken_are;
       free = λ y later m. now_later y m later ∙ h.between.free y later m;

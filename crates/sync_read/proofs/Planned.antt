@@ -34,16 +34,16 @@ use Rattle.sync_read.specs.Scripts.{Kind, hyp_in, parts_from, numbers_from, kind
 
 -- ---- what a step and a block compute to
 
-abbrev raw_kind : Scope → RawStepKind → Kind
+abbrev pub raw_kind : Scope → RawStepKind → Kind
 raw_kind s = fold-RawStepKind Kind (Result Plan Refusal) (Result Then Refusal) (kind_in s) block_in step_in
 
-step_is : (s : Scope) (x : RawScriptStep) → step_of s x ≡ raw_kind s (out-RawScriptStep x).what (out-RawScriptStep x).line
+pub step_is : (s : Scope) (x : RawScriptStep) → step_of s x ≡ raw_kind s (out-RawScriptStep x).what (out-RawScriptStep x).line
 step_is s x = fold_out-RawScriptStep Kind (Result Plan Refusal) (Result Then Refusal) (kind_in s) block_in step_in x
 
-abbrev made_kind : Stored → StepKind → ℕ → Then
+abbrev pub made_kind : Stored → StepKind → ℕ → Then
 made_kind t = fold-StepKind (ℕ → Then) Plan Then (kind_plan t) block_plan step_plan
 
-made_is : (t : Stored) (k : StepKind) (line : ℕ) → then_of t (roll-ScriptStep (record { what = k; line = line })) ≡ made_kind t k line
+pub made_is : (t : Stored) (k : StepKind) (line : ℕ) → then_of t (roll-ScriptStep (record { what = k; line = line })) ≡ made_kind t k line
 made_is t k line = fold-roll-ScriptStep (ℕ → Then) Plan Then (kind_plan t) block_plan step_plan (record { what = k; line = line })
 
 block_is : (s : Scope) (b : RawBlock) → block_of s b ≡ (thens_from [] (map (step_of s) (out-RawBlock b).steps) >>= (λ xs. Ok (steps_before xs (End (out-RawBlock b).end_line))))
@@ -78,7 +78,7 @@ block_stops (Refused r) s b items i x held below item are so_far h =
 
 -- ---- kinds of steps
 
-pub sum_made : (s : Scope) (t : Stored) (x : RawScriptStep) (parts : List RawPart) (ps : List Part) → (out-RawScriptStep x).what ≡ raw.Sum parts → parts_from [] parts ≡ Ok ps
+pub sum_made : (s : Scope) (t : Stored) (x : RawScriptStep) (parts : List RawPart) (ps : List Part) → (out-RawScriptStep x).what ≡ raw.Sum parts → parts_from s [] parts ≡ Ok ps
     → step_of s x ≡ Ok (then_of t (roll-ScriptStep (record { what = made.Sum ps; line = (out-RawScriptStep x).line })))
 sum_made s t x parts ps is h =
     let line = (out-RawScriptStep x).line in
@@ -93,7 +93,7 @@ sum_made s t x parts ps is h =
     step_is s x ∙ said ∙ ap Ok (sym meant)
 
 pub inst_made : (s : Scope) (t : Stored) (x : RawScriptStep) (h : RawHypName) (es : List RawExpr) (n : RawName) (y : HypName) (ids : List TermId) → (out-RawScriptStep x).what ≡ raw.Inst h es n
-    → hyp_in h ≡ Ok y → numbers_from [] s es ≡ Ok (map (tree t) ids)
+    → hyp_in s h ≡ Ok y → numbers_from [] s es ≡ Ok (map (tree t) ids)
     → step_of s x ≡ Ok (then_of t (roll-ScriptStep (record { what = made.Inst y ids n.name; line = (out-RawScriptStep x).line })))
 inst_made s t x h es n y ids is hyps terms =
     let line = (out-RawScriptStep x).line in
@@ -108,7 +108,7 @@ inst_made s t x h es n y ids is hyps terms =
     ∙ ap (λ (f : ℕ → Then). f line) (fold-roll-StepKind (ℕ → Then) Plan Then (kind_plan t) block_plan step_plan (StepKind-F.Inst y ids n.name)) in
     step_is s x ∙ said ∙ ap Ok (sym meant)
 
-pub parts_made : (s : Scope) (t : Stored) (x : RawScriptStep) (h : RawHypName) (a b : RawName) (y : HypName) → (out-RawScriptStep x).what ≡ raw.Parts h a b → hyp_in h ≡ Ok y
+pub parts_made : (s : Scope) (t : Stored) (x : RawScriptStep) (h : RawHypName) (a b : RawName) (y : HypName) → (out-RawScriptStep x).what ≡ raw.Parts h a b → hyp_in s h ≡ Ok y
     → step_of s x ≡ Ok (then_of t (roll-ScriptStep (record { what = made.Parts y a.name b.name; line = (out-RawScriptStep x).line })))
 parts_made s t x h a b y is hyps =
     let line = (out-RawScriptStep x).line in
@@ -123,7 +123,7 @@ parts_made s t x h a b y is hyps =
     step_is s x ∙ said ∙ ap Ok (sym meant)
 
 -- the blocks of a split, where its hypothesis is read
-split_is : (s : Scope) (x : RawScriptStep) (h : RawHypName) (n : RawName) (b c : RawBlock) (y : HypName) → (out-RawScriptStep x).what ≡ raw.Split h n b c → hyp_in h ≡ Ok y
+split_is : (s : Scope) (x : RawScriptStep) (h : RawHypName) (n : RawName) (b c : RawBlock) (y : HypName) → (out-RawScriptStep x).what ≡ raw.Split h n b c → hyp_in s h ≡ Ok y
     → step_of s x ≡ (block_of s b >>= (λ p. block_of s c >>= (λ q. Ok (Split (out-RawScriptStep x).line y n.name p q))))
 split_is s x h n b c y is hyps =
     let line = (out-RawScriptStep x).line in
@@ -132,13 +132,13 @@ split_is s x h n b c y is hyps =
     ∙ ap (λ (f : Kind). f line) (fold-roll-RawStepKind Kind (Result Plan Refusal) (Result Then Refusal) (kind_in s) block_in step_in (RawStepKind-F.Split h n b c))
     ∙ ap (λ r. r >>= (λ x. block_of s b >>= (λ p. block_of s c >>= (λ q. Ok (Split line x n.name p q))))) hyps
 
-pub first_stops : (e : Stop) (s : Scope) (x : RawScriptStep) (h : RawHypName) (n : RawName) (b c : RawBlock) (y : HypName) → (out-RawScriptStep x).what ≡ raw.Split h n b c → hyp_in h ≡ Ok y
+pub first_stops : (e : Stop) (s : Scope) (x : RawScriptStep) (h : RawHypName) (n : RawName) (b c : RawBlock) (y : HypName) → (out-RawScriptStep x).what ≡ raw.Split h n b c → hyp_in s h ≡ Ok y
     → Stops e (block_of s b) → Stops e (step_of s x)
 first_stops Memory s x h n b c y is hyps stops = tt
 first_stops (Refused r) s x h n b c y is hyps stops =
     split_is s x h n b c y is hyps ∙ ap (λ r. r >>= (λ p. block_of s c >>= (λ q. Ok (Split (out-RawScriptStep x).line y n.name p q)))) stops
 
-pub second_stops : (e : Stop) (s : Scope) (x : RawScriptStep) (h : RawHypName) (n : RawName) (b c : RawBlock) (y : HypName) (p : Plan) → (out-RawScriptStep x).what ≡ raw.Split h n b c → hyp_in h ≡ Ok y
+pub second_stops : (e : Stop) (s : Scope) (x : RawScriptStep) (h : RawHypName) (n : RawName) (b c : RawBlock) (y : HypName) (p : Plan) → (out-RawScriptStep x).what ≡ raw.Split h n b c → hyp_in s h ≡ Ok y
     → block_of s b ≡ Ok p → Stops e (block_of s c) → Stops e (step_of s x)
 second_stops Memory s x h n b c y p is hyps one stops = tt
 second_stops (Refused r) s x h n b c y p is hyps one stops =
@@ -146,7 +146,7 @@ second_stops (Refused r) s x h n b c y p is hyps one stops =
     ∙ ap (λ r. r >>= (λ q. Ok (Split (out-RawScriptStep x).line y n.name p q))) stops
 
 pub split_made : (s : Scope) (t : Stored) (x : RawScriptStep) (h : RawHypName) (n : RawName) (b c : RawBlock) (y : HypName) (p q : Block) → (out-RawScriptStep x).what ≡ raw.Split h n b c
-    → hyp_in h ≡ Ok y → block_of s b ≡ Ok (plan_of t p) → block_of s c ≡ Ok (plan_of t q)
+    → hyp_in s h ≡ Ok y → block_of s b ≡ Ok (plan_of t p) → block_of s c ≡ Ok (plan_of t q)
     → step_of s x ≡ Ok (then_of t (roll-ScriptStep (record { what = made.Split y n.name p q; line = (out-RawScriptStep x).line })))
 split_made s t x h n b c y p q is hyps one two =
     let line = (out-RawScriptStep x).line in

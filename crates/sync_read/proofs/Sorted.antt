@@ -1,5 +1,5 @@
 -- A term that is read in a scope has its sort, and a formula compares numbers, over what the scope knows.
-use Rattle.std.proofs.Common.{◌≡◌, ℕ, ℤ, zero, suc, Bool, true, false, if◌then◌else◌, List, [], ◌∷◌, map, length, Some, None, Result, Ok, Err, refl, sym, ap, subst, true≢false}
+use Rattle.std.proofs.Common.{◌≡◌, ℕ, ℤ, zero, suc, Bool, true, false, if◌then◌else◌, List, [], ◌∷◌, map, length, Option, Some, None, Result, Ok, Err, refl, sym, ap, subst, ◌∙◌, true≢false}
 use Rattle.std.specs.List.{AllByRecursion}
 use Rattle.std.specs.Result.{IfOk}
 use Rattle.sync_base.specs.declared.stops.Refusal.{Refusal}
@@ -11,6 +11,7 @@ use Rattle.sync_machine.specs.States.{Numbers, Maps}
 use Rattle.sync_machine.specs.Scope.{Known}
 use Rattle.sync_machine.specs.Naming.{sort_fault, number_fault, map_fault, formula_fault}
 use Rattle.sync_parse_exprs.specs.declared.expressions.Special.{Special}
+use Rattle.sync_parse_exprs.specs.declared.expressions.Special.TheVariants as special
 use Rattle.sync_parse_exprs.specs.declared.raw_names.RawName.{RawName}
 use Rattle.sync_parse_exprs.specs.declared.expressions.RawExpr.{RawExpr, ind-RawExpr, map-RawExpr, roll-RawExpr, fold-roll-RawExpr}
 use Rattle.sync_parse_exprs.specs.declared.expressions.RawExprKind.{RawExprKind, fold-RawExprKind, fold-roll-RawExprKind, roll-RawExprKind, map-RawExprKind}
@@ -23,9 +24,10 @@ use Rattle.sync_read_names.specs.declared.scopes.Sort.{Sort}
 use Rattle.sync_read_names.specs.declared.scopes.Sort.TheVariants as sort
 use Rattle.sync_read_names.specs.declared.scopes.Meaning.{Meaning}
 use Rattle.sync_read_names.specs.declared.scopes.Meaning.TheVariants.{Nothing, Field, Operation, Invariant}
+use Rattle.sync_read_names.specs.declared.scopes.Sight.{Sight}
 use Rattle.sync_read_names.specs.declared.scopes.Scope.{Scope}
-use Rattle.sync_read_names.specs.Scopes.{refuse, symbol_of, param_symbol_of, meaning_of, is_local, is_owned, knows_params, field_sort, field_symbol}
-use Rattle.sync_read_names.specs.Exprs.{Reading, clashes, misfit, term_as, form_as, pair_as, forms_as, two_in, argument, map_and_key, map_and_two, applied, call_fault, call_term, two_terms, two_forms, compared, Kind, kind_reading, expr_reading, reading, start_fault, term_of, form_of}
+use Rattle.sync_read_names.specs.Scopes.{refuse, symbol_of, param_symbol_of, meaning_of, is_local, is_owned, knows_params, field_sort, field_symbol, seen, seen_as, machine_sight, knows_special, special_number, symbol_or}
+use Rattle.sync_read_names.specs.Exprs.{Reading, unless, clashes, misfit, term_as, form_as, pair_as, forms_as, two_in, argument, map_and_key, map_and_two, applied, call_fault, call_term, two_terms, two_forms, compared, Kind, kind_reading, expr_reading, reading, start_fault, term_of, form_of}
 use Rattle.sync_read.proofs.Chains.{after_ok, unless_ok, both}
 
 -- the refusal does not matter
@@ -38,11 +40,29 @@ other_refusal P false x y r h = h
 -- the names of a scope are known, each as its sort
 pub record Agrees (s : Scope) (k : Known) : Type 0 where
   pub nobody : knows_params s.claim ≡ false
+  pub sight : s.sight ≡ machine_sight
   pub own : (n : ℕ) → is_local s n ≡ true → k (symbol_of n) ≡ Some Numbers
   pub numbers : (n i : ℕ) → meaning_of s n ≡ Field i sort.Number → k i ≡ Some Numbers
   pub maps : (n i : ℕ) → meaning_of s n ≡ Field i sort.Map → k i ≡ Some Maps
 
+-- in a machine every field is seen
+seen_is : (m : Meaning) → seen machine_sight m ≡ m
+seen_is Nothing = refl
+seen_is (Field i t) = refl
+seen_is (Operation i) = refl
+seen_is (Invariant i) = refl
+
+no_special : (w : Special) → knows_special machine_sight w ≡ false
+no_special special.Value = refl
+no_special special.Index = refl
+no_special special.Old = refl
+no_special special.New = refl
+no_special special.Wrap = refl
+
 module _ (s : Scope) (k : Known) (agrees : Agrees s k) where
+  meaning_is : (n : ℕ) → meaning_of s n ≡ seen_as s n
+  meaning_is n = sym (ap (λ g. seen g (meaning_of s n)) agrees.sight ∙ seen_is (meaning_of s n))
+
   abbrev IsNumber : Tree → Type 0
   IsNumber t = number_fault k t ≡ None
 
@@ -110,39 +130,51 @@ module _ (s : Scope) (k : Known) (agrees : Agrees s k) where
   unfolding number_fault
   nil_good line = record { number = tt; mapping = refl; form = tt }
 
-  special_good : (w : Special) (at line : ℕ) → Good (kind_reading (RawExprKind-F.Special w at) line)
-  special_good w at line = record { number = tt; mapping = tt; form = tt }
-
-  named_number : (named : RawName) (r : Refusal) (b : Bool) (m : Meaning) → is_local s named.name ≡ b → meaning_of s named.name ≡ m
-      → IfOk (if clashes sort.Number (if b then Some sort.Number else field_sort m) then Err r else ((if b then Ok (symbol_of named.name) else field_symbol m named.line) >>= λ x. Ok (trees.Name x))) IsNumber
-  named_number named r true m e f = name_number (symbol_of named.name) (agrees.own named.name e)
-  named_number named r false Nothing e f = tt
-  named_number named r false (Field i sort.Number) e f = name_number i (agrees.numbers named.name i f)
-  named_number named r false (Field i sort.Map) e f = tt
-  named_number named r false (Field i sort.Formula) e f = tt
-  named_number named r false (Operation i) e f = tt
-  named_number named r false (Invariant i) e f = tt
-
-  named_map : (named : RawName) (r : Refusal) (b : Bool) (m : Meaning) → is_local s named.name ≡ b → meaning_of s named.name ≡ m
-      → IfOk (if clashes sort.Map (if b then Some sort.Number else field_sort m) then Err r else ((if b then Ok (symbol_of named.name) else field_symbol m named.line) >>= λ x. Ok (trees.Name x))) IsMap
-  named_map named r true m e f = tt
-  named_map named r false Nothing e f = tt
-  named_map named r false (Field i sort.Number) e f = tt
-  named_map named r false (Field i sort.Map) e f = name_map i (agrees.maps named.name i f)
-  named_map named r false (Field i sort.Formula) e f = tt
-  named_map named r false (Operation i) e f = tt
-  named_map named r false (Invariant i) e f = tt
-
   -- a refusal, whatever was wanted
   refused : {A : Type 0} (P : A → Type 0) (b : Bool) (x y : Refusal) → IfOk (if b then Err x else Err y) P
   refused P true x y = tt
   refused P false x y = tt
 
+  special_term : (P : Tree → Type 0) (wanted : Sort) (w : Special) (at : ℕ) (r : Refusal) (b : Bool) → b ≡ false
+      → IfOk (if clashes wanted (if b then Some sort.Number else None) then Err r else (symbol_or (if b then Some (special_number w) else None) at >>= λ x. Ok (trees.Name x))) P
+  special_term P wanted w at r true e = absurd (true≢false e)
+  special_term P wanted w at r false e = tt
+
+  special_good : (w : Special) (at line : ℕ) → Good (kind_reading (RawExprKind-F.Special w at) line)
+  special_good w at line =
+      let r : Refusal = misfit (kind_reading (RawExprKind-F.Special w at) line) s in record {
+        number = special_term IsNumber sort.Number w at r (knows_special s.sight w) unknown;
+        mapping = special_term IsMap sort.Map w at r (knows_special s.sight w) unknown;
+        form = refused IsFormula (clashes sort.Formula ((kind_reading (RawExprKind-F.Special w at) line).sort s)) r _;
+      } where
+        unknown : knows_special s.sight w ≡ false
+        unknown = ap (λ g. knows_special g w) agrees.sight ∙ no_special w
+
+  named_number : (named : RawName) (r : Refusal) (b : Bool) (m : Meaning) → is_local s named.name ≡ b → seen_as s named.name ≡ m
+      → IfOk (if clashes sort.Number (if b then Some sort.Number else field_sort m) then Err r else ((if b then Ok (symbol_of named.name) else field_symbol m named.line) >>= λ x. Ok (trees.Name x))) IsNumber
+  named_number named r true m e f = name_number (symbol_of named.name) (agrees.own named.name e)
+  named_number named r false Nothing e f = tt
+  named_number named r false (Field i sort.Number) e f = name_number i (agrees.numbers named.name i (meaning_is named.name ∙ f))
+  named_number named r false (Field i sort.Map) e f = tt
+  named_number named r false (Field i sort.Formula) e f = tt
+  named_number named r false (Operation i) e f = tt
+  named_number named r false (Invariant i) e f = tt
+
+  named_map : (named : RawName) (r : Refusal) (b : Bool) (m : Meaning) → is_local s named.name ≡ b → seen_as s named.name ≡ m
+      → IfOk (if clashes sort.Map (if b then Some sort.Number else field_sort m) then Err r else ((if b then Ok (symbol_of named.name) else field_symbol m named.line) >>= λ x. Ok (trees.Name x))) IsMap
+  named_map named r true m e f = tt
+  named_map named r false Nothing e f = tt
+  named_map named r false (Field i sort.Number) e f = tt
+  named_map named r false (Field i sort.Map) e f = name_map i (agrees.maps named.name i (meaning_is named.name ∙ f))
+  named_map named r false (Field i sort.Formula) e f = tt
+  named_map named r false (Operation i) e f = tt
+  named_map named r false (Invariant i) e f = tt
+
   name_good : (named : RawName) (line : ℕ) → Good (kind_reading (RawExprKind-F.Name named) line)
   name_good named line =
       let r : Refusal = misfit (kind_reading (RawExprKind-F.Name named) line) s in record {
-        number = named_number named r (is_local s named.name) (meaning_of s named.name) refl refl;
-        mapping = named_map named r (is_local s named.name) (meaning_of s named.name) refl refl;
+        number = named_number named r (is_local s named.name) (seen_as s named.name) refl refl;
+        mapping = named_map named r (is_local s named.name) (seen_as s named.name) refl refl;
         form = refused IsFormula (clashes sort.Formula ((kind_reading (RawExprKind-F.Name named) line).sort s)) r _;
       }
 
@@ -236,36 +268,47 @@ module _ (s : Scope) (k : Known) (agrees : Agrees s k) where
     of_two : (make : Tree → Tree → Tree → Tree) → ((m x y : Tree) → IsMap m → IsNumber x → IsNumber y → IsMap (make m x y)) → IfOk (map_and_two args line s >>= (λ p. Ok (make p.0 p.1 p.2))) IsMap
     of_two make is = after_ok IsMap ThreeSorted (map_and_two args line s) _ (two_is args line h) (λ t q. is t.0 t.1 t.2 q.0 q.1 q.2)
 
+    held_term_is : (P : Tree → Type 0) (wanted : Sort) (r : Refusal) (rest : Result Tree Refusal) (fault : Option Refusal) (b : Bool) → b ≡ false
+        → IfOk (if clashes wanted (if b then Some sort.Number else None) then Err r else unless (if b then fault else Some (record { line = line; rule = N1 })) rest) P
+    held_term_is P wanted r rest fault true e = absurd (true≢false e)
+    held_term_is P wanted r rest fault false e = tt
+
     call_good : (f : Function) (at : ℕ) → Good (kind_reading (RawExprKind-F.Call f line args) at)
     unfolding number_fault applied call_term
     call_good function.Get at = record {
-      number = unless_ok IsNumber (call_fault function.Get line (length args)) _ (of_key IsNumber trees.Get (λ m x p q. both (map_fault k m) (number_fault k x) p q));
+      number = unless_ok IsNumber (call_fault s.sight function.Get line (length args)) _ (of_key IsNumber trees.Get (λ m x p q. both (map_fault k m) (number_fault k x) p q));
       mapping = tt;
       form = tt;
     }
     call_good function.Has at = record {
-      number = unless_ok IsNumber (call_fault function.Has line (length args)) _ (of_key IsNumber trees.Has (λ m x p q. both (map_fault k m) (number_fault k x) p q));
+      number = unless_ok IsNumber (call_fault s.sight function.Has line (length args)) _ (of_key IsNumber trees.Has (λ m x p q. both (map_fault k m) (number_fault k x) p q));
       mapping = tt;
       form = tt;
     }
-    call_good function.Size at = record { number = unless_ok IsNumber (call_fault function.Size line (length args)) _ (of_map trees.Size (λ m p. p)); mapping = tt; form = tt }
-    call_good function.Sum at = record { number = unless_ok IsNumber (call_fault function.Sum line (length args)) _ (of_map trees.Sum (λ m p. p)); mapping = tt; form = tt }
+    call_good function.Size at = record { number = unless_ok IsNumber (call_fault s.sight function.Size line (length args)) _ (of_map trees.Size (λ m p. p)); mapping = tt; form = tt }
+    call_good function.Sum at = record { number = unless_ok IsNumber (call_fault s.sight function.Sum line (length args)) _ (of_map trees.Sum (λ m p. p)); mapping = tt; form = tt }
     call_good function.Put at = record {
       number = tt;
-      mapping = unless_ok IsMap (call_fault function.Put line (length args)) _ (of_two trees.Put (λ m x y p q r. both (map_fault k m) (first (number_fault k x) (number_fault k y)) p (both (number_fault k x) (number_fault k y) q r)));
+      mapping = unless_ok IsMap (call_fault s.sight function.Put line (length args)) _ (of_two trees.Put (λ m x y p q r. both (map_fault k m) (first (number_fault k x) (number_fault k y)) p (both (number_fault k x) (number_fault k y) q r)));
       form = tt;
     }
     call_good function.Del at = record {
       number = tt;
-      mapping = unless_ok IsMap (call_fault function.Del line (length args)) _ (of_key IsMap trees.Del (λ m x p q. both (map_fault k m) (number_fault k x) p q));
+      mapping = unless_ok IsMap (call_fault s.sight function.Del line (length args)) _ (of_key IsMap trees.Del (λ m x p q. both (map_fault k m) (number_fault k x) p q));
       form = tt;
     }
     call_good function.Bump at = record {
       number = tt;
-      mapping = unless_ok IsMap (call_fault function.Bump line (length args)) _ (of_two trees.Bump (λ m x y p q r. both (map_fault k m) (first (number_fault k x) (number_fault k y)) p (both (number_fault k x) (number_fault k y) q r)));
+      mapping = unless_ok IsMap (call_fault s.sight function.Bump line (length args)) _ (of_two trees.Bump (λ m x y p q r. both (map_fault k m) (first (number_fault k x) (number_fault k y)) p (both (number_fault k x) (number_fault k y) q r)));
       form = tt;
     }
-    call_good function.Held at = record { number = tt; mapping = tt; form = tt }
+    call_good function.Held at =
+        let r : Refusal = misfit (kind_reading (RawExprKind-F.Call function.Held line args) at) s in
+        let unknown : s.sight.held ≡ false = ap (λ (g : Sight). g.held) agrees.sight in record {
+          number = held_term_is IsNumber sort.Number r _ _ s.sight.held unknown;
+          mapping = held_term_is IsMap sort.Map r _ _ s.sight.held unknown;
+          form = refused IsFormula (clashes sort.Formula ((kind_reading (RawExprKind-F.Call function.Held line args) at).sort s)) r _;
+        }
 
   -- ---- every expression
 

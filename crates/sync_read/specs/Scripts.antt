@@ -19,6 +19,7 @@ use Rattle.sync_parse.specs.declared.scripts.RawHypName.TheVariants as hyp
 use Rattle.sync_parse.specs.declared.scripts.RawSubject.{RawSubject}
 use Rattle.sync_parse.specs.declared.scripts.RawSubject.TheVariants as subject
 use Rattle.sync_parse.specs.declared.scripts.RawPart.{RawPart}
+use Rattle.sync_parse.specs.declared.scripts.RawScript.{RawScript}
 use Rattle.sync_parse.specs.declared.scripts.RawBlock.{RawBlock, fold-RawBlock}
 use Rattle.sync_parse.specs.declared.scripts.RawScriptStep.{RawScriptStep, fold-RawScriptStep}
 use Rattle.sync_parse.specs.declared.scripts.RawStepKind.TheOpen.{RawStepKind-F, RawBlock-F, RawScriptStep-F}
@@ -31,27 +32,32 @@ use Rattle.sync_read_names.specs.declared.scopes.Owner.TheVariants as owner
 use Rattle.sync_read_names.specs.declared.scopes.Meaning.{Meaning}
 use Rattle.sync_read_names.specs.declared.scopes.Meaning.TheVariants as meaning
 use Rattle.sync_read_names.specs.declared.scopes.Scope.{Scope}
-use Rattle.sync_read_names.specs.Scopes.{refuse, meaning_of}
+use Rattle.sync_read_names.specs.Scopes.{refuse, meaning_of, local_symbol, word_symbol}
 use Rattle.sync_read_names.specs.Exprs.{term_of, form_of}
 use Rattle.sync_read.specs.Acts.{few_before}
 
-abbrev pub subject_line : RawSubject → ℕ
-subject_line (subject.Name named) = named.line
-subject_line (subject.Special word line) = line
+-- what `low` and `high` speak of: a local of a program, or one of its words; in a machine none is known
+abbrev pub subject_symbol : Scope → RawSubject → Result ℕ Refusal
+subject_symbol s (subject.Name named) = local_symbol s named
+subject_symbol s (subject.Special word line) = word_symbol s word line
 
--- a hypothesis of a machine's script: `low` and `high` speak of locals, which no machine has
-unfoldable pub hyp_in : RawHypName → Result HypName Refusal
-hyp_in hyp.Denied = Ok name.Denied
-hyp_in (hyp.Label named) = Ok (name.Label named.name)
-hyp_in (hyp.At n) = Ok (name.At n)
-hyp_in (hyp.Low x) = refuse N1 (subject_line x)
-hyp_in (hyp.High x) = refuse N1 (subject_line x)
+-- a hypothesis of a script
+unfoldable pub hyp_in : Scope → RawHypName → Result HypName Refusal
+hyp_in s hyp.Denied = Ok name.Denied
+hyp_in s (hyp.Label named) = Ok (name.Label named.name)
+hyp_in s (hyp.At n) = Ok (name.At n)
+hyp_in s (hyp.Low x) = do
+  y ← subject_symbol s x
+  Ok (name.Low y)
+hyp_in s (hyp.High x) = do
+  y ← subject_symbol s x
+  Ok (name.High y)
 
-unfoldable pub parts_from : List Part → List RawPart → Result (List Part) Refusal
-parts_from held [] = Ok held
-parts_from held (p ∷ ps) = do
-  h ← hyp_in p.hyp
-  parts_from (held ++ record { times = p.times; hyp = h } ∷ []) ps
+unfoldable pub parts_from : Scope → List Part → List RawPart → Result (List Part) Refusal
+parts_from s held [] = Ok held
+parts_from s held (p ∷ ps) = do
+  h ← hyp_in s p.hyp
+  parts_from s (held ++ record { times = p.times; hyp = h } ∷ []) ps
 
 -- terms that are numbers
 unfoldable pub numbers_from : List Tree → Scope → List RawExpr → Result (List Tree) Refusal
@@ -80,17 +86,17 @@ Kind = ℕ → Result Then Refusal
 abbrev pub kind_in : Scope → RawStepKind-F Kind (Result Plan Refusal) (Result Then Refusal) → Kind
 kind_in s RawStepKind-F.Same line = Ok (Same line)
 kind_in s (RawStepKind-F.Sum parts) line = do
-  ps ← parts_from [] parts
+  ps ← parts_from s [] parts
   Ok (Sum line ps)
 kind_in s (RawStepKind-F.Inst h es n) line = do
-  x ← hyp_in h
+  x ← hyp_in s h
   ts ← numbers_from [] s es
   Ok (Inst line x ts n.name)
 kind_in s (RawStepKind-F.Parts h a b) line = do
-  x ← hyp_in h
+  x ← hyp_in s h
   Ok (Parts line x a.name b.name)
 kind_in s (RawStepKind-F.Split h n b c) line = do
-  x ← hyp_in h
+  x ← hyp_in s h
   p ← b
   q ← c
   Ok (Split line x n.name p q)
@@ -131,6 +137,12 @@ block_of s = fold-RawBlock Kind (Result Plan Refusal) (Result Then Refusal) (kin
 
 abbrev pub step_of : Scope → RawScriptStep → Result Then Refusal
 step_of s = fold-RawScriptStep Kind (Result Plan Refusal) (Result Then Refusal) (kind_in s) block_in step_in
+
+-- a script: its plan, and its line
+abbrev pub script_in : Scope → RawScript → Result (Plan × ℕ) Refusal
+script_in s x = do
+  p ← block_of s x.block
+  Ok (p, x.line)
 
 -- a step with its ids read in a store
 abbrev pub then_of : Stored → ScriptStep → Then

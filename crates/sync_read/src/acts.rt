@@ -18,7 +18,7 @@ use sync_read_names::{Meaning, Scope, Sort, form_of, refused, symbol_of, term_of
 use sync_terms::{Sym, TermId, Terms};
 
 /// At most so many come before.
-pub(crate) fn few_before(most: usize, before: usize, line: u32) -> Result<usize, Stop>
+pub fn few_before(most: usize, before: usize, line: u32) -> Result<usize, Stop>
     ensures { Gives (λ n. n) result (few_before most before line) }
 {
     if before < most {

@@ -6,4 +6,7 @@ mod machines;
 mod scripts;
 mod texts;
 
-pub use texts::{Text, resolve};
+pub use acts::few_before;
+pub use machines::machine;
+pub use scripts::{numbers, proofs, script};
+pub use texts::{Text, first_scope, resolve};

@@ -193,7 +193,7 @@ fn invariants(
 
 /// The machine of a raw tree; the scope behind it knows all its names.
 #[tactic(auto, using(crate::proofs::Growing::operations_kept, crate::proofs::Growing::operations_stay), unfolding(crate::specs::Resolving::machine_in))]
-pub(crate) fn machine(alloc: Global, scope: &mut Scope, raw: &RawMachine) -> Result<Machine, Stop>
+pub fn machine(alloc: Global, scope: &mut Scope, raw: &RawMachine) -> Result<Machine, Stop>
     ensures exact { Gives (λ m. (machine_tree m, scope.new)) result (machine_in scope.old raw.now) }
     ensures ids { IfOk result HasOwnIds }
 {

@@ -4,7 +4,7 @@ ghost use Rattle.sync_base.specs.Outcome.{Gives};
 ghost use Rattle.sync_terms.specs.Stored.{Stored, tree, Extends};
 ghost use Rattle.sync_terms.specs.Plans.{plan_of};
 ghost use Rattle.sync_terms.specs.Proofs.{proof_in as stored_proof};
-ghost use Rattle.sync_read.specs.Scripts.{hyp_in, parts_from, numbers_from, map_and_number, map_and_numbers, block_of, step_of, then_of, operation_meaning, claim_in, claim_owner, proof_in, proofs_from};
+ghost use Rattle.sync_read.specs.Scripts.{subject_symbol, hyp_in, parts_from, numbers_from, map_and_number, map_and_numbers, block_of, step_of, script_in, then_of, operation_meaning, claim_in, claim_owner, proof_in, proofs_from};
 ghost use Rattle.sync_read_names.specs.Scopes.{meaning_of};
 
 use crate::acts::few_before;
@@ -12,36 +12,45 @@ use sqlite_items::Items;
 use std::alloc::Global;
 use sync_base::{Rule, Stop};
 use sync_parse::{
-    RawBlock, RawClaim, RawHypName, RawPart, RawProof, RawScriptStep, RawStepKind, RawSubject,
+    RawBlock, RawClaim, RawHypName, RawPart, RawProof, RawScript, RawScriptStep, RawStepKind,
+    RawSubject,
 };
 use sync_parse_exprs::{RawExpr, RawName};
 use sync_read_names::{Meaning, Owner, Scope, Sort, form_of, refused, term_of};
 use sync_terms::{Block, Claim, HypName, Part, Proof, Script, ScriptStep, StepKind, TermId, Terms};
 
-/// A hypothesis of a machine's script.
+/// What `low` and `high` speak of, as a symbol.
+fn subject(scope: &Scope, raw: RawSubject) -> Result<u32, Stop>
+    ensures { Gives (λ x. x) result (subject_symbol scope.now raw) }
+{
+    match raw {
+        RawSubject::Name(named) => scope.local_symbol(named),
+        RawSubject::Special(word, line) => scope.word_symbol(word, line),
+    }
+}
+
+/// A hypothesis of a script.
 #[tactic(auto, unfolding(crate::specs::Scripts::hyp_in))]
-fn hyp(raw: RawHypName) -> Result<HypName, Stop>
-    ensures { Gives (λ h. h) result (hyp_in raw) }
+fn hyp(scope: &Scope, raw: RawHypName) -> Result<HypName, Stop>
+    ensures { Gives (λ h. h) result (hyp_in scope.now raw) }
 {
     match raw {
         RawHypName::Denied => Ok(HypName::Denied),
         RawHypName::Label(named) => Ok(HypName::Label(named.name)),
         RawHypName::At(number) => Ok(HypName::At(number)),
-        RawHypName::Low(subject) | RawHypName::High(subject) => match subject {
-            RawSubject::Name(named) => Err(refused(Rule::N1, named.line)),
-            RawSubject::Special(_, line) => Err(refused(Rule::N1, line)),
-        },
+        RawHypName::Low(raw) => Ok(HypName::Low(subject(scope, raw)?)),
+        RawHypName::High(raw) => Ok(HypName::High(subject(scope, raw)?)),
     }
 }
 
 /// The parts of a `sum`.
 #[tactic(auto, unfolding(crate::specs::Scripts::parts_from))]
-fn parts(alloc: Global, raw: &[RawPart]) -> Result<Items<Part>, Stop>
-    ensures { Gives (λ ps. ps) result (parts_from [] raw.now) }
+fn parts(alloc: Global, scope: &Scope, raw: &[RawPart]) -> Result<Items<Part>, Stop>
+    ensures { Gives (λ ps. ps) result (parts_from scope.now [] raw.now) }
 {
     let mut held = Items::new(alloc);
     for part in raw {
-        let hyp = hyp(part.hyp)?;
+        let hyp = hyp(scope, part.hyp)?;
         held.push(Part {
             times: part.times,
             hyp,
@@ -52,7 +61,7 @@ fn parts(alloc: Global, raw: &[RawPart]) -> Result<Items<Part>, Stop>
 
 /// Terms that are numbers.
 #[tactic(auto, using(sync_read_names::proofs::Kept::kept_tree, sync_read_names::proofs::Kept::kept_term, sync_read_names::proofs::Kept::along, sync_read_names::proofs::Kept::stays), unfolding(crate::specs::Scripts::numbers_from))]
-fn numbers(
+pub fn numbers(
     alloc: Global,
     terms: &mut Terms,
     scope: &Scope,
@@ -143,15 +152,21 @@ fn step_of(
     let line = raw.line;
     match &raw.what {
         RawStepKind::Same => Ok(made(StepKind::Same, line)),
-        RawStepKind::Sum(list) => Ok(made(StepKind::Sum(parts(alloc, list.as_slice())?), line)),
+        RawStepKind::Sum(list) => Ok(made(
+            StepKind::Sum(parts(alloc, scope, list.as_slice())?),
+            line,
+        )),
         RawStepKind::Inst(h, es, n) => {
-            let h = hyp(*h)?;
+            let h = hyp(scope, *h)?;
             let es = numbers(alloc, terms, scope, es.as_slice())?;
             Ok(made(StepKind::Inst(h, es, n.name), line))
         }
-        RawStepKind::Parts(h, a, b) => Ok(made(StepKind::Parts(hyp(*h)?, a.name, b.name), line)),
+        RawStepKind::Parts(h, a, b) => Ok(made(
+            StepKind::Parts(hyp(scope, *h)?, a.name, b.name),
+            line,
+        )),
         RawStepKind::Split(h, n, b, c) => {
-            let h = hyp(*h)?;
+            let h = hyp(scope, *h)?;
             let b = block(alloc, terms, scope, b)?;
             let c = block(alloc, terms, scope, c)?;
             Ok(made(StepKind::Split(h, n.name, b, c), line))
@@ -178,6 +193,24 @@ fn step_of(
             Ok(made(StepKind::Cong(m, j, k, n.name), line))
         }
     }
+}
+
+/// A script: `by` and a block.
+#[tactic(auto, using(sync_read_names::proofs::Kept::stays))]
+pub fn script(
+    alloc: Global,
+    terms: &mut Terms,
+    scope: &Scope,
+    raw: &RawScript,
+) -> Result<Script, Stop>
+    ensures exact { (t : Stored) → Extends terms.new t → Gives (λ x. (plan_of t x.block, x.line)) result (script_in scope.now raw.now) }
+    ensures keeps { Extends terms.old terms.new }
+{
+    let block = block(alloc, terms, scope, &raw.block)?;
+    Ok(Script {
+        block,
+        line: raw.line,
+    })
 }
 
 /// The operation of a name.
@@ -248,7 +281,7 @@ fn proof(
 
 /// The proofs of a text.
 #[tactic(auto, using(sync_read_names::proofs::Kept::along, sync_read_names::proofs::Kept::stays), unfolding(crate::specs::Scripts::proofs_from))]
-pub(crate) fn proofs(
+pub fn proofs(
     alloc: Global,
     terms: &mut Terms,
     scope: &mut Scope,

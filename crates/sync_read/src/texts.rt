@@ -14,7 +14,7 @@ use std::alloc::Global;
 use sync_base::{LONGEST_TEXT, NameList, NoMemory, Stop};
 use sync_machine::Machine;
 use sync_parse::RawText;
-use sync_read_names::{Meaning, Owner, Owners, Scope};
+use sync_read_names::{Meaning, Owner, Owners, Scope, Sight};
 use sync_terms::Proofs;
 
 /// A text: its machine, with the store of all its terms, its proofs and its names.
@@ -26,13 +26,17 @@ pub struct Text {
 }
 
 /// A scope of so many names, of which none stands for anything.
-fn first_scope(alloc: Global, count: usize) -> Result<Scope, NoMemory>
+pub fn first_scope(alloc: Global, count: usize) -> Result<Scope, NoMemory>
     ensures { IfOk result (λ s. s ≡ first_scope count) }
 {
     let count = count.min(LONGEST_TEXT);
     let unowned = Owners {
         operations: 0,
         invariants: 0,
+        word: None,
+        local: 0,
+        proof: 0,
+        ends: false,
     };
     let meanings = vec![in alloc; Meaning::Nothing; count]?;
     let owners = vec![in alloc; unowned; count]?;
@@ -41,6 +45,13 @@ fn first_scope(alloc: Global, count: usize) -> Result<Scope, NoMemory>
         owners: Items::from_vec(owners),
         owner: Owner::Nobody,
         claim: Owner::Nobody,
+        sight: Sight {
+            fields: None,
+            held: false,
+            clause: false,
+            atomic: false,
+            wrap: false,
+        },
     })
 }
 

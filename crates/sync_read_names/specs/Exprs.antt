@@ -15,16 +15,19 @@ use Rattle.sync_parse_exprs.specs.declared.expressions.Function.{Function}
 use Rattle.sync_parse_exprs.specs.declared.expressions.Function.TheVariants as function
 use Rattle.sync_parse_exprs.specs.declared.expressions.Operator.{Operator}
 use Rattle.sync_parse_exprs.specs.declared.expressions.Operator.TheVariants as operator
+use Rattle.sync_parse_exprs.specs.declared.raw_names.RawName.{RawName}
 use Rattle.sync_read_names.specs.declared.scopes.Sort.{Sort}
 use Rattle.sync_read_names.specs.declared.scopes.Sort.TheVariants as sort
+use Rattle.sync_read_names.specs.declared.scopes.Sight.{Sight}
 use Rattle.sync_read_names.specs.declared.scopes.Scope.{Scope}
-use Rattle.sync_read_names.specs.Scopes.{refuse, name_sort, known_symbol, knows_params, param_symbol}
+use Rattle.sync_read_names.specs.Scopes.{refuse, name_sort, known_symbol, knows_params, param_symbol, knows_special, word_symbol, held_symbol_of}
 
--- an expression: its line; its nodes as a tree; its sort, where its name is known; the rule N1 or N3 that its first
--- lexeme breaks; and its term or formula, if that is what it is
+-- an expression: its line; its nodes as a tree; the name that it is, in brackets or not; its sort, where its name is
+-- known; the rule N1 or N3 that its first lexeme breaks; and its term or formula, if that is what it is
 pub record Reading : Type 0 where
   pub line : ℕ
   pub nodes : ℕ
+  pub bare : Option RawName
   pub sort : Scope → Option Sort
   pub opening : Scope → Option Refusal
   pub term : Scope → Result Tree Refusal
@@ -88,20 +91,26 @@ arity function.Bump = 3
 arity function.Held = 1
 
 -- `held` is for programs alone
-abbrev pub function_sort : Function → Option Sort
-function_sort function.Get = Some sort.Number
-function_sort function.Has = Some sort.Number
-function_sort function.Size = Some sort.Number
-function_sort function.Sum = Some sort.Number
-function_sort function.Put = Some sort.Map
-function_sort function.Del = Some sort.Map
-function_sort function.Bump = Some sort.Map
-function_sort function.Held = None
+abbrev pub function_sort : Sight → Function → Option Sort
+function_sort g function.Get = Some sort.Number
+function_sort g function.Has = Some sort.Number
+function_sort g function.Size = Some sort.Number
+function_sort g function.Sum = Some sort.Number
+function_sort g function.Put = Some sort.Map
+function_sort g function.Del = Some sort.Map
+function_sort g function.Bump = Some sort.Map
+function_sort g function.Held = if g.held then Some sort.Number else None
+
+abbrev pub knows_function : Sight → Function → Bool
+knows_function g function.Held = g.held
+knows_function g _ = true
 
 -- a function that is not known, or that has another number of arguments
-abbrev pub call_fault : Function → ℕ → ℕ → Option Refusal
-call_fault function.Held line count = Some (record { line = line; rule = N1 })
-call_fault f line count = if count == arity f then None else Some (record { line = line; rule = N3 })
+abbrev pub call_fault : Sight → Function → ℕ → ℕ → Option Refusal
+call_fault g f line count =
+    if knows_function g f
+    then (if count == arity f then None else Some (record { line = line; rule = N3 }))
+    else Some (record { line = line; rule = N1 })
 
 abbrev pub term_or_missing : Sort → Option Reading → ℕ → Scope → Result Tree Refusal
 term_or_missing wanted (Some r) line s = term_as wanted r s
@@ -124,6 +133,15 @@ map_and_two args line s = do
   p ← map_and_key args line s
   v ← argument sort.Number args 2 line s
   Ok (p.0, p.1, v)
+
+-- `held` of a name
+abbrev pub held_name : Option RawName → ℕ → Result Tree Refusal
+held_name (Some named) line = Ok (trees.Name (held_symbol_of named.name))
+held_name None line = refuse N6 line
+
+abbrev pub held_term : Option Reading → ℕ → Result Tree Refusal
+held_term (Some r) line = held_name r.bare r.line
+held_term None line = refuse N3 line
 
 -- a function of arguments of which there are as many as it takes
 unfoldable pub applied : Function → List Reading → ℕ → Scope → Result Tree Refusal
@@ -148,10 +166,10 @@ applied function.Del args line s = do
 applied function.Bump args line s = do
   p ← map_and_two args line s
   Ok (trees.Bump p.0 p.1 p.2)
-applied function.Held args line s = refuse N1 line
+applied function.Held args line s = held_term (slice_get args 0) line
 
 unfoldable pub call_term : Function → List Reading → ℕ → Scope → Result Tree Refusal
-call_term f args line s = unless (call_fault f line (length args)) (applied f args line s)
+call_term f args line s = unless (call_fault s.sight f line (length args)) (applied f args line s)
 
 -- ---- operators
 
@@ -209,6 +227,14 @@ or_none None = 0
 abbrev pub nodes_at : List Reading → ℕ → ℕ
 nodes_at rs at = or_none (slice_get rs at)
 
+-- the nodes of a call whose arguments have so many; `held` of a name is one node
+abbrev pub counted_call : Function → ℕ → ℕ
+counted_call function.Held n = 1
+counted_call _ n = 1 + n
+
+abbrev pub call_nodes : Function → List Reading → ℕ
+call_nodes f args = counted_call f (all_nodes args)
+
 -- the nodes of a kind as a tree; `-t` is `0 - t`
 abbrev pub nodes_in : RawExprKind-F Kind Reading → ℕ
 nodes_in (RawExprKind-F.Number n) = 1
@@ -217,11 +243,17 @@ nodes_in (RawExprKind-F.Param line named) = 1
 nodes_in RawExprKind-F.Nil = 1
 nodes_in (RawExprKind-F.Bracketed e) = e.nodes
 nodes_in (RawExprKind-F.Special word line) = 1
-nodes_in (RawExprKind-F.Call f line args) = 1 + all_nodes args
+nodes_in (RawExprKind-F.Call f line args) = call_nodes f args
 nodes_in (RawExprKind-F.Not e) = 1 + e.nodes
 nodes_in (RawExprKind-F.Minus e) = 2 + e.nodes
 nodes_in (RawExprKind-F.Times n e) = 1 + e.nodes
 nodes_in (RawExprKind-F.Two op a b) = operator_nodes op + a.nodes + b.nodes
+
+-- the name that a kind is
+abbrev pub bare_in : RawExprKind-F Kind Reading → Option RawName
+bare_in (RawExprKind-F.Name named) = Some named
+bare_in (RawExprKind-F.Bracketed e) = e.bare
+bare_in _ = None
 
 abbrev pub sort_in : RawExprKind-F Kind Reading → Scope → Option Sort
 sort_in (RawExprKind-F.Number n) s = Some sort.Number
@@ -229,8 +261,8 @@ sort_in (RawExprKind-F.Name named) s = name_sort s named.name
 sort_in (RawExprKind-F.Param line named) s = if knows_params s.claim then Some sort.Number else None
 sort_in RawExprKind-F.Nil s = Some sort.Map
 sort_in (RawExprKind-F.Bracketed e) s = e.sort s
-sort_in (RawExprKind-F.Special word line) s = None
-sort_in (RawExprKind-F.Call f line args) s = function_sort f
+sort_in (RawExprKind-F.Special word line) s = if knows_special s.sight word then Some sort.Number else None
+sort_in (RawExprKind-F.Call f line args) s = function_sort s.sight f
 sort_in (RawExprKind-F.Not e) s = Some sort.Formula
 sort_in (RawExprKind-F.Minus e) s = Some sort.Number
 sort_in (RawExprKind-F.Times n e) s = Some sort.Number
@@ -243,8 +275,8 @@ if_unknown (Some x) line = None
 abbrev pub opening_in : RawExprKind-F Kind Reading → Scope → Option Refusal
 opening_in (RawExprKind-F.Name named) s = if_unknown (name_sort s named.name) named.line
 opening_in (RawExprKind-F.Param line named) s = if knows_params s.claim then None else Some (record { line = line; rule = N1 })
-opening_in (RawExprKind-F.Special word line) s = Some (record { line = line; rule = N1 })
-opening_in (RawExprKind-F.Call f line args) s = call_fault f line (length args)
+opening_in (RawExprKind-F.Special word line) s = if knows_special s.sight word then None else Some (record { line = line; rule = N1 })
+opening_in (RawExprKind-F.Call f line args) s = call_fault s.sight f line (length args)
 opening_in (RawExprKind-F.Two op a b) s = a.opening s
 opening_in (RawExprKind-F.Number n) s = None
 opening_in RawExprKind-F.Nil s = None
@@ -263,7 +295,9 @@ term_in (RawExprKind-F.Param line named) at s = do
   Ok (trees.Name x)
 term_in RawExprKind-F.Nil at s = Ok trees.Nil
 term_in (RawExprKind-F.Bracketed e) at s = e.term s
-term_in (RawExprKind-F.Special word line) at s = refuse N1 line
+term_in (RawExprKind-F.Special word line) at s = do
+  x ← word_symbol s word line
+  Ok (trees.Name x)
 term_in (RawExprKind-F.Call f line args) at s = call_term f args line s
 term_in (RawExprKind-F.Minus e) at s = do
   x ← term_as sort.Number e s
@@ -301,7 +335,7 @@ form_in (RawExprKind-F.Minus e) at s = refuse N6 at
 form_in (RawExprKind-F.Times n e) at s = refuse N6 at
 
 abbrev pub kind_reading : RawExprKind-F Kind Reading → Kind
-kind_reading k line = record { line = line; nodes = nodes_in k; sort = sort_in k; opening = opening_in k; term = term_in k line; form = form_in k line }
+kind_reading k line = record { line = line; nodes = nodes_in k; bare = bare_in k; sort = sort_in k; opening = opening_in k; term = term_in k line; form = form_in k line }
 
 abbrev pub expr_reading : RawExpr-F Kind Reading → Reading
 expr_reading e = e.what e.line

@@ -1,14 +1,14 @@
 //! Expressions, made into terms and formulas of a store.
-ghost use Rattle.std.specs.Prelude.{◌≡◌, ◌+◌, ◌≤◌, ◌<◌, min, map, length, get_or, MatchOption, IfSome, IfOk, Ok, pos};
+ghost use Rattle.std.specs.Prelude.{◌≡◌, ◌+◌, ◌≤◌, ◌<◌, min, map, length, slice_get, get_or, MatchOption, IfSome, IfOk, Ok, pos};
 ghost use Rattle.sync_base.specs.Outcome.{Gives};
 ghost use Rattle.sync_terms.specs.Stored.{tree, formula, shape, form_shape, IsTerm, IsForm, HasChildren, HasParts, Extends};
 ghost use Rattle.sync_terms.specs.Trees.{Sub, Lit, tree_size, formula_size, most_nodes};
-ghost use Rattle.sync_read_names.specs.Exprs.{Reading, reading, clashes, misfit, call_fault, function_sort, operator_sort, operator_nodes, term_as, form_as, argument, map_and_key, map_and_two, call_term, applied, two_terms, two_forms, compared, joins_forms, all_nodes, nodes_at, start_fault, term_of, form_of};
+ghost use Rattle.sync_read_names.specs.Exprs.{Reading, reading, clashes, misfit, held_term, counted_call, call_nodes, call_fault, function_sort, operator_sort, operator_nodes, term_as, form_as, argument, map_and_key, map_and_two, call_term, applied, two_terms, two_forms, compared, joins_forms, all_nodes, nodes_at, start_fault, term_of, form_of};
 
-use crate::scopes::{Scope, Sort, broken, refused};
+use crate::scopes::{Scope, Sight, Sort, broken, held_symbol_of, refused};
 use sync_base::{Refusal, Rule, Stop};
-use sync_parse_exprs::{Function, Operator, RawExpr, RawExprKind};
-use sync_terms::{FormId, FormNode, MOST_NODES, Node, TermId, TermStop, Terms};
+use sync_parse_exprs::{Function, Operator, RawExpr, RawExprKind, RawName};
+use sync_terms::{FormId, FormNode, MOST_NODES, Node, Sym, TermId, TermStop, Terms};
 
 /// Adds a term, which is small enough.
 fn added(terms: &mut Terms, node: Node) -> Result<TermId, Stop>
@@ -41,14 +41,19 @@ fn added_form(terms: &mut Terms, node: FormNode) -> Result<FormId, Stop>
 }
 
 /// The rule that a function's name breaks beside so many arguments.
-fn call_fault(function: Function, line: u32, count: usize) -> Option<Refusal>
-    ensures { result ≡ call_fault function line count }
+fn call_fault(sight: Sight, function: Function, line: u32, count: usize) -> Option<Refusal>
+    ensures { result ≡ call_fault sight function line count }
 {
     let arity = match function {
         Function::Size | Function::Sum => 1,
         Function::Get | Function::Has | Function::Del => 2,
         Function::Put | Function::Bump => 3,
-        Function::Held => return Some(broken(Rule::N1, line)),
+        Function::Held => {
+            if !sight.held {
+                return Some(broken(Rule::N1, line));
+            }
+            1
+        }
     };
     if count == arity {
         None
@@ -58,13 +63,13 @@ fn call_fault(function: Function, line: u32, count: usize) -> Option<Refusal>
 }
 
 /// The sort of what a function gives.
-fn function_sort(function: Function) -> Option<Sort>
-    ensures { result ≡ function_sort function }
+fn function_sort(sight: Sight, function: Function) -> Option<Sort>
+    ensures { result ≡ function_sort sight function }
 {
     match function {
         Function::Get | Function::Has | Function::Size | Function::Sum => Some(Sort::Number),
         Function::Put | Function::Del | Function::Bump => Some(Sort::Map),
-        Function::Held => None,
+        Function::Held => if sight.held { Some(Sort::Number) } else { None },
     }
 }
 
@@ -93,10 +98,17 @@ fn sort_of(scope: &Scope, e: &RawExpr) -> Option<Sort>
         ),
         RawExprKind::Name(named) => scope.name_sort(named.name),
         RawExprKind::Param(_, _) if scope.knows_params() => Some(Sort::Number),
-        RawExprKind::Param(_, _) | RawExprKind::Special(_, _) => None,
+        RawExprKind::Param(_, _) => None,
+        RawExprKind::Special(word, _) => {
+            if scope.sight.knows_special(*word) {
+                Some(Sort::Number)
+            } else {
+                None
+            }
+        }
         RawExprKind::Nil => Some(Sort::Map),
         RawExprKind::Bracketed(a) => sort_of(scope, a.get()),
-        RawExprKind::Call(function, _, _) => function_sort(*function),
+        RawExprKind::Call(function, _, _) => function_sort(scope.sight, *function),
         RawExprKind::Not(_) => Some(Sort::Formula),
         RawExprKind::Two(operator, _, _) => Some(operator_sort(*operator)),
     }
@@ -128,8 +140,16 @@ fn opening(scope: &Scope, e: &RawExpr) -> Option<Refusal>
                 Some(broken(Rule::N1, *line))
             }
         }
-        RawExprKind::Special(_, line) => Some(broken(Rule::N1, *line)),
-        RawExprKind::Call(function, line, args) => call_fault(*function, *line, args.len()),
+        RawExprKind::Special(word, line) => {
+            if scope.sight.knows_special(*word) {
+                None
+            } else {
+                Some(broken(Rule::N1, *line))
+            }
+        }
+        RawExprKind::Call(function, line, args) => {
+            call_fault(scope.sight, *function, *line, args.len())
+        }
         RawExprKind::Bracketed(_) => None,
         RawExprKind::Two(_, a, _) => opening(scope, a.get()),
         RawExprKind::Number(_)
@@ -173,6 +193,23 @@ fn capped(count: u64) -> u64
     count.min(MOST_NODES + 1)
 }
 
+/// The nodes of a call whose arguments have so many, or one more than a term may have.
+fn counted_call(function: Function, count: u64) -> u64
+    requires { count ≤ most_nodes + 1 }
+    ensures { result ≡ min (counted_call function count) (most_nodes + 1) }
+{
+    match function {
+        Function::Held => 1,
+        Function::Get
+        | Function::Has
+        | Function::Size
+        | Function::Sum
+        | Function::Put
+        | Function::Del
+        | Function::Bump => capped(1 + count),
+    }
+}
+
 /// The nodes of an expression as a tree, or one more than a term may have.
 #[cycle(counting)]
 fn nodes(e: &RawExpr) -> u64
@@ -184,7 +221,7 @@ fn nodes(e: &RawExpr) -> u64
         | RawExprKind::Param(_, _)
         | RawExprKind::Nil
         | RawExprKind::Special(_, _) => 1,
-        RawExprKind::Call(_, _, args) => capped(1 + nodes_of(args.as_slice())),
+        RawExprKind::Call(function, _, args) => counted_call(*function, nodes_of(args.as_slice())),
         RawExprKind::Bracketed(a) => nodes(a.get()),
         RawExprKind::Not(a) => capped(1 + nodes(a.get())),
         RawExprKind::Minus(a) => capped(2 + nodes(a.get())),
@@ -219,6 +256,25 @@ fn start_fault(scope: &Scope, e: &RawExpr) -> Option<Refusal>
         return Some(broken(Rule::N5, e.line));
     }
     None
+}
+
+/// The name that an expression is, in brackets or not.
+fn bare(e: &RawExpr) -> Option<RawName>
+    ensures { result ≡ (reading e.now).bare }
+{
+    match &e.what {
+        RawExprKind::Name(named) => Some(*named),
+        RawExprKind::Bracketed(a) => bare(a.get()),
+        RawExprKind::Number(_)
+        | RawExprKind::Param(_, _)
+        | RawExprKind::Nil
+        | RawExprKind::Special(_, _)
+        | RawExprKind::Call(_, _, _)
+        | RawExprKind::Not(_)
+        | RawExprKind::Minus(_)
+        | RawExprKind::Times(_, _)
+        | RawExprKind::Two(_, _, _) => None,
+    }
 }
 
 /// The term `0 - x`.
@@ -333,6 +389,23 @@ fn map_and_two(
     Ok((m, k, v))
 }
 
+/// `held` of its argument, which is a name.
+#[tactic(auto, using(crate::proofs::Nodes::one_reading, crate::proofs::Kept::stays), unfolding(sync_terms::specs::Stored::shape, sync_terms::specs::Trees::tree_size))]
+fn held(terms: &mut Terms, args: &[RawExpr], line: u32) -> Result<TermId, Stop>
+    ensures exact { Gives (tree terms.new) result (held_term (slice_get (map reading args.now) 0) line) }
+    ensures id { IfOk result (IsTerm terms.new) }
+    ensures size { IfOk result (λ t. tree_size (tree terms.new t) ≤ 1) }
+    ensures keeps { Extends terms.old terms.new }
+{
+    let Some(e) = args.get(0) else {
+        return Err(refused(Rule::N3, line));
+    };
+    match bare(e) {
+        Some(named) => added(terms, Node::Name(held_symbol_of(named.name))),
+        None => Err(refused(Rule::N6, e.line)),
+    }
+}
+
 /// A function of arguments of which there are as many as it takes.
 #[cycle(terms)]
 #[tactic(auto, using(crate::proofs::Nodes::three_small, crate::proofs::Kept::along, crate::proofs::Kept::stays), unfolding(crate::specs::Exprs::applied, sync_terms::specs::Stored::shape, sync_terms::specs::Stored::tree, sync_terms::specs::Trees::tree_size))]
@@ -343,10 +416,10 @@ fn applied(
     args: &[RawExpr],
     line: u32,
 ) -> Result<TermId, Stop>
-    requires small { 1 + all_nodes (map reading args.now) ≤ most_nodes }
+    requires small { call_nodes function (map reading args.now) ≤ most_nodes }
     ensures exact { Gives (tree terms.new) result (applied function (map reading args.now) line scope.now) }
     ensures id { IfOk result (IsTerm terms.new) }
-    ensures size { IfOk result (λ t. tree_size (tree terms.new t) ≤ 1 + all_nodes (map reading args.now)) }
+    ensures size { IfOk result (λ t. tree_size (tree terms.new t) ≤ call_nodes function (map reading args.now)) }
     ensures keeps { Extends terms.old terms.new }
 {
     match function {
@@ -378,7 +451,7 @@ fn applied(
             let (m, k, v) = map_and_two(terms, scope, args, line)?;
             added(terms, Node::Bump(m, k, v))
         }
-        Function::Held => Err(refused(Rule::N1, line)),
+        Function::Held => held(terms, args, line),
     }
 }
 
@@ -392,13 +465,13 @@ fn call(
     args: &[RawExpr],
     line: u32,
 ) -> Result<TermId, Stop>
-    requires small { 1 + all_nodes (map reading args.now) ≤ most_nodes }
+    requires small { call_nodes function (map reading args.now) ≤ most_nodes }
     ensures exact { Gives (tree terms.new) result (call_term function (map reading args.now) line scope.now) }
     ensures id { IfOk result (IsTerm terms.new) }
-    ensures size { IfOk result (λ t. tree_size (tree terms.new t) ≤ 1 + all_nodes (map reading args.now)) }
+    ensures size { IfOk result (λ t. tree_size (tree terms.new t) ≤ call_nodes function (map reading args.now)) }
     ensures keeps { Extends terms.old terms.new }
 {
-    if let Some(refusal) = call_fault(function, line, args.len()) {
+    if let Some(refusal) = call_fault(scope.sight, function, line, args.len()) {
         return Err(Stop::Refused(refusal));
     }
     applied(terms, scope, function, args, line)
@@ -429,7 +502,10 @@ fn term(terms: &mut Terms, scope: &Scope, e: &RawExpr, wanted: Sort) -> Result<T
         }
         RawExprKind::Nil => added(terms, Node::Nil),
         RawExprKind::Bracketed(a) => term(terms, scope, a.get(), wanted),
-        RawExprKind::Special(_, line) => Err(refused(Rule::N1, *line)),
+        RawExprKind::Special(word, line) => {
+            let symbol = scope.word_symbol(*word, *line)?;
+            added(terms, Node::Name(Sym(symbol)))
+        }
         RawExprKind::Call(function, line, args) => {
             call(terms, scope, *function, args.as_slice(), *line)
         }

@@ -6,4 +6,6 @@ mod exprs;
 mod scopes;
 
 pub use exprs::{form_of, term_of};
-pub use scopes::{Meaning, Owner, Owners, Scope, Sort, broken, refused, symbol_of};
+pub use scopes::{
+    Meaning, Owner, Owners, Scope, Sight, Sort, broken, refused, symbol_of, with_flag,
+};

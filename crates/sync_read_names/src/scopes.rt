@@ -1,11 +1,11 @@
 //! What the names of a text stand for at a place.
 ghost use Rattle.std.specs.Prelude.{◌≡◌};
 ghost use Rattle.sync_base.specs.Outcome.{Gives};
-ghost use Rattle.sync_read_names.specs.Scopes.{number_in, symbol_of, param_symbol_of, flag, with_flag};
+ghost use Rattle.sync_read_names.specs.Scopes.{number_in, symbol_of, param_symbol_of, held_symbol_of, special_number, flag, with_flag};
 
 use sqlite_items::{Items, at};
 use sync_base::{LONGEST_TEXT, Refusal, Rule, Stop};
-use sync_parse_exprs::RawName;
+use sync_parse_exprs::{RawName, Special};
 use sync_terms::Sym;
 
 /// The sort of an expression.
@@ -26,19 +26,46 @@ pub enum Meaning {
 }
 
 /// Of which operations a name is a parameter or bound name, and of which invariants it is a parameter: a bit for each
-/// of 64.
+/// of 64. Then who has it last in a program, by numbers that are not 0.
 #[derive(Clone, Copy, PartialEq, Eq, Debug)]
 pub struct Owners {
     pub operations: u64,
     pub invariants: u64,
+    /// The word, by its name, that has it for a value.
+    pub word: Option<u32>,
+    /// The thread that has assigned to it.
+    pub local: u32,
+    /// The thread that has it as a proof name.
+    pub proof: u32,
+    /// Whether a keep that a thread ends with has it as a proof name.
+    pub ends: bool,
 }
 
-/// Whose parameters and bound names are known at a place.
+/// Whose names are known at a place: the parameters and bound names of an operation or an invariant; the names that a
+/// word has for values; the locals and proof names of a thread, and of the final block, by their numbers.
 #[derive(Clone, Copy, PartialEq, Eq, Debug)]
 pub enum Owner {
     Nobody,
     Operation(u32),
     Invariant(u32),
+    Word(u32),
+    Thread(u32),
+    Last(u32),
+}
+
+/// What is known at a place besides names.
+#[derive(Clone, Copy, PartialEq, Eq, Debug)]
+pub struct Sight {
+    /// A bit for each field that is known; all are where there is none.
+    pub fields: Option<u64>,
+    /// `held`.
+    pub held: bool,
+    /// `value` and `index`.
+    pub clause: bool,
+    /// `old` and `new`.
+    pub atomic: bool,
+    /// `wrap`.
+    pub wrap: bool,
 }
 
 /// What each name of the text stands for, by its number: what it was declared as, and who has it as a parameter or
@@ -51,6 +78,7 @@ pub struct Scope {
     pub owner: Owner,
     /// The invariant whose parameters are known behind `$`; `Nobody` where `$` is not.
     pub claim: Owner,
+    pub sight: Sight,
 }
 
 /// A broken rule at a line.
@@ -88,6 +116,26 @@ fn param_symbol_of(name: u32) -> Sym
     symbol_of(name).dollar()
 }
 
+/// The symbol of `held` of a name.
+pub(crate) fn held_symbol_of(name: u32) -> Sym
+    ensures { result.0 ≡ held_symbol_of name }
+{
+    symbol_of(name).held()
+}
+
+/// The symbol of a word of programs.
+fn special_number(word: Special) -> u32
+    ensures { result ≡ special_number word }
+{
+    match word {
+        Special::Value => 32,
+        Special::Index => 33,
+        Special::Old => 34,
+        Special::New => 35,
+        Special::Wrap => 36,
+    }
+}
+
 /// Whether one of 64 flags is up.
 #[tactic(auto, using(std::proofs::lemmas::Nat::Bits::shr_and_one))]
 fn flag(flags: u64, number: u32) -> bool
@@ -98,7 +146,7 @@ fn flag(flags: u64, number: u32) -> bool
 
 /// The same flags with one of them up.
 #[tactic(auto, using(crate::proofs::Flags::one_flag))]
-fn with_flag(flags: u64, number: u32) -> u64
+pub fn with_flag(flags: u64, number: u32) -> u64
     ensures { result ≡ with_flag flags number }
 {
     if number < 64 {
@@ -109,19 +157,32 @@ fn with_flag(flags: u64, number: u32) -> u64
 }
 
 impl Owners {
-    ghost use Rattle.sync_read_names.specs.Scopes.{has_owner, with_owner};
+    ghost use Rattle.sync_read_names.specs.Scopes.{has_owner, with_owner, has_local};
 
-    fn has(self, owner: Owner) -> bool
+    pub fn has(self, owner: Owner) -> bool
         ensures { result ≡ has_owner self owner }
     {
         match owner {
             Owner::Nobody => false,
             Owner::Operation(number) => flag(self.operations, number),
             Owner::Invariant(number) => flag(self.invariants, number),
+            Owner::Word(name) => self.word == Some(name),
+            Owner::Thread(number) => self.local == number || self.proof == number,
+            Owner::Last(number) => self.local == number || self.proof == number || self.ends,
         }
     }
 
-    fn with(self, owner: Owner) -> Owners
+    /// Whether the owner has it as a local.
+    pub fn has_local(self, owner: Owner) -> bool
+        ensures { result ≡ has_local self owner }
+    {
+        match owner {
+            Owner::Nobody | Owner::Operation(_) | Owner::Invariant(_) | Owner::Word(_) => false,
+            Owner::Thread(number) | Owner::Last(number) => self.local == number,
+        }
+    }
+
+    pub fn with(self, owner: Owner) -> Owners
         ensures { result ≡ with_owner self owner }
     {
         let mut more = self;
@@ -129,13 +190,44 @@ impl Owners {
             Owner::Nobody => {}
             Owner::Operation(number) => more.operations = with_flag(self.operations, number),
             Owner::Invariant(number) => more.invariants = with_flag(self.invariants, number),
+            Owner::Word(name) => more.word = Some(name),
+            Owner::Thread(number) | Owner::Last(number) => more.proof = number,
         }
         more
     }
 }
 
+impl Sight {
+    ghost use Rattle.sync_read_names.specs.Scopes.{knows_special, seen};
+
+    /// Whether a word of programs is known.
+    pub fn knows_special(self, word: Special) -> bool
+        ensures { result ≡ knows_special self word }
+    {
+        match word {
+            Special::Value | Special::Index => self.clause,
+            Special::Old | Special::New => self.atomic,
+            Special::Wrap => self.wrap,
+        }
+    }
+
+    /// What was declared, or nothing if it is a field that is not known.
+    fn seen(self, meaning: Meaning) -> Meaning
+        ensures { result ≡ seen self meaning }
+    {
+        if let Meaning::Field(number, _) = meaning
+            && let Some(flags) = self.fields
+        {
+            if !flag(flags, number) {
+                return Meaning::Nothing;
+            }
+        }
+        meaning
+    }
+}
+
 impl Scope {
-    ghost use Rattle.sync_read_names.specs.Scopes.{meaning_of, is_owned, is_local, is_taken, name_sort, known_symbol, knows_params, param_symbol, declare, own};
+    ghost use Rattle.sync_read_names.specs.Scopes.{meaning_of, is_owned, is_local, is_taken, seen_as, name_sort, known_symbol, knows_params, param_symbol, declare, own, is_assigned, local_symbol, word_symbol};
 
     /// What a name was declared as.
     pub fn meaning(&self, name: u32) -> Meaning
@@ -166,7 +258,7 @@ impl Scope {
     }
 
     /// Whether somebody has this name as a parameter or bound name.
-    fn is_owned(&self, owner: Owner, name: u32) -> bool
+    pub fn is_owned(&self, owner: Owner, name: u32) -> bool
         ensures { result ≡ is_owned self.now owner name }
     {
         match at(self.owners.as_slice(), name as usize) {
@@ -176,7 +268,7 @@ impl Scope {
     }
 
     /// Whether a name is a parameter or bound name here.
-    fn is_local(&self, name: u32) -> bool
+    pub fn is_local(&self, name: u32) -> bool
         ensures { result ≡ is_local self.now name }
     {
         self.is_owned(self.owner, name)
@@ -208,6 +300,13 @@ impl Scope {
         Ok(())
     }
 
+    /// What a name was declared as, where it is no field that is not known here.
+    pub fn seen_as(&self, name: u32) -> Meaning
+        ensures { result ≡ seen_as self.now name }
+    {
+        self.sight.seen(self.meaning(name))
+    }
+
     /// The sort of a name in a term, where it is known.
     pub fn name_sort(&self, name: u32) -> Option<Sort>
         ensures { result ≡ name_sort self.now name }
@@ -215,7 +314,7 @@ impl Scope {
         if self.is_local(name) {
             return Some(Sort::Number);
         }
-        match self.meaning(name) {
+        match self.seen_as(name) {
             Meaning::Field(_, sort) => Some(sort),
             Meaning::Nothing | Meaning::Operation(_) | Meaning::Invariant(_) => None,
         }
@@ -228,7 +327,7 @@ impl Scope {
         if self.is_local(named.name) {
             return Ok(symbol_of(named.name));
         }
-        match self.meaning(named.name) {
+        match self.seen_as(named.name) {
             Meaning::Field(number, _) => Ok(Sym(number)),
             Meaning::Nothing | Meaning::Operation(_) | Meaning::Invariant(_) => {
                 Err(refused(Rule::N1, named.line))
@@ -242,7 +341,43 @@ impl Scope {
     {
         match self.claim {
             Owner::Nobody => false,
-            Owner::Operation(_) | Owner::Invariant(_) => true,
+            Owner::Operation(_)
+            | Owner::Invariant(_)
+            | Owner::Word(_)
+            | Owner::Thread(_)
+            | Owner::Last(_) => true,
+        }
+    }
+
+    /// Whether a name is a local of the thread here.
+    pub fn is_assigned(&self, name: u32) -> bool
+        ensures { result ≡ is_assigned self.now name }
+    {
+        match at(self.owners.as_slice(), name as usize) {
+            Some(owners) => owners.has_local(self.owner),
+            None => false,
+        }
+    }
+
+    /// The symbol of a local.
+    pub fn local_symbol(&self, named: RawName) -> Result<u32, Stop>
+        ensures { Gives (λ x. x) result (local_symbol self.now named) }
+    {
+        if self.is_assigned(named.name) {
+            Ok(symbol_of(named.name).0)
+        } else {
+            Err(refused(Rule::N1, named.line))
+        }
+    }
+
+    /// The symbol of a word of programs, which stands at a line.
+    pub fn word_symbol(&self, word: Special, line: u32) -> Result<u32, Stop>
+        ensures { Gives (λ x. x) result (word_symbol self.now word line) }
+    {
+        if self.sight.knows_special(word) {
+            Ok(special_number(word))
+        } else {
+            Err(refused(Rule::N1, line))
         }
     }
 

@@ -3,9 +3,10 @@ ghost use Rattle.std.specs.Prelude.{IfSome};
 ghost use Rattle.sync_machine.specs.Views.{HasOwnIds};
 
 use std::alloc::Global;
-use sync_check::read;
 use sync_join::PERM;
 use sync_machine::Machine;
+use sync_parse::parse;
+use sync_read::resolve;
 
 /// A machine with a field of each of six strategies. The require of `zero` stands in line 7.
 const TEXT: &[u8] = b"version 1;
@@ -69,8 +70,11 @@ pub(crate) fn field_name(field: u32) -> &'static str {
 pub(crate) fn machine(alloc: Global) -> Option<Machine>
     ensures { IfSome result HasOwnIds }
 {
-    match read(alloc, TEXT) {
-        Ok(text) => Some(text.machine),
+    match parse(alloc, TEXT) {
+        Ok(raw) => match resolve(alloc, raw) {
+            Ok(text) => Some(text.machine),
+            Err(_) => None,
+        },
         Err(_) => None,
     }
 }

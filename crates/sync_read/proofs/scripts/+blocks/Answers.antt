@@ -1,9 +1,12 @@
-use Rattle.std.proofs.Common.{Ok, [], sym, ap, ◌∙◌}
+use Rattle.std.proofs.Common.{Ok, [], sym, ap, subst, ◌∙◌}
+use Rattle.sync_base.specs.Outcome.{◌>>=◌, Stops}
+use Rattle.sync_terms.specs.Plans.{Inst}
 use Rattle.std.proofs.lemmas.Result.{err_from_is_err_and}
 use Rattle.sync_read_names.proofs.Kept.{along, kept_formula}
 use Rattle.sync_read.specs.Scripts.{parts_from, numbers_from, step_of, then_of}
 use Rattle.sync_read.proofs.Going.{thens_go}
 use Rattle.sync_read.proofs.Planned.{sum_made, inst_made, parts_made, split_made, cut_made, block_made, block_stops, first_stops, second_stops}
+use Rattle.sync_read.proofs.Stepped.{stops_at, sum_of, inst_of, parts_of, split_of, read_of, size_of, total_of, cong_of, same_made, read_made, size_made, total_made, cong_made}
 use Rattle.sync_read.proofs.scripts.+blocks.Goals as goal
 
 pub block-loop-step-preserved : goal.block-loop-step-preserved
@@ -28,7 +31,7 @@ block-returns-clause-exact t c s more =
 
 pub step_of-returns-in_ok-parts-in-Sum-clause-exact : goal.step_of-returns-in_ok-parts-in-Sum-clause-exact
 step_of-returns-in_ok-parts-in-Sum-clause-exact t c s more =
-    sum_made c.args.scope.now s c.args.raw.now c.in-Sum.list c.in_ok-parts-in-Sum.field-0 c.in-Sum.is (ap (parts_from []) (sym c.as_slice.ensures) ∙ c.in_ok-parts-in-Sum.ensures)
+    sum_made c.args.scope.now s c.args.raw.now c.in-Sum.list c.in_ok-parts-in-Sum.field-0 c.in-Sum.is (ap (parts_from c.args.scope.now []) (sym c.as_slice.ensures) ∙ c.in_ok-parts-in-Sum.ensures)
     ∙ ap (λ x. Ok (then_of s x)) (sym c.made-in-Sum.ensures)
 
 pub step_of-returns-in_ok-es-in-Inst-clause-exact : goal.step_of-returns-in_ok-es-in-Inst-clause-exact
@@ -67,3 +70,85 @@ step_of-returns-in_err-c-in-Split-clause-exact t c s more =
     let p = err_from_is_err_and c.from_residual-in_err-c-in-Split.result c.from_residual-in_err-c-in-Split.ensures.1 in
     rw (p.1, p.2) (second_stops c.in_err-c-in-Split.field-0.0 c.args.scope.now c.args.raw.now i.h i.n i.b i.c c.in_ok-h-in-Split.h _ i.is c.in_ok-h-in-Split.ensures
     (c.in_ok-b-in-Split.ensures.exact s (along _ _ s c.block-in-Split.ensures.keeps more)) (c.in_err-c-in-Split.ensures.exact s more))
+
+pub step_of-returns-in_err-parts-in-Sum-clause-exact : goal.step_of-returns-in_err-parts-in-Sum-clause-exact
+step_of-returns-in_err-parts-in-Sum-clause-exact t c s more =
+    let i = c.in-Sum in
+    let p = err_from_is_err_and c.from_residual.result c.from_residual.ensures.1 in
+    rw (p.1, p.2) (stops_at c.in_err-parts-in-Sum.field-0.0 _ _ _ (sum_of c.args.scope.now c.args.raw.now i.list i.is) (subst (λ xs. Stops c.in_err-parts-in-Sum.field-0.0 (parts_from c.args.scope.now [] xs)) c.as_slice.ensures c.in_err-parts-in-Sum.ensures))
+
+pub step_of-returns-in_err-h-in-Inst-clause-exact : goal.step_of-returns-in_err-h-in-Inst-clause-exact
+step_of-returns-in_err-h-in-Inst-clause-exact t c s more =
+    let i = c.in-Inst in
+    let p = err_from_is_err_and c.from_residual-in_err-h-in-Inst.result c.from_residual-in_err-h-in-Inst.ensures.1 in
+    rw (p.1, p.2) (stops_at c.in_err-h-in-Inst.field-0.0 _ _ _ (inst_of c.args.scope.now c.args.raw.now i.h i.es i.n i.is) (c.in_err-h-in-Inst.ensures))
+
+pub step_of-returns-in_err-hyp-in-Parts-clause-exact : goal.step_of-returns-in_err-hyp-in-Parts-clause-exact
+step_of-returns-in_err-hyp-in-Parts-clause-exact t c s more =
+    let i = c.in-Parts in
+    let p = err_from_is_err_and c.from_residual-in_err-hyp-in-Parts.result c.from_residual-in_err-hyp-in-Parts.ensures.1 in
+    rw (p.1, p.2) (stops_at c.in_err-hyp-in-Parts.field-0.0 _ _ _ (parts_of c.args.scope.now c.args.raw.now i.h i.a i.b i.is) (c.in_err-hyp-in-Parts.ensures))
+
+pub step_of-returns-in_err-h-in-Split-clause-exact : goal.step_of-returns-in_err-h-in-Split-clause-exact
+step_of-returns-in_err-h-in-Split-clause-exact t c s more =
+    let i = c.in-Split in
+    let p = err_from_is_err_and c.from_residual-in_err-h-in-Split.result c.from_residual-in_err-h-in-Split.ensures.1 in
+    rw (p.1, p.2) (stops_at c.in_err-h-in-Split.field-0.0 _ _ _ (split_of c.args.scope.now c.args.raw.now i.h i.n i.b i.c i.is) (c.in_err-h-in-Split.ensures))
+
+pub step_of-returns-in_err-m-in-Read-clause-exact : goal.step_of-returns-in_err-m-in-Read-clause-exact
+step_of-returns-in_err-m-in-Read-clause-exact t c s more =
+    let i = c.in-Read in
+    let p = err_from_is_err_and c.from_residual-in_err-m-in-Read.result c.from_residual-in_err-m-in-Read.ensures.1 in
+    rw (p.1, p.2) (stops_at c.in_err-m-in-Read.field-0.0 _ _ _ (read_of c.args.scope.now c.args.raw.now i.m i.k i.n i.is) (c.in_err-m-in-Read.ensures.exact s more))
+
+pub step_of-returns-in_err-m-in-Size-clause-exact : goal.step_of-returns-in_err-m-in-Size-clause-exact
+step_of-returns-in_err-m-in-Size-clause-exact t c s more =
+    let i = c.in-Size in
+    let p = err_from_is_err_and c.from_residual-in_err-m-in-Size.result c.from_residual-in_err-m-in-Size.ensures.1 in
+    rw (p.1, p.2) (stops_at c.in_err-m-in-Size.field-0.0 _ _ _ (size_of c.args.scope.now c.args.raw.now i.m i.k i.n i.is) (c.in_err-m-in-Size.ensures.exact s more))
+
+pub step_of-returns-in_err-m-in-Total-clause-exact : goal.step_of-returns-in_err-m-in-Total-clause-exact
+step_of-returns-in_err-m-in-Total-clause-exact t c s more =
+    let i = c.in-Total in
+    let p = err_from_is_err_and c.from_residual-in_err-m-in-Total.result c.from_residual-in_err-m-in-Total.ensures.1 in
+    rw (p.1, p.2) (stops_at c.in_err-m-in-Total.field-0.0 _ _ _ (total_of c.args.scope.now c.args.raw.now i.m i.k i.n i.is) (c.in_err-m-in-Total.ensures.exact s more))
+
+pub step_of-returns-in_err-m-in-Cong-clause-exact : goal.step_of-returns-in_err-m-in-Cong-clause-exact
+step_of-returns-in_err-m-in-Cong-clause-exact t c s more =
+    let i = c.in-Cong in
+    let p = err_from_is_err_and c.from_residual-in_err-m-in-Cong.result c.from_residual-in_err-m-in-Cong.ensures.1 in
+    rw (p.1, p.2) (stops_at c.in_err-m-in-Cong.field-0.0 _ _ _ (cong_of c.args.scope.now c.args.raw.now i.m i.j i.k i.n i.is) (c.in_err-m-in-Cong.ensures.exact s more))
+
+pub step_of-returns-in_err-es-in-Inst-clause-exact : goal.step_of-returns-in_err-es-in-Inst-clause-exact
+step_of-returns-in_err-es-in-Inst-clause-exact t c s more =
+    let i = c.in-Inst in
+    let p = err_from_is_err_and c.from_residual-in_err-es-in-Inst.result c.from_residual-in_err-es-in-Inst.ensures.1 in
+    rw (p.1, p.2) (stops_at c.in_err-es-in-Inst.field-0.0 _ _ _ (inst_of c.args.scope.now c.args.raw.now i.h i.es i.n i.is ∙ ap (λ r. r >>= (λ y. numbers_from [] c.args.scope.now i.es >>= (λ ts. Ok (Inst c.args.raw.now.line y ts i.n.name)))) c.in_ok-h-in-Inst.ensures)
+    (subst (λ xs. Stops c.in_err-es-in-Inst.field-0.0 (numbers_from [] c.args.scope.now xs)) c.as_slice-in-Inst.ensures (c.in_err-es-in-Inst.ensures.exact s more)))
+
+pub step_of-returns-in-Same-clause-exact : goal.step_of-returns-in-Same-clause-exact
+step_of-returns-in-Same-clause-exact t c s more = same_made c.args.scope.now s c.args.raw.now c.in-Same.is ∙ ap (λ x. Ok (then_of s x)) (sym c.made.ensures)
+
+pub step_of-returns-in_ok-m-in-Read-clause-exact : goal.step_of-returns-in_ok-m-in-Read-clause-exact
+step_of-returns-in_ok-m-in-Read-clause-exact t c s more =
+    let i = c.in-Read in
+    read_made c.args.scope.now s c.args.raw.now i.m i.k i.n c.in_ok-m-in-Read.m c.in_ok-m-in-Read.k i.is (c.in_ok-m-in-Read.ensures.exact s more)
+    ∙ ap (λ x. Ok (then_of s x)) (sym c.made-in-Read.ensures)
+
+pub step_of-returns-in_ok-m-in-Size-clause-exact : goal.step_of-returns-in_ok-m-in-Size-clause-exact
+step_of-returns-in_ok-m-in-Size-clause-exact t c s more =
+    let i = c.in-Size in
+    size_made c.args.scope.now s c.args.raw.now i.m i.k i.n c.in_ok-m-in-Size.m c.in_ok-m-in-Size.k i.is (c.in_ok-m-in-Size.ensures.exact s more)
+    ∙ ap (λ x. Ok (then_of s x)) (sym c.made-in-Size.ensures)
+
+pub step_of-returns-in_ok-m-in-Total-clause-exact : goal.step_of-returns-in_ok-m-in-Total-clause-exact
+step_of-returns-in_ok-m-in-Total-clause-exact t c s more =
+    let i = c.in-Total in
+    total_made c.args.scope.now s c.args.raw.now i.m i.k i.n c.in_ok-m-in-Total.m c.in_ok-m-in-Total.k i.is (c.in_ok-m-in-Total.ensures.exact s more)
+    ∙ ap (λ x. Ok (then_of s x)) (sym c.made-in-Total.ensures)
+
+pub step_of-returns-in_ok-m-in-Cong-clause-exact : goal.step_of-returns-in_ok-m-in-Cong-clause-exact
+step_of-returns-in_ok-m-in-Cong-clause-exact t c s more =
+    let i = c.in-Cong in
+    cong_made c.args.scope.now s c.args.raw.now i.m i.j i.k i.n c.in_ok-m-in-Cong.m c.in_ok-m-in-Cong.j c.in_ok-m-in-Cong.k i.is (c.in_ok-m-in-Cong.ensures.exact s more)
+    ∙ ap (λ x. Ok (then_of s x)) (sym c.made-in-Cong.ensures)

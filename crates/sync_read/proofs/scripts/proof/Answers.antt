@@ -8,7 +8,7 @@ use Rattle.sync_read.proofs.Whole.{gives_stop, proof_made, proof_stops}
 use Rattle.sync_read.proofs.scripts.proof.Goals as goal
 
 abbrev at_claim : Scope → Owner → Owner → Scope
-at_claim s o claim = record { meanings = s.meanings; owners = s.owners; owner = o; claim = claim }
+at_claim s o claim = record { meanings = s.meanings; owners = s.owners; owner = o; claim = claim; sight = s.sight }
 
 pub returns-in_err-block-clause-exact : goal.returns-in_err-block-clause-exact
 returns-in_err-block-clause-exact c t more =

@@ -1,0 +1,5 @@
+mod Alone
+pub mod Shrinks
+pub mod Steps
+pub mod Written
+mod Endings

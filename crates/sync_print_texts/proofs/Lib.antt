@@ -1,0 +1,6 @@
+mod Told
+mod ProgramsTold
+mod Said
+mod TextsTold
+mod TextsSaid
+pub mod Rereads

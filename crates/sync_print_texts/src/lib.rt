@@ -1,0 +1,6 @@
+//! The canonical form of whole texts, with what reading it gives.
+#![tactic(auto)]
+
+mod printing;
+
+pub use printing::print_whole;

@@ -1,0 +1,8 @@
+//! That a shared step with its values is the step of the code.
+
+ghost use Rattle.sync_thread_events.specs.Laws.{StepsAreCodeSteps};
+
+/// A step of code on words, cells, lines and the thread's locals is what it asks for, done, and what it finds, kept.
+pub fn steps_are_code_steps()
+    ensures { StepsAreCodeSteps }
+{}

@@ -1,0 +1,3 @@
+-- Entries under keys, and how they are kept.
+pub mod Entries
+pub mod Steps

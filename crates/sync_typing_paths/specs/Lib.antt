@@ -1,0 +1,2 @@
+-- Statements of lists, as what they put before the rest.
+pub mod Statements

@@ -1,0 +1,10 @@
+//! What the rules on programs ask of a list of statements by its text alone.
+#![tactic(auto)]
+
+mod endings;
+mod locals;
+mod silences;
+
+pub use endings::{end_line, has_break, has_meet};
+pub use locals::assigned_locals;
+pub use silences::{Silence, silent_jumps};
