@@ -21,7 +21,7 @@ use Rattle.sync_machine.specs.Scope.{Known}
 use Rattle.sync_machine.specs.States.{Sort, Numbers, Maps}
 use Rattle.sync_rules.specs.Locality.{names_only, form_names_only}
 use Rattle.sync_kernel.proofs.Atoms.{nothing_weighed}
-use Rattle.sync_kernel.specs.Facts.{Fact, as_hypothesis, facts_size}
+use Rattle.sync_kernel_facts.specs.Facts.{Fact, as_hypothesis, facts_size}
 use Rattle.sync_kernel.specs.Rows.{atoms_of, narrow}
 use Rattle.sync_kernel.specs.Scripts.{script_fault}
 use Rattle.sync_thread.specs.Programs.{ScriptTree}
