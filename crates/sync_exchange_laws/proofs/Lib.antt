@@ -17,5 +17,8 @@ pub mod Along
 pub mod Guarding
 pub mod Returning
 pub mod Substituting
+pub mod TermsSucceeding
+pub mod Starting
 mod Examples
 mod Meeting
+mod Storage
