@@ -5,6 +5,7 @@ pub mod Writing
 pub mod Onlys
 pub mod Testing
 pub mod Widening
+pub mod Joining
 pub mod Bringing
 pub mod Slotting
 pub mod Stopping

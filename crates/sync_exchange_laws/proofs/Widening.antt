@@ -110,7 +110,7 @@ module _ (fs : List Field) (kept : Kept) (f : ℕ) where
   made s bag = joined s (tokens_of f bag) (record_at kept f) (tokens_of f kept.stored)
 
   -- the value that tokens make, by the field's strategy
-  value-is : (s : Strategy) (bag : List Token) (u w : Value) → strategy_at fs f ≡ s → made s bag ≡ Some u
+  pub value-is : (s : Strategy) (bag : List Token) (u w : Value) → strategy_at fs f ≡ s → made s bag ≡ Some u
       → value_at fs bag kept f ≡ Some w → u ≡ w
   value-is s bag u w is e at = some_is u w (sym e ∙ ap (λ (t : Strategy). made t bag) (sym is) ∙ at)
 

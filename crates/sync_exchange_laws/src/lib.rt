@@ -9,7 +9,7 @@ ghost use Rattle.sync_exchange_laws.specs.Progress.{Progresses, StopsAreHolders}
 ghost use Rattle.sync_exchange_laws.specs.Starts.{ConditionsMakeStarts, StartsGoAlong, StartsFollow, StartsOfTermsFollow};
 ghost use Rattle.sync_exchange_laws.specs.Succeeding.{ExchangesSucceed};
 ghost use Rattle.sync_exchange_laws.specs.Terms.{TermsAreExchanged, ExchangesOfTermsFollow, ExchangesOfTermsSucceed};
-ghost use Rattle.sync_exchange_laws.specs.Widths.{WidthsAgree, PartsAgree};
+ghost use Rattle.sync_exchange_laws.specs.Widths.{WidthsAgree, PartsAgree, StatesFit};
 
 /// Every exchange keeps how often each content of each cell is there, as a permission or stored.
 pub fn permissions_stay()
@@ -55,6 +55,12 @@ pub fn widths_agree()
 /// Of a count and of a multiset a sum on the way leaves signed 128 bits exactly where the joined field does.
 pub fn parts_agree()
     ensures { PartsAgree }
+{}
+
+/// Where tokens, records and stored objects are within signed 128 bits, each joined field is exactly where each partial
+/// sum of a count is.
+pub fn states_fit()
+    ensures { StatesFit }
 {}
 
 /// An exchange whose tokens are there, and whose requires are true, succeeds: no store lacks what it asks for.
