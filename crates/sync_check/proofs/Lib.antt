@@ -1,4 +1,5 @@
 mod Named
 mod Machines
+mod Grown
 pub mod Accepting
 pub mod TooLong

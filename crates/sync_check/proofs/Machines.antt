@@ -9,7 +9,11 @@ use Rattle.sync_parse_texts.specs.declared.text_reader.RawWholeText.{RawWholeTex
 use Rattle.sync_parse_texts.specs.SpelledPrograms as programs
 use Rattle.sync_parse_texts.specs.Texts.{program_part}
 use Rattle.sync_parse_texts.specs.Spelled.{WholeText, Spells}
-use Rattle.sync_check.specs.Texts.{without_program}
+use Rattle.sync_parse.specs.declared.trees.RawText.{RawText}
+
+-- a text without its program
+abbrev pub without_program : RawWholeText → RawText
+without_program raw = record { machine = raw.machine; proofs = raw.proofs; names = raw.names }
 
 -- one of two was spelled, and it is not the first
 not_first : {A : Type 0} {m : Spelled A} {ts us : List Terminal} {x : A ⊎ Unit {0}} (f : A ⊎ Unit {0} → Option A) → ((y : A) → f (inl y) ≡ Some y)

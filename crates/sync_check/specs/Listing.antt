@@ -12,8 +12,7 @@ use Rattle.sync_terms.specs.declared.proofs.Claim.TheVariants.{At, Keeps}
 use Rattle.sync_terms.specs.declared.proofs.Obligation.{Obligation}
 use Rattle.sync_rules.specs.Faults.{strategy_fault}
 use Rattle.sync_rules.specs.Obligations.{obligations_of}
-use Rattle.sync_read.specs.Texts.{TextTree}
-use Rattle.sync_check.specs.Texts.{unless, text_in}
+use Rattle.sync_check.specs.Texts.{TextTree, unless, built_text_in}
 use Rattle.sync_check.specs.Checking.{Means}
 
 -- how the name of the operation with this number is spelled
@@ -45,7 +44,7 @@ listed t = unless (strategy_fault t.machine) (obligation_lines t)
 
 -- the lines of what has to be proved of a text's machine, whatever its proofs are, or the first rule that the text breaks
 unfoldable pub listing_of : List ℕ → Result (List (List ℕ)) Refusal
-listing_of text = text_in text >>= listed
+listing_of text = built_text_in text >>= listed
 
 -- The bytes spell a machine that keeps the rules of names and of strategies, and these lines list what has to be proved of it.
 unfoldable pub IsListed : List ℕ → List (List ℕ) → Type 0

@@ -12,16 +12,15 @@ ghost use Rattle.sync_rules.specs.Faults.{strategy_fault};
 ghost use Rattle.sync_rules.specs.Strategies.{AreAllowed};
 ghost use Rattle.sync_terms.specs.Proofs.{AreScriptsOf};
 ghost use Rattle.sync_induct.specs.Grown.{HasGrown};
-ghost use Rattle.sync_read.specs.Texts.{text_tree};
-ghost use Rattle.sync_read.specs.declared.texts.Text.{Text};
+ghost use Rattle.sync_check.specs.declared.reading.Text.{Text};
+ghost use Rattle.sync_check.specs.Texts.{text_tree};
 ghost use Rattle.sync_check.specs.Checking.{fault_of, machine_of, verdict_of, IsAccepted, IsMeant};
 
-use crate::reading::read;
+use crate::reading::{Text, read_built};
 use std::alloc::Global;
 use sync_base::Stop;
 use sync_induct::{Inductive, inductive};
 use sync_machine::Machine;
-use sync_read::Text;
 use sync_rules::check_ops;
 
 /// Whether a machine that keeps the rules of names keeps those of strategies; else the first that it breaks.
@@ -65,14 +64,14 @@ fn number_of_scripts(text: &Text) -> u64
 
 /// The number of scripts of a text that keeps all rules, or its first broken rule.
 ///
-/// The rules are taken layer by layer, each over the whole text: lexemes (L), grammar (G), names and sorts (N), strategies
-/// (S), and at last the proofs (I and K).
+/// The rules are taken layer by layer, each over the whole text: lexemes (L), grammar (G), names and sorts (N), a program,
+/// which nothing answers for yet (G9), strategies (S), and at last the proofs (I and K).
 #[tactic(auto, unfolding(crate::specs::Checking::verdict_of, crate::specs::Checking::IsAccepted))]
 pub fn check(alloc: Global, text: &[u8]) -> Result<u64, Stop>
     ensures exact { Gives (λ scripts. scripts) result (verdict_of text.now) }
     ensures sound { IfOk result (λ scripts. IsAccepted text.now scripts) }
 {
-    let text = read(alloc, text)?;
+    let text = read_built(alloc, text)?;
     let scripts = number_of_scripts(&text);
     proved_machine(alloc, text)?;
     Ok(scripts)
@@ -91,6 +90,6 @@ pub fn accepted_machine(alloc: Global, text: &[u8]) -> Result<Inductive, Stop>
     ensures strategies { IfOk result (λ i. strategy_fault (machine_tree i) ≡ None) }
     ensures holds { IfOk result (λ i. HoldsAlways (machine_tree i)) }
 {
-    let text = read(alloc, text)?;
+    let text = read_built(alloc, text)?;
     proved_machine(alloc, text)
 }

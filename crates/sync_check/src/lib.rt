@@ -7,4 +7,4 @@ mod reading;
 
 pub use checking::{accepted_machine, check};
 pub use listing::list;
-pub use reading::read;
+pub use reading::{Text, read};

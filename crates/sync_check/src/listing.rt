@@ -1,15 +1,16 @@
 //! Lists what has to be proved of a text's machine.
-ghost use Rattle.std.specs.Prelude.{◌≡◌, ◌++◌, map, codes, IfOk, OnOk};
+ghost use Rattle.std.specs.Prelude.{◌≡◌, ◌++◌, map, codes, None, IfOk, OnOk};
 ghost use Rattle.sync_base.specs.Outcome.{Gives};
-ghost use Rattle.sync_read.specs.Texts.{text_tree};
-ghost use Rattle.sync_check.specs.Listing.{claim_text, invariant_name, listing_of, obligation_line, operation_name, IsListed};
+ghost use Rattle.sync_machine.specs.Views.{machine_tree, HasOwnIds};
+ghost use Rattle.sync_machine.specs.Naming.{machine_fault, AreTextNames};
+ghost use Rattle.sync_check.specs.Texts.{text_tree};
+ghost use Rattle.sync_check.specs.Listing.{claim_text, invariant_name, listed, listing_of, obligation_line, operation_name, IsListed};
 
 use crate::checking::keeps_strategies;
-use crate::reading::read;
+use crate::reading::{Text, read_built};
 use sqlite_items::Items;
 use std::alloc::{AllocError, Global};
 use sync_base::Stop;
-use sync_read::Text;
 use sync_rules::obligations;
 use sync_terms::{Claim, Obligation};
 
@@ -82,6 +83,19 @@ fn lines_of(
     Ok(Items::from_vec(lines))
 }
 
+/// The lines of all that has to be proved of the machine of a text that has been read, or the first rule of strategies that
+/// it breaks.
+fn listed(alloc: Global, text: &Text) -> Result<Items<Items<u8>>, Stop>
+    requires ids { HasOwnIds text.now.machine }
+    requires names { AreTextNames (machine_tree text.now.machine) }
+    requires formed { machine_fault (machine_tree text.now.machine) ≡ None }
+    ensures { Gives (λ lines. lines) result (listed (text_tree text.now)) }
+{
+    keeps_strategies(&text.machine)?;
+    let list = obligations(alloc, &text.machine)?;
+    Ok(lines_of(alloc, text, list.as_slice())?)
+}
+
 /// The lines of all that has to be proved of a text's machine, or the first rule that the text breaks.
 ///
 /// The rules of lexemes, of the grammar, of names and of strategies are asked for. Proofs are not looked at, but for the
@@ -91,9 +105,6 @@ pub fn list(alloc: Global, bytes: &[u8]) -> Result<Items<Items<u8>>, Stop>
     ensures exact { Gives (λ lines. lines) result (listing_of bytes.now) }
     ensures means { IfOk result (IsListed bytes.now) }
 {
-    let text = read(alloc, bytes)?;
-    keeps_strategies(&text.machine)?;
-    let list = obligations(alloc, &text.machine)?;
-    let lines = lines_of(alloc, &text, list.as_slice())?;
-    Ok(lines)
+    let text = read_built(alloc, bytes)?;
+    listed(alloc, &text)
 }

@@ -7,8 +7,7 @@ use Rattle.sync_lex.specs.Terminals.{terminals_in}
 use Rattle.sync_parse.specs.Faults.{refused}
 use Rattle.sync_parse_texts.specs.declared.text_reader.RawWholeText.{RawWholeText}
 use Rattle.sync_parse_texts.specs.Texts.{sections_of, whole_text}
-use Rattle.sync_read.specs.Texts.{TextTree, resolved}
-use Rattle.sync_check.specs.Texts.{unless, without_program, unbuilt, resolved_whole, text_in}
+use Rattle.sync_check.specs.Texts.{TextTree, unless, unbuilt, resolved_whole, built, built_text_in}
 use Rattle.sync_check.specs.Checking.{judged, fault_of, verdict_of}
 use Rattle.sync_check.specs.Listing.{listed, listing_of, obligation_lines}
 use Rattle.sync_rules.specs.Faults.{strategy_fault}
@@ -43,32 +42,33 @@ whole-fault bytes =
     fault-then (terminals_in bytes) _
     ∙ ap (first (lex_fault bytes)) (behind-same (terminals_in bytes) _ _ (λ (ws : Terminals). fault-kept (refused ws.last_line (sections_of ws.list)) _))
 
-resolved-fault : (raw : RawWholeText) → fault_in (resolved_whole raw) ≡ first (fault_in (resolved (without_program raw))) (behind (resolved (without_program raw)) (λ (t : TextTree). unbuilt raw.program))
-resolved-fault raw =
-    fault-then (resolved (without_program raw)) _
-    ∙ ap (first (fault_in (resolved (without_program raw)))) (behind-same (resolved (without_program raw)) _ _ (λ (t : TextTree). fault-unless (unbuilt raw.program) t))
+built-fault : (raw : RawWholeText) → fault_in (built raw) ≡ first (fault_in (resolved_whole raw)) (behind (resolved_whole raw) (λ (t : TextTree). unbuilt raw.program))
+built-fault raw =
+    fault-then (resolved_whole raw) _
+    ∙ ap (first (fault_in (resolved_whole raw))) (behind-same (resolved_whole raw) _ _ (λ (t : TextTree). fault-unless (unbuilt raw.program) t))
 
 behind-first : {A : Type 0} (r : Result A Refusal) (f g : A → Option Refusal) → behind r (λ x. first (f x) (g x)) ≡ first (behind r f) (behind r g)
 behind-first (Ok x) f g = refl
 behind-first (Err e) f g = refl
 
-names-fault : (bytes : List ℕ) → behind (whole_text bytes) (λ (raw : RawWholeText). fault_in (resolved_whole raw)) ≡ first (name_fault bytes) (unbuilt_fault bytes)
-names-fault bytes = behind-same (whole_text bytes) _ _ resolved-fault ∙ behind-first (whole_text bytes) _ _
+names-fault : (bytes : List ℕ) → behind (whole_text bytes) (λ (raw : RawWholeText). fault_in (built raw)) ≡ first (name_fault bytes) (unbuilt_fault bytes)
+names-fault bytes = behind-same (whole_text bytes) _ _ built-fault ∙ behind-first (whole_text bytes) _ _
 
-text_in-fault : (bytes : List ℕ) → fault_in (text_in bytes) ≡ reading_fault bytes
-text_in-fault bytes =
-    fault-then (whole_text bytes) resolved_whole
+built_text_in-fault : (bytes : List ℕ) → fault_in (built_text_in bytes) ≡ reading_fault bytes
+unfolding built_text_in
+built_text_in-fault bytes =
+    fault-then (whole_text bytes) built
     ∙ ap (first (fault_in (whole_text bytes))) (names-fault bytes)
     ∙ ap (λ f. first f (first (name_fault bytes) (unbuilt_fault bytes))) (whole-fault bytes)
     ∙ first-first (lex_fault bytes) (grammar_fault bytes) (first (name_fault bytes) (unbuilt_fault bytes))
 
 -- what is told of a text that is read, behind the layers of reading
 told-fault : {A : Type 0} (told : TextTree → Result A Refusal) (fault : TextTree → Option Refusal) → ((t : TextTree) → fault_in (told t) ≡ fault t) → (bytes : List ℕ)
-    → fault_in (text_in bytes >>= told) ≡ first (reading_fault bytes) (behind (text_in bytes) fault)
+    → fault_in (built_text_in bytes >>= told) ≡ first (reading_fault bytes) (behind (built_text_in bytes) fault)
 told-fault told fault same bytes =
-    fault-then (text_in bytes) told
-    ∙ ap (first (fault_in (text_in bytes))) (behind-same (text_in bytes) _ fault same)
-    ∙ ap (λ f. first f (behind (text_in bytes) fault)) (text_in-fault bytes)
+    fault-then (built_text_in bytes) told
+    ∙ ap (first (fault_in (built_text_in bytes))) (behind-same (built_text_in bytes) _ fault same)
+    ∙ ap (λ f. first f (behind (built_text_in bytes) fault)) (built_text_in-fault bytes)
 
 verdict-fault : (bytes : List ℕ) → fault_in (verdict_of bytes) ≡ first_fault bytes
 unfolding verdict_of
@@ -108,5 +108,5 @@ pub first-fault-listed : (bytes : List ℕ) → ListingIsFirstFault bytes
 unfolding listing_of
 first-fault-listed bytes = record {
   refuses = λ r is. refused-is (listing_of bytes) r (listing-fault bytes ∙ is);
-  lists = λ keeps. listed-is (text_in bytes) (listing-fault bytes ∙ keeps);
+  lists = λ keeps. listed-is (built_text_in bytes) (listing-fault bytes ∙ keeps);
 }

@@ -9,8 +9,7 @@ use Rattle.sync_parse_texts.specs.declared.text_reader.RawWholeText.{RawWholeTex
 use Rattle.sync_parse_texts.specs.Texts.{sections_of, whole_text}
 use Rattle.sync_rules.specs.Faults.{strategy_fault}
 use Rattle.sync_induct.specs.Checks.{proof_fault}
-use Rattle.sync_read.specs.Texts.{TextTree, resolved}
-use Rattle.sync_check.specs.Texts.{without_program, unbuilt, text_in}
+use Rattle.sync_check.specs.Texts.{TextTree, resolved_whole, unbuilt, built_text_in}
 use Rattle.sync_check.specs.Checking.{verdict_of}
 use Rattle.sync_check.specs.Listing.{obligation_lines, listing_of}
 
@@ -31,13 +30,13 @@ lex_fault bytes = fault_in (terminals_in bytes)
 abbrev pub grammar_fault : List ℕ → Option Refusal
 grammar_fault bytes = behind (terminals_in bytes) (λ (ws : Terminals). fault_in (refused ws.last_line (sections_of ws.list)))
 
--- N: of the raw tree, but for its program
+-- N: of the raw tree
 abbrev pub name_fault : List ℕ → Option Refusal
-name_fault bytes = behind (whole_text bytes) (λ (raw : RawWholeText). fault_in (resolved (without_program raw)))
+name_fault bytes = behind (whole_text bytes) (λ (raw : RawWholeText). fault_in (resolved_whole raw))
 
 -- G9: of a program, which is not built yet
 abbrev pub unbuilt_fault : List ℕ → Option Refusal
-unbuilt_fault bytes = behind (whole_text bytes) (λ (raw : RawWholeText). behind (resolved (without_program raw)) (λ (t : TextTree). unbuilt raw.program))
+unbuilt_fault bytes = behind (whole_text bytes) (λ (raw : RawWholeText). behind (resolved_whole raw) (λ (t : TextTree). unbuilt raw.program))
 
 -- the first of these four
 abbrev pub reading_fault : List ℕ → Option Refusal
@@ -45,11 +44,11 @@ reading_fault bytes = first (lex_fault bytes) (first (grammar_fault bytes) (firs
 
 -- S: of the machine
 abbrev pub rules_fault : List ℕ → Option Refusal
-rules_fault bytes = behind (text_in bytes) (λ (t : TextTree). strategy_fault t.machine)
+rules_fault bytes = behind (built_text_in bytes) (λ (t : TextTree). strategy_fault t.machine)
 
 -- S, and then I and K: of the machine and of its proofs
 abbrev pub machine_faults : List ℕ → Option Refusal
-machine_faults bytes = behind (text_in bytes) (λ (t : TextTree). first (strategy_fault t.machine) (proof_fault t.machine t.proofs))
+machine_faults bytes = behind (built_text_in bytes) (λ (t : TextTree). first (strategy_fault t.machine) (proof_fault t.machine t.proofs))
 
 -- the first rule that a text breaks
 abbrev pub first_fault : List ℕ → Option Refusal
@@ -70,4 +69,4 @@ first_listing_fault bytes = first (reading_fault bytes) (rules_fault bytes)
 -- The listing refuses a text with the first of these, and lists what has to be proved of its machine where it has none.
 pub record ListingIsFirstFault (bytes : List ℕ) : Type 0 where
   pub refuses : (r : Refusal) → first_listing_fault bytes ≡ Some r → listing_of bytes ≡ Err r
-  pub lists : first_listing_fault bytes ≡ None → (t : TextTree) × (text_in bytes ≡ Ok t) × (listing_of bytes ≡ Ok (obligation_lines t))
+  pub lists : first_listing_fault bytes ≡ None → (t : TextTree) × (built_text_in bytes ≡ Ok t) × (listing_of bytes ≡ Ok (obligation_lines t))

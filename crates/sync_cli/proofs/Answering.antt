@@ -8,7 +8,7 @@ use Rattle.sync_base.specs.Outside.{GivesFront}
 use Rattle.sync_base.specs.declared.stops.Rule.TheVariants.{L1}
 use Rattle.sync_cli.specs.Answers.{status_of, out_of, err_of, IsAnswer}
 use Rattle.sync_check.specs.Checking.{judged, verdict_of}
-use Rattle.sync_check.proofs.TooLong.{text_in-too_long}
+use Rattle.sync_check.proofs.TooLong.{built_text_in-too_long}
 use Rattle.sync_base.specs.Limits.{longest_text}
 use Rattle.sync_cli.specs.Commands.{Asks, answered, accepted_lines, IsDone}
 use Rattle.sync_check.specs.Listing.{listed, listing_of}
@@ -22,8 +22,8 @@ use Rattle.sync_cli.specs.declared.commands.Command.TheVariants.{Check, Obligati
 -- every command refuses a text that is longer than the limit
 answered-too_long : (command : Command) (bytes : List ℕ) → longest_text < length bytes → answered command bytes ≡ Err (record { line = 1; rule = L1 })
 unfolding answered verdict_of listing_of
-answered-too_long Check bytes long = ap (λ r. (r >>= judged) >>= accepted_lines) (text_in-too_long bytes long)
-answered-too_long Obligations bytes long = ap (λ r. r >>= listed) (text_in-too_long bytes long)
+answered-too_long Check bytes long = ap (λ r. (r >>= judged) >>= accepted_lines) (built_text_in-too_long bytes long)
+answered-too_long Obligations bytes long = ap (λ r. r >>= listed) (built_text_in-too_long bytes long)
 
 -- a text of the source, for which a command gives what it gives for the bytes that were read
 record ReadAs (told left : Option (List ℕ)) (faults faults' : ℕ) (read : List ℕ) : Type 0 where

@@ -5,6 +5,7 @@ pub mod Writing
 pub mod Onlys
 pub mod Testing
 pub mod Widening
+pub mod Joining
 pub mod Bringing
 pub mod Slotting
 pub mod Stopping
@@ -17,5 +18,8 @@ pub mod Along
 pub mod Guarding
 pub mod Returning
 pub mod Substituting
+pub mod TermsSucceeding
+pub mod Starting
 mod Examples
 mod Meeting
+mod Storage

@@ -20,7 +20,7 @@ use Rattle.sync_exchange.specs.Exchange.{Exchanging, named, held_as, without, re
 use Rattle.sync_exchange.proofs.Passing.{either}
 use Rattle.sync_exchange.proofs.Strategies.{some_is}
 use Rattle.sync_exchange_laws.specs.Along.{key_under, value_under, IsThere, left_under, AreThere, all_left, ended}
-use Rattle.sync_exchange_laws.specs.Terms.{TokenTerms, HeldTerms, token_under, held_under, hand_under, terms_as, terms_without, terms_revalued, TermsUnderWay, is_token, place_dues, dues_at, terms_taken, terms_read, terms_given, terms_changed, terms_started, terms_updated, terms_left, all_dues, HasTerms, IsStoredThere, ReadsSame, TermsAreExchanged, ExchangesOfTermsFollow}
+use Rattle.sync_exchange_laws.specs.Terms.{TokenTerms, HeldTerms, token_under, held_under, hand_under, terms_as, terms_without, terms_revalued, TermsUnderWay, is_token, place_dues, dues_at, terms_taken, terms_read, terms_given, terms_changed, terms_started, terms_updated, terms_left, all_dues, HasTerms, IsStoredThere, ReadsSame, AllReadSame, TermsAreExchanged, ExchangesOfTermsFollow}
 use Rattle.sync_exchange.proofs.Rules.{regular}
 use Rattle.sync_exchange.proofs.Beginning.{trust}
 use Rattle.sync_exchange_laws.specs.Conditions.{names_at}
@@ -188,7 +188,7 @@ module _ (fs : List Field) (names : ℕ → Tree) (v : Valuation) (d : TermsUnde
       gave-as v d x h f (replaced names (key_of p)) (replaced names (value_of p)) (key_under u p) (value_under u p)
       (num-replaced names v (key_of p)) (num-replaced names v (value_of p))
 
-  one-left : (a : ActTree) → HasTerms v (terms_left fs names a d) (left_under fs u a x)
+  pub one-left : (a : ActTree) → HasTerms v (terms_left fs names a d) (left_under fs u a x)
   one-left (acts.Require form) = h
   one-left (acts.Assert form) = h
   one-left (acts.HaveVariable f) = h
@@ -227,7 +227,7 @@ module _ (fs : List Field) (names : ℕ → Tree) (v : Valuation) (d : TermsUnde
         named-is x (token_under v t) held
         ∙ ap Ok (token-is (token_under v t) f (key_under u p) (value_under u p) field key value)
 
-  one-there : (a : ActTree) → AllByRecursion (Holds v) (dues_at names a d) → IsStoredThere u a x → IsThere u a x
+  pub one-there : (a : ActTree) → AllByRecursion (Holds v) (dues_at names a d) → IsStoredThere u a x → IsThere u a x
   one-there (acts.Require form) dues stored = sym (truth-replaced_in names v form) ∙ dues.0
   one-there (acts.Remove f p) dues stored = token-there f p dues
   one-there (acts.Have f p) dues stored = token-there f p dues
@@ -242,7 +242,7 @@ module _ (fs : List Field) (names : ℕ → Tree) (v : Valuation) (d : TermsUnde
 
 -- ---- all statements
 
-all-parts : (P : Formula → Type 0) (xs ys : List Formula) → AllByRecursion P (xs ++ ys) → AllByRecursion P xs
+pub all-parts : (P : Formula → Type 0) (xs ys : List Formula) → AllByRecursion P (xs ++ ys) → AllByRecursion P xs
     × AllByRecursion P ys
 all-parts P [] ys a = (tt, a)
 all-parts P (x ∷ xs) ys a = let rest = all-parts P xs ys a.1 in ((a.0, rest.0), rest.1)
@@ -259,7 +259,7 @@ terms-are-exchanged fs names v (s ∷ ss) d x h dues stored =
 -- ---- along two valuations under which all that is read is the same
 
 module _ (fs : List Field) (v w : Valuation) (x : Exchanging) where
-  same-left : (a : ActTree) → ReadsSame fs v w a → left_under fs v a x ≡ left_under fs w a x
+  pub same-left : (a : ActTree) → ReadsSame fs v w a → left_under fs v a x ≡ left_under fs w a x
   same-left (acts.Require form) e = refl
   same-left (acts.Assert form) e = refl
   same-left (acts.HaveVariable f) e = refl
@@ -290,7 +290,7 @@ module _ (fs : List Field) (v w : Valuation) (x : Exchanging) where
       → stored_at f (key_under w p) x.kept.stored ≡ Some (value_under w p)
   object-same f p key value e = ap (λ (k : ℤ). stored_at f k x.kept.stored) (sym key) ∙ e ∙ ap (λ (n : ℤ). Some n) value
 
-  same-there : (a : ActTree) → ReadsSame fs v w a → IsThere v a x → IsThere w a x
+  pub same-there : (a : ActTree) → ReadsSame fs v w a → IsThere v a x → IsThere w a x
   same-there (acts.Require form) e there = sym e ∙ there
   same-there (acts.Remove f p) e there = token-same f p e.0 e.1 there
   same-there (acts.Have f p) e there = token-same f p e.0 e.1 there
@@ -303,8 +303,8 @@ module _ (fs : List Field) (v w : Valuation) (x : Exchanging) where
   same-there (acts.HaveVariable f) e there = tt
   same-there (acts.Add f p) e there = tt
 
-all-same : (fs : List Field) (v w : Valuation) (ss : List StepTree) (x : Exchanging)
-    → AllByRecursion (λ (s : StepTree). ReadsSame fs v w s.act) ss → AreThere fs v ss x
+pub all-same : (fs : List Field) (v w : Valuation) (ss : List StepTree) (x : Exchanging)
+    → AllReadSame fs v w ss → AreThere fs v ss x
     → AreThere fs w ss x × (all_left fs v ss x ≡ all_left fs w ss x)
 all-same fs v w [] x reads there = (tt, refl)
 all-same fs v w (s ∷ ss) x reads there =

@@ -1,12 +1,12 @@
 -- An exchange succeeds where the holder brings what it asks under the valuation of the values that it binds.
-use Rattle.std.proofs.Common.{◌≡◌, ℕ, ◌<◌, ◌≤◌, ℤ, Bool, true, false, ◌&&◌, List, [], ◌∷◌, ◌++◌, length, append_assoc, append-nil, length-append, filter_map, Some, Ok, Err, inl, inr, ◌⊎◌, refl, sym, ap, subst, ◌∙◌, arith, nat_eq, nat_lt}
+use Rattle.std.proofs.Common.{◌≡◌, ℕ, ◌<◌, ◌≤◌, ℤ, Bool, true, false, ◌&&◌, List, [], ◌∷◌, ◌++◌, length, append_assoc, append-nil, Some, Ok, Err, inl, inr, ◌⊎◌, refl, sym, ap, subst, ◌∙◌, arith, nat_eq, nat_lt}
 use Rattle.std.specs.Ordering.{int_eq}
 use Rattle.std.specs.Cmp.{int_eq_equiv}
-use Rattle.std.proofs.lemmas.Bool.{eq-eqb, le-ltb, lt-ltb, cases_lt, ltb-false}
+use Rattle.std.proofs.lemmas.Bool.{eq-eqb, le-ltb, cases_lt}
 use Rattle.std.proofs.lemmas.List.Elements.{filter_map-append}
 use Rattle.sync_base.specs.Outcome.{◌>>=◌}
 use Rattle.sync_terms.specs.Maps as maps
-use Rattle.sync_terms.specs.Values.{Valuation, truth}
+use Rattle.sync_terms.specs.Values.{Valuation}
 use Rattle.sync_machine.specs.declared.fields.Field.{Field}
 use Rattle.sync_machine.specs.Machines.{PlaceTree, ActTree, StepTree, OperationTree, MachineTree}
 use Rattle.sync_machine.specs.Machines as acts
@@ -19,7 +19,7 @@ use Rattle.sync_join.specs.Shards.{Kept, perm, AreSoundShards}
 use Rattle.sync_join.specs.Join.{join_of}
 use Rattle.sync_exchange.specs.declared.hands.Held.{Held}
 use Rattle.sync_exchange.specs.declared.hands.XStop.{XStop}
-use Rattle.sync_exchange.specs.Exchange.{Exchanging, Exchanged, Answer, named, is_at_place, key_at, is_asked, token_of, argument, tokens_in, use_variables, variable_slots, beginning, does, does_all, outcome}
+use Rattle.sync_exchange.specs.Exchange.{Exchanging, Answer, named, is_at_place, key_at, is_asked, token_of, argument, tokens_in, use_variables, variable_slots, beginning, does, does_all}
 use Rattle.sync_exchange.specs.Projection.{AreNames}
 use Rattle.sync_exchange.proofs.Asking.{both-true}
 use Rattle.sync_exchange.proofs.Terms.{Same, truth-same, and_left, and_right}
@@ -33,7 +33,7 @@ use Rattle.sync_exchange.proofs.Beginning.{valuation, number-inside, mapping-ins
 use Rattle.sync_exchange.proofs.Transitions.{outcome-ok}
 use Rattle.sync_exchange_laws.specs.Conditions.{names_at}
 use Rattle.sync_exchange_laws.specs.Progress.{IsBrought, AreBrought}
-use Rattle.sync_exchange_laws.specs.Along.{key_under, value_under, left_under, begun_under, IsAlong}
+use Rattle.sync_exchange_laws.specs.Along.{key_under, value_under, begun_under, IsAlong}
 use Rattle.sync_exchange_laws.specs.Succeeding.{IsBroughtUnder, AreBroughtUnder, values_behind, values_bound, bound_at, ExchangesSucceed}
 use Rattle.sync_exchange_laws.proofs.Bringing.{is-asked-cases}
 use Rattle.sync_exchange_laws.proofs.Testing.{argument-front}

@@ -6,3 +6,4 @@ pub mod Along
 pub mod Succeeding
 pub mod Guards
 pub mod Terms
+pub mod Starts

@@ -1,5 +1,5 @@
 -- That an exchange succeeds where the holder brings what it asks, and what its bound names are worth then.
-use Rattle.std.specs.Prelude.{◌≡◌, ℕ, ℤ, Bool, true, List, [], ◌∷◌, ◌++◌, length, ◌⊎◌, Some, Ok, Err}
+use Rattle.std.specs.Prelude.{◌≡◌, ℕ, ℤ, true, List, [], ◌∷◌, ◌++◌, length, ◌⊎◌, Some, Ok, Err}
 use Rattle.std.specs.List.{Contains}
 use Rattle.sync_terms.specs.Values.{Valuation}
 use Rattle.sync_machine.specs.declared.fields.Field.{Field}

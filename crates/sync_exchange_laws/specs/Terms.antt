@@ -24,6 +24,7 @@ use Rattle.sync_exchange.specs.Exchange.{Exchanging, tokens_in, stored_at, next_
 use Rattle.sync_exchange.specs.Projection.{AreNames, IsProved}
 use Rattle.sync_exchange_laws.specs.Conditions.{names_at}
 use Rattle.sync_exchange_laws.specs.Along.{key_under, value_under, left_under, AreThere, all_left, ended}
+use Rattle.sync_exchange_laws.specs.Succeeding.{values_bound}
 
 -- ---- tokens of terms
 
@@ -190,6 +191,10 @@ ReadsSame fs v w (acts.Deposit f p) = (key_under v p ≡ key_under w p) × (valu
 ReadsSame fs v w (acts.Withdraw f p) = (key_under v p ≡ key_under w p) × (value_under v p ≡ value_under w p)
 ReadsSame fs v w (acts.Guard f p) = (key_under v p ≡ key_under w p) × (value_under v p ≡ value_under w p)
 
+-- so at each statement
+abbrev pub AllReadSame : List Field → Valuation → Valuation → List StepTree → Type 0
+AllReadSame fs v w ss = AllByRecursion (λ (step : StepTree). ReadsSame fs v w step.act) ss
+
 -- ---- the laws
 
 -- Where the dues of an exchange of terms hold under a valuation, each statement finds what it asks, and what is left
@@ -214,11 +219,32 @@ ExchangesOfTermsFollow = (m : MachineTree) → IsProved m → (o : OperationTree
     → (begun : Exchanging)
     → use_variables (variable_slots m.fields o) (beginning m.fields o args tokens given whole hand kept) ≡ Ok begun
     → (names : ℕ → Tree) (v : Valuation)
-    → AllByRecursion (λ (step : StepTree). ReadsSame m.fields (with_terms names v) (names_at m.fields s o args bound) step.act)
-    o.steps
+    → AllReadSame m.fields (with_terms names v) (names_at m.fields s o args bound) o.steps
     → (d : TermsUnderWay) → HasTerms v d begun → AllByRecursion (Holds v) (all_dues m.fields names o.steps d)
     → AreStoredThere m.fields (with_terms names v) o.steps begun
     → (exchange_of m.fields o args tokens given whole hand kept
     ≡ Ok (ended (all_left m.fields (with_terms names v) o.steps begun)))
     × HasTerms v (all_terms_left m.fields names o.steps d) (all_left m.fields (with_terms names v) o.steps begun)
     × ((ended (all_left m.fields (with_terms names v) o.steps begun)).bound ≡ bound)
+
+-- And nothing has to be known beforehand of what it binds or of what is stored: where the terms that stand for the
+-- operation's names have, for all that its statements read, the values of the state, of the arguments and of what is
+-- bound on the way, and the dues hold, each statement finds what it asks, a stored object too, the exchange succeeds,
+-- answers what is bound on the way, and leaves the values of the terms.
+abbrev pub ExchangesOfTermsSucceed : Type 0
+ExchangesOfTermsSucceed = (m : MachineTree) → IsProved m → (o : OperationTree) → Contains m.ops o → (IsInit o → ⊥)
+    → (args : List ℤ) → length args ≡ length o.params
+    → (tokens given : List ℕ) (hand : List Held) → AreNames m.fields o tokens given hand
+    → (others : List Token) (kept : Kept) → AreSoundShards m.fields (tokens_in hand ++ others) kept
+    → (s : State) → join_of m.fields (tokens_in hand ++ others) kept ≡ Some s → IsReached m s
+    → (whole : State) → (whole ≡ s) ⊎ (is_plain m.fields o ≡ true)
+    → (begun : Exchanging)
+    → use_variables (variable_slots m.fields o) (beginning m.fields o args tokens given whole hand kept) ≡ Ok begun
+    → (names : ℕ → Tree) (v : Valuation)
+    → AllReadSame m.fields (with_terms names v) (names_at m.fields s o args (values_bound m.fields o.steps begun)) o.steps
+    → (d : TermsUnderWay) → HasTerms v d begun → AllByRecursion (Holds v) (all_dues m.fields names o.steps d)
+    → AreThere m.fields (with_terms names v) o.steps begun
+    × (exchange_of m.fields o args tokens given whole hand kept
+    ≡ Ok (ended (all_left m.fields (with_terms names v) o.steps begun)))
+    × HasTerms v (all_terms_left m.fields names o.steps d) (all_left m.fields (with_terms names v) o.steps begun)
+    × ((ended (all_left m.fields (with_terms names v) o.steps begun)).bound ≡ values_bound m.fields o.steps begun)

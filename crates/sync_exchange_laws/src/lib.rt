@@ -6,11 +6,13 @@ ghost use Rattle.sync_exchange_laws.specs.Conditions.{ConditionsMakeSteps, Excha
 ghost use Rattle.sync_exchange_laws.specs.Guards.{PropertiesShowGuards};
 ghost use Rattle.sync_exchange_laws.specs.Permissions.{PermissionsStay, FirstPermissionsStay, MovesKeepPermissions, WritesKeepShards, PermissionIsOnly, StoredIsOnly};
 ghost use Rattle.sync_exchange_laws.specs.Progress.{Progresses, StopsAreHolders};
+ghost use Rattle.sync_exchange_laws.specs.Starts.{ConditionsMakeStarts, StartsGoAlong, StartsFollow, StartsOfTermsFollow};
 ghost use Rattle.sync_exchange_laws.specs.Succeeding.{ExchangesSucceed};
-ghost use Rattle.sync_exchange_laws.specs.Terms.{TermsAreExchanged, ExchangesOfTermsFollow};
-ghost use Rattle.sync_exchange_laws.specs.Widths.{WidthsAgree};
+ghost use Rattle.sync_exchange_laws.specs.Terms.{TermsAreExchanged, ExchangesOfTermsFollow, ExchangesOfTermsSucceed};
+ghost use Rattle.sync_exchange_laws.specs.Widths.{WidthsAgree, PartsAgree, StatesFit};
 
-/// Every exchange keeps how often each content of each cell is there, as a permission or stored.
+/// An exchange of a transition or property that succeeds keeps how often each content of each cell is there, as a
+/// permission or stored.
 pub fn permissions_stay()
     ensures { PermissionsStay }
 {}
@@ -25,7 +27,8 @@ pub fn moves_keep_permissions()
     ensures { MovesKeepPermissions }
 {}
 
-/// A permission with another content leaves sound shards sound, and the state that they make.
+/// A permission with another content leaves sound shards sound, and the state that they make, where there are at most 32
+/// fields.
 pub fn writes_keep_shards()
     ensures { WritesKeepShards }
 {}
@@ -51,13 +54,24 @@ pub fn widths_agree()
     ensures { WidthsAgree }
 {}
 
+/// Of a count and of a multiset a sum on the way leaves signed 128 bits exactly where the joined field does.
+pub fn parts_agree()
+    ensures { PartsAgree }
+{}
+
+/// Where tokens, records and stored objects are within signed 128 bits, and there are fewer than 2^127 tokens, each joined
+/// field is exactly where each partial sum of a count is.
+pub fn states_fit()
+    ensures { StatesFit }
+{}
+
 /// An exchange whose tokens are there, and whose requires are true, succeeds: no store lacks what it asks for.
 pub fn exchanges_progress()
     ensures { Progresses }
 {}
 
-/// An exchange answers a token that is missing or differs, at a slot that names one, or a require that is false, and
-/// nothing else.
+/// An exchange of a transition or property that stops answers a token that is missing or differs, at a slot that names
+/// one, or a require that is false, and nothing else.
 pub fn stops_are_holders()
     ensures { StopsAreHolders }
 {}
@@ -100,4 +114,32 @@ pub fn terms_are_exchanged()
 /// have the values of state, arguments and bound values, and the dues hold; and it leaves the values of the terms.
 pub fn exchanges_of_terms_follow()
     ensures { ExchangesOfTermsFollow }
+{}
+
+/// And nothing has to be known beforehand of what it binds or of what is stored: where the dues hold it succeeds,
+/// answers what is bound on the way, and each stored object that it looks for is there.
+pub fn exchanges_of_terms_succeed()
+    ensures { ExchangesOfTermsSucceed }
+{}
+
+/// Where the conditions of an init hold, as computed, it gives the state that is computed.
+pub fn conditions_make_starts()
+    ensures { ConditionsMakeStarts }
+{}
+
+/// An exchange of an init that succeeds binds no name and goes along the valuation of its arguments; its conditions
+/// hold there, as computed, and what is left is of the state that is computed.
+pub fn starts_go_along()
+    ensures { StartsGoAlong }
+{}
+
+/// And where each statement finds what it asks along this valuation, it succeeds.
+pub fn starts_follow()
+    ensures { StartsFollow }
+{}
+
+/// So the exchange of an init succeeds where the terms of its parameters have the values of the arguments, and the dues
+/// hold; and it leaves the values of the terms.
+pub fn starts_of_terms_follow()
+    ensures { StartsOfTermsFollow }
 {}

@@ -13,7 +13,7 @@ use Rattle.sync_machine.specs.States.{State, Value, Number, Mapped, sort_of, val
 use Rattle.sync_machine.specs.Scope.{Known}
 use Rattle.sync_induct.proofs.Scoped.{IsConditionIn, AreConditionsIn}
 use Rattle.sync_rules.specs.Obligations.{form_names, touches, is_touched, has_to_keep}
-use Rattle.sync_kernel.specs.Facts.{Fact}
+use Rattle.sync_kernel_facts.specs.Facts.{Fact}
 use Rattle.sync_induct.specs.Duties.{Duty, condition_facts, step_facts, safety_duties, facts_behind, closing, keeps_duties, as_hypotheses, IsProved}
 use Rattle.sync_induct.proofs.DutyLists.{step_duties, operation_duties, duties_from, AreProved}
 use Rattle.sync_terms.specs.declared.proofs.Claim.TheVariants as claims

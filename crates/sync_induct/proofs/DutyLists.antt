@@ -6,7 +6,7 @@ use Rattle.sync_machine.specs.declared.fields.Field.{Field}
 use Rattle.sync_machine.specs.Machines.{StepTree, OperationTree, InvariantTree, MachineTree}
 use Rattle.sync_machine.specs.Statements.{safety}
 use Rattle.sync_machine.specs.States.{strategy_of, current_of, advanced, last_values, first_values}
-use Rattle.sync_kernel.specs.Facts.{Fact}
+use Rattle.sync_kernel_facts.specs.Facts.{Fact}
 use Rattle.sync_induct.specs.Duties.{Duty, safety_duties, step_facts, facts_behind, keeps_duties, base_facts, IsProved}
 
 -- The safety conditions of statements that are numbered from n: each from the facts before its statement.

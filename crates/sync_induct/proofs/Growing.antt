@@ -5,8 +5,8 @@ use Rattle.std.specs.List.{AllByRecursion}
 use Rattle.std.proofs.lemmas.List.{map-set}
 use Rattle.sync_terms.specs.declared.nodes.TermId.{TermId}
 use Rattle.sync_terms.specs.Stored.{Stored, tree, IsTerm}
-use Rattle.sync_kernel.specs.declared.sequents.Hyp.{Hyp}
-use Rattle.sync_kernel.specs.Facts.{fact_of}
+use Rattle.sync_kernel_facts.specs.declared.sequents.Hyp.{Hyp}
+use Rattle.sync_kernel_facts.specs.Facts.{fact_of}
 use Rattle.sync_kernel.specs.Hypotheses.{AreReady, known_in}
 use Rattle.sync_induct.specs.declared.walks.Walk.{Walk}
 use Rattle.sync_induct.specs.Walks.{values_of, known_of, IsWalk, HasCome, values_with}

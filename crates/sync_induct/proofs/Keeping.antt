@@ -15,7 +15,7 @@ use Rattle.sync_terms.proofs.Extending.{Extends-trans}
 use Rattle.sync_machine.specs.declared.machine.Invariant.{Invariant}
 use Rattle.sync_machine.specs.Machines.{InvariantTree, OperationTree}
 use Rattle.sync_machine.specs.Views.{invariant_tree, symbols_of}
-use Rattle.sync_kernel.specs.Facts.{Fact}
+use Rattle.sync_kernel_facts.specs.Facts.{Fact}
 use Rattle.sync_terms.specs.declared.proofs.Claim.TheVariants as claims
 use Rattle.sync_terms.specs.declared.proofs.Obligation.{Obligation}
 use Rattle.sync_rules.specs.Obligations.{has_to_keep}

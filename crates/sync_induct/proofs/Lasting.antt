@@ -13,7 +13,7 @@ use Rattle.sync_machine.specs.Machines.{ActTree, StepTree}
 use Rattle.sync_machine.specs.declared.machine.Operation.{Operation}
 use Rattle.sync_machine.specs.Views.{invariant_tree, operation_tree, symbols_of, step_tree, steps_tree, HasActIds}
 use Rattle.sync_induct_acts.proofs.Lasting.{act-stays}
-use Rattle.sync_kernel.specs.Facts.{Fact}
+use Rattle.sync_kernel_facts.specs.Facts.{Fact}
 use Rattle.sync_kernel.specs.Hypotheses.{AreReady, known_in}
 use Rattle.sync_kernel.proofs.Assuming.{AreReady-more, known_in-more}
 use Rattle.sync_induct.specs.declared.walks.Walk.{Walk}

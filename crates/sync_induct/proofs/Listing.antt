@@ -11,7 +11,7 @@ use Rattle.sync_machine.specs.Machines.{ActTree, Init, Require, Assert, Update, 
 use Rattle.sync_machine.specs.Statements.{safety, freshness, condition, after}
 use Rattle.sync_machine.specs.States.{strategy_of, current_of, advanced, first_values, last_values}
 use Rattle.sync_rules.specs.Obligations.{has_safety, safety_claims, has_to_keep, keeps_claims, claims_of}
-use Rattle.sync_kernel.specs.Facts.{Fact}
+use Rattle.sync_kernel_facts.specs.Facts.{Fact}
 use Rattle.sync_induct_acts.specs.Conditions.{condition_size}
 use Rattle.sync_induct.specs.Duties.{Duty, safety_duties, step_facts, facts_behind, kept_duty, keeps_duties, base_facts}
 use Rattle.sync_induct.specs.Checklist.{Check, Proves, Fits, proves, statement_checks, step_checks, operation_checks, checks_from}

@@ -18,7 +18,7 @@ use Rattle.sync_machine.specs.declared.machine.Operation.{Operation}
 use Rattle.sync_machine.specs.Machines.{InvariantTree, OperationTree}
 use Rattle.sync_machine.specs.States.{first_values, last_values}
 use Rattle.sync_machine.specs.Views.{steps_tree, invariant_tree, operation_tree, HasActIds}
-use Rattle.sync_kernel.specs.Facts.{Fact}
+use Rattle.sync_kernel_facts.specs.Facts.{Fact}
 use Rattle.sync_induct.specs.declared.index.Title.{Title}
 use Rattle.sync_induct.specs.declared.walks.Walk.{Walk}
 use Rattle.sync_induct.specs.Checklist.{Check, proves, step_checks, operation_checks, checks_from, AreShown}

@@ -5,7 +5,7 @@ use Rattle.sync_machine.specs.declared.fields.Field.{Field}
 use Rattle.sync_machine.specs.Machines.{StepTree, OperationTree, InvariantTree, MachineTree}
 use Rattle.sync_machine.specs.Statements.{safety}
 use Rattle.sync_machine.specs.States.{strategy_of, current_of, advanced, first_values, last_values}
-use Rattle.sync_kernel.specs.Facts.{Fact}
+use Rattle.sync_kernel_facts.specs.Facts.{Fact}
 use Rattle.sync_induct.specs.Duties.{Duty, safety_duties, step_facts, facts_behind, keeps_duties, base_facts}
 use Rattle.sync_induct.proofs.DutyLists.{step_duties, operation_duties, duties_from, duties_of, AreProved}
 use Rattle.sync_induct.specs.Checklist.{Check, proves, statement_checks, step_checks, operation_checks, checks_from, checks_of, AreShown}

@@ -17,7 +17,7 @@ use Rattle.sync_machine.specs.States.{State, Sort, Numbers, Maps, sort_of, value
 use Rattle.sync_machine.specs.Scope.{Known, IsNumber, IsMap, IsFormula, HasSort, knows, IsNameSymbol, IsScopedInvariant, ChangesNothing}
 use Rattle.sync_induct.proofs.Scoped.{IsScopedOperation, IsScoped}
 use Rattle.sync_rules.specs.Obligations.{names, form_names, is_kept_by}
-use Rattle.sync_kernel.specs.Facts.{Fact}
+use Rattle.sync_kernel_facts.specs.Facts.{Fact}
 use Rattle.sync_induct.specs.Duties.{invariant_facts, facts_behind, keeps_duties, closing, base_facts, as_hypotheses, IsProved}
 use Rattle.sync_induct.proofs.DutyLists.{step_duties, duties_of, AreProved}
 use Rattle.sync_induct.proofs.Agreement.{Agree, Agree-part, num-agree, mapped-agree, truth-agree, composed, truth-replaced}

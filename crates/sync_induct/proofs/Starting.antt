@@ -13,7 +13,7 @@ use Rattle.sync_machine.specs.declared.machine.Invariant.{Invariant}
 use Rattle.sync_machine.specs.Machines.{InvariantTree}
 use Rattle.sync_machine.specs.States.{sort_of, blank, first_values}
 use Rattle.sync_machine.specs.Views.{invariant_tree}
-use Rattle.sync_kernel.specs.Facts.{Fact}
+use Rattle.sync_kernel_facts.specs.Facts.{Fact}
 use Rattle.sync_kernel.specs.Hypotheses.{AreReady, known_in}
 use Rattle.sync_induct.specs.declared.walks.Walk.{Walk}
 use Rattle.sync_induct.specs.Duties.{invariant_facts, base_facts}

@@ -6,7 +6,7 @@ use Rattle.sync_terms.specs.Trees.{Tree}
 use Rattle.sync_machine.specs.declared.fields.Field.{Field}
 use Rattle.sync_machine.specs.Machines.{StepTree}
 use Rattle.sync_machine.specs.States.{strategy_of, current_of, advanced, last_values}
-use Rattle.sync_kernel.specs.Facts.{Fact}
+use Rattle.sync_kernel_facts.specs.Facts.{Fact}
 use Rattle.sync_induct.specs.Checks.{checks_fault}
 use Rattle.sync_terms.specs.Proofs.{ProofTree}
 use Rattle.sync_induct.specs.Duties.{step_facts, facts_behind}

@@ -7,7 +7,7 @@ use Rattle.sync_base.specs.declared.strategies.Strategy.{Strategy}
 use Rattle.sync_machine.specs.Machines.{StepTree, OperationTree, InvariantTree, MachineTree}
 use Rattle.sync_machine.specs.Statements.{safety, condition, after}
 use Rattle.sync_machine.specs.States.{strategy_of, current_of, advanced, last_values, first_values}
-use Rattle.sync_kernel.specs.Facts.{Fact}
+use Rattle.sync_kernel_facts.specs.Facts.{Fact}
 use Rattle.sync_induct_acts.specs.Conditions.{condition_size}
 use Rattle.sync_induct.specs.Duties.{Duty, IsProved, safety_duties, step_facts, facts_behind, keeps_duties, base_facts}
 

@@ -10,7 +10,7 @@ use Rattle.sync_terms.specs.Stored.{Stored, formula}
 use Rattle.sync_machine.specs.Machines.{MachineTree}
 use Rattle.sync_terms.specs.declared.proofs.Obligation.{Obligation}
 use Rattle.sync_rules.specs.Obligations.{obligations_of}
-use Rattle.sync_kernel.specs.Facts.{Fact, facts_size}
+use Rattle.sync_kernel_facts.specs.Facts.{Fact, facts_size}
 use Rattle.sync_kernel.specs.Hypotheses.{known_in}
 use Rattle.sync_terms.specs.Plans.{Plan, plan_of, IsScriptOf}
 use Rattle.sync_kernel.specs.Scripts.{script_fault}

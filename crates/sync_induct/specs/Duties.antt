@@ -15,7 +15,7 @@ use Rattle.sync_terms.specs.declared.proofs.Claim.TheVariants as claims
 use Rattle.sync_terms.specs.declared.proofs.Obligation.{Obligation}
 use Rattle.sync_rules.specs.Obligations.{has_to_keep}
 use Rattle.sync_terms.specs.Values.{Hypothesis}
-use Rattle.sync_kernel.specs.Facts.{Fact, as_hypothesis}
+use Rattle.sync_kernel_facts.specs.Facts.{Fact, as_hypothesis}
 
 -- an obligation as a sequent: what may be used, and what has to follow from it
 pub record Duty : Type 0 where

@@ -10,7 +10,7 @@ use Rattle.sync_machine.specs.Machines.{StepTree}
 use Rattle.sync_machine.specs.Statements.{safety, condition, after}
 use Rattle.sync_machine.specs.States.{strategy_of, current_of, advanced}
 use Rattle.sync_machine.specs.Views.{act_tree, step_tree, HasActIds}
-use Rattle.sync_kernel.specs.Facts.{Fact}
+use Rattle.sync_kernel_facts.specs.Facts.{Fact}
 use Rattle.sync_kernel.specs.Hypotheses.{AreReady, known_in}
 use Rattle.sync_induct.specs.declared.statements.Statement.{Statement}
 use Rattle.sync_induct.specs.declared.walks.Walk.{Walk}

@@ -7,7 +7,7 @@ ghost use Rattle.sync_induct.specs.Checks.{checks_fault};
 ghost use Rattle.sync_terms.specs.Proofs.{proofs_in};
 ghost use Rattle.sync_induct.specs.Checklist.{AreShown, step_checks};
 ghost use Rattle.sync_induct.specs.Duties.{facts_behind};
-ghost use Rattle.sync_kernel.specs.Facts.{fact_of};
+ghost use Rattle.sync_kernel_facts.specs.Facts.{fact_of};
 ghost use Rattle.sync_machine.specs.States.{last_values};
 ghost use Rattle.sync_machine.specs.Views.{steps_tree, HasActIds};
 

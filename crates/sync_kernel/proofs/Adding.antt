@@ -18,15 +18,15 @@ use Rattle.sync_terms.specs.Trees.{Formula, neg, formula_size}
 use Rattle.sync_terms.specs.Values.{Hypothesis}
 use Rattle.sync_terms.specs.Stored.{Stored, Extends, IsForm, formula}
 use Rattle.sync_terms.specs.Building.{BuildsForm}
-use Rattle.sync_kernel.specs.declared.literals.Literal.{Literal}
+use Rattle.sync_kernel_facts.specs.declared.literals.Literal.{Literal}
 use Rattle.sync_kernel.specs.declared.splits.Pair.{Pair}
-use Rattle.sync_kernel.specs.declared.branches.Said.{Said}
-use Rattle.sync_kernel.specs.declared.branches.Known.{Known}
-use Rattle.sync_kernel.specs.declared.sequents.Hyp.{Hyp}
-use Rattle.sync_kernel.specs.Facts.{Fact, fact_of, denied, as_hypothesis, named, facts_size}
-use Rattle.sync_kernel.specs.Steps.{is_plain}
-use Rattle.sync_kernel.specs.Literals.{literal_form, IsLiteral, pair_forms, TakesApart}
-use Rattle.sync_kernel.specs.Branches.{said_fact, facts_in, IsSaid, AreSaid, said_size, Begins}
+use Rattle.sync_kernel_facts.specs.declared.branches.Said.{Said}
+use Rattle.sync_kernel_facts.specs.declared.branches.Known.{Known}
+use Rattle.sync_kernel_facts.specs.declared.sequents.Hyp.{Hyp}
+use Rattle.sync_kernel_facts.specs.Facts.{Fact, fact_of, denied, as_hypothesis, named, facts_size, is_plain}
+use Rattle.sync_kernel_facts.specs.Literals.{literal_form, IsLiteral}
+use Rattle.sync_kernel.specs.Pairs.{pair_forms, TakesApart}
+use Rattle.sync_kernel_facts.specs.Branches.{said_fact, facts_in, IsSaid, AreSaid, said_size, Begins}
 use Rattle.sync_kernel.specs.Taking.{Two, parts_of, plain_fact, taken}
 use Rattle.sync_kernel.specs.Scripts.{with_fact, fitting, Cases, cases_with, both_fitting}
 use Rattle.sync_kernel.specs.Holding.{IsKnown, StopsFor, Leaves, large_stop}

@@ -8,14 +8,14 @@ use Rattle.sync_terms.specs.declared.scripts.HypName.TheVariants.{Denied}
 use Rattle.sync_terms.specs.Trees.{most_nodes}
 use Rattle.sync_terms.specs.Trees.{neg}
 use Rattle.sync_terms.specs.Stored.{Stored, Extends, formula}
-use Rattle.sync_kernel.specs.declared.branches.Said.{Said}
+use Rattle.sync_kernel_facts.specs.declared.branches.Said.{Said}
 use Rattle.sync_kernel.specs.declared.hypotheses.Hypotheses.{Hypotheses}
-use Rattle.sync_kernel.specs.declared.sequents.Hyp.{Hyp}
+use Rattle.sync_kernel_facts.specs.declared.sequents.Hyp.{Hyp}
 use Rattle.sync_terms.proofs.Extending.{Extends-refl}
-use Rattle.sync_kernel.specs.Branches.{said_fact, facts_in, IsSaid, AreSaid, said_size, Begins}
-use Rattle.sync_kernel.specs.Facts.{Fact, fact_of, denial, facts_size}
+use Rattle.sync_kernel_facts.specs.Branches.{said_fact, facts_in, IsSaid, AreSaid, said_size, Begins}
+use Rattle.sync_kernel_facts.specs.Facts.{Fact, fact_of, denial, facts_size}
 use Rattle.sync_kernel.specs.Hypotheses.{AreReady, known_in}
-use Rattle.sync_kernel.specs.Literals.{literal_form}
+use Rattle.sync_kernel_facts.specs.Literals.{literal_form}
 use Rattle.sync_kernel.specs.Notes.{AreNotes}
 use Rattle.sync_kernel.proofs.Adding.{start_fact, started_facts}
 use Rattle.sync_kernel.proofs.Checking.{begins_before}

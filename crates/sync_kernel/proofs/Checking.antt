@@ -19,15 +19,16 @@ use Rattle.sync_terms.specs.Trees.{Formula}
 use Rattle.sync_terms.specs.Stored.{Stored, Extends, formula}
 use Rattle.sync_terms.specs.Plans.{Plan, End, kind_plan, steps_before, plan_of, IsScriptOf}
 use Rattle.sync_terms.proofs.Extending.{Extends-refl, Extends-trans}
-use Rattle.sync_kernel.specs.declared.literals.Literal.{Literal}
+use Rattle.sync_kernel_facts.specs.declared.literals.Literal.{Literal}
 use Rattle.sync_kernel.specs.declared.splits.Pair.{Pair}
-use Rattle.sync_kernel.specs.declared.branches.Said.{Said}
+use Rattle.sync_kernel_facts.specs.declared.branches.Said.{Said}
 use Rattle.sync_kernel.specs.contracts.steps.Left.{the_type}
 use Rattle.sync_kernel.specs.declared.steps.Left.{Left}
 use Rattle.sync_kernel.specs.declared.steps.Left.TheVariants.{Open, Closed}
-use Rattle.sync_kernel.specs.Facts.{Fact, named}
-use Rattle.sync_kernel.specs.Branches.{said_fact, facts_in, AreSaid, Begins}
-use Rattle.sync_kernel.specs.Literals.{literal_form, IsLiteral, pair_forms}
+use Rattle.sync_kernel_facts.specs.Facts.{Fact, named}
+use Rattle.sync_kernel_facts.specs.Branches.{said_fact, facts_in, AreSaid, Begins}
+use Rattle.sync_kernel_facts.specs.Literals.{literal_form, IsLiteral}
+use Rattle.sync_kernel.specs.Pairs.{pair_forms}
 use Rattle.sync_kernel.specs.Scripts.{then_of, IsStepOf, with_fact, Cases, cases_with, with_cases, with_cut, after, going, block_fault}
 use Rattle.sync_kernel.specs.Holding.{Refuses, StopsFor, Leaves, StepPasses}
 use Rattle.sync_kernel.proofs.Fitting.{facts-more, facts-push, literal-more, Begins-refl}

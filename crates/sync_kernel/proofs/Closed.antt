@@ -5,9 +5,9 @@ use Rattle.std.proofs.lemmas.Bool.{and_parts, and_from, or_cases, or_left, or_ri
 use Rattle.std.proofs.lemmas.List.{take-take, take-append-drop}
 use Rattle.std.proofs.lemmas.List.Folds.{list_any-append}
 use Rattle.sync_terms.specs.Trees.{Formula, Le, Lt, Eq, Not, And, Or, Imp}
-use Rattle.sync_kernel.specs.Facts.{Fact}
+use Rattle.sync_kernel_facts.specs.Facts.{Fact, is_plain}
 use Rattle.sync_kernel.specs.Rows.{row_of, formula_eq}
-use Rattle.sync_kernel.specs.Steps.{is_plain, is_false_row}
+use Rattle.sync_kernel.specs.Steps.{is_false_row}
 use Rattle.sync_kernel.specs.Opposed.{is_fact, is_undone, is_closing, is_closing_with, closes_same}
 use Rattle.sync_kernel.specs.Seen.{is_closed}
 use Rattle.sync_kernel.proofs.Opposing.{Among, any_from, any_to, any_push, same_bool, same_formula, formula_is}

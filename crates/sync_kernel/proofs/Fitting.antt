@@ -8,12 +8,13 @@ use Rattle.sync_terms.specs.declared.nodes.Sym.{Sym}
 use Rattle.sync_terms.specs.Trees.{most_nodes}
 use Rattle.sync_terms.specs.Trees.{Formula, Not, formula_size}
 use Rattle.sync_terms.specs.Stored.{Stored, formula, Extends}
-use Rattle.sync_kernel.specs.declared.literals.Literal.{Literal}
+use Rattle.sync_kernel_facts.specs.declared.literals.Literal.{Literal}
 use Rattle.sync_kernel.specs.declared.splits.Pair.{Pair}
-use Rattle.sync_kernel.specs.declared.branches.Said.{Said}
-use Rattle.sync_kernel.specs.Facts.{Fact, named, facts_size}
-use Rattle.sync_kernel.specs.Literals.{literal_form, IsLiteral, pair_forms, IsPair}
-use Rattle.sync_kernel.specs.Branches.{said_fact, facts_in, IsSaid, AreSaid, said_size, Begins}
+use Rattle.sync_kernel_facts.specs.declared.branches.Said.{Said}
+use Rattle.sync_kernel_facts.specs.Facts.{Fact, named, facts_size}
+use Rattle.sync_kernel_facts.specs.Literals.{literal_form, IsLiteral}
+use Rattle.sync_kernel.specs.Pairs.{pair_forms, IsPair}
+use Rattle.sync_kernel_facts.specs.Branches.{said_fact, facts_in, IsSaid, AreSaid, said_size, Begins}
 use Rattle.sync_kernel.specs.Taking.{Two}
 use Rattle.sync_kernel.specs.Scripts.{with_fact, fitting, cases_with, both_fitting}
 

@@ -21,13 +21,13 @@ use Rattle.sync_terms.specs.Trees.{most_nodes}
 use Rattle.sync_terms.specs.Trees.{Tree, Name, Formula, Not, formula_size, replaced_in}
 use Rattle.sync_terms.specs.Stored.{Stored, tree, formula, IsTerm, IsForm}
 use Rattle.sync_terms.specs.Substitution.{term_of, substitution}
-use Rattle.sync_kernel.specs.declared.branches.Said.{Said}
-use Rattle.sync_kernel.specs.Facts.{Fact, same_name, newest}
-use Rattle.sync_kernel.specs.Literals.{literal_form}
-use Rattle.sync_kernel.specs.Branches.{said_fact, facts_in, IsSaid, AreSaid, newest_said}
+use Rattle.sync_kernel_facts.specs.declared.branches.Said.{Said}
+use Rattle.sync_kernel_facts.specs.Facts.{Fact, same_name, newest}
+use Rattle.sync_kernel_facts.specs.Literals.{literal_form}
+use Rattle.sync_kernel_facts.specs.Branches.{said_fact, facts_in, IsSaid, AreSaid, newest_said}
 use Rattle.sync_kernel.specs.Taking.{by_params, instance}
 use Rattle.sync_kernel.specs.Holding.{Makes, large_stop}
-use Rattle.sync_kernel.proofs.Stacking.{newest_in}
+use Rattle.sync_kernel_facts.proofs.Stacking.{newest_in}
 use Rattle.sync_kernel.proofs.Stepping.{large_stops}
 
 abbrev pub numbers : List Sym → List ℕ

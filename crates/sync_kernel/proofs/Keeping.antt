@@ -1,32 +1,21 @@
 -- The lines that sums have computed, while one more is computed.
-use Rattle.std.proofs.Common.{◌≡◌, ℕ, Bool, true, false, cond, Option, Some, None, refl, sym, ap, subst, ◌∙◌}
-use Rattle.std.specs.Prelude.{nat_eq, option_map, if◌then◌else◌}
-use Rattle.std.specs.Bool.{beq}
-use Rattle.std.proofs.lemmas.Bool.{and_parts, eqb-true, cond-true, cond-false}
+use Rattle.std.proofs.Common.{◌≡◌, Bool, true, false, cond, Option, Some, None, refl, sym, ap, subst, ◌∙◌}
+use Rattle.std.specs.Prelude.{option_map, if◌then◌else◌}
+use Rattle.std.proofs.lemmas.Bool.{cond-true, cond-false}
 use Rattle.sync_terms.specs.Stored.{Stored}
 use Rattle.sync_linear.specs.Lines.{Line}
 use Rattle.sync_linear.specs.Forms.{Narrow}
 use Rattle.sync_linear.specs.Stores.{IsLineOf}
-use Rattle.sync_kernel.specs.declared.literals.Literal.{Literal}
-use Rattle.sync_kernel.specs.declared.branches.Known.{Known}
+use Rattle.sync_kernel_facts.specs.declared.literals.Literal.{Literal}
+use Rattle.sync_kernel_facts.specs.declared.branches.Known.{Known}
 use Rattle.sync_kernel.specs.declared.rows.Shape.{Shape}
 use Rattle.sync_kernel.specs.Shapes.{row_shaped}
-use Rattle.sync_kernel.specs.Literals.{literal_form, IsLiteral, same_literal}
+use Rattle.sync_kernel_facts.proofs.Trailing.{literal_is}
+use Rattle.sync_kernel_facts.specs.Literals.{literal_form, IsLiteral, same_literal}
 use Rattle.sync_kernel.specs.Rows.{Row, row_of}
 use Rattle.sync_terms.proofs.Extending.{Extends-refl}
 use Rattle.sync_kernel.specs.declared.lines.Lines.{Lines}
 use Rattle.sync_kernel.specs.SumLines.{IsRowLine, WasLine, line_in, WereLines}
-
-same_sign : (a b : Bool) → beq a b ≡ true → a ≡ b
-same_sign true true e = refl
-same_sign false false e = refl
-same_sign true false e = absurd (cc)
-same_sign false true e = absurd (cc)
-
-pub literal_is : (a b : Literal) → same_literal a b ≡ true → a ≡ b
-literal_is a b e =
-    let p = and_parts (nat_eq a.form.0 b.form.0) (beq a.negated b.negated) e in
-    ap (λ (n : ℕ). record { form = record { 0 = n }; negated = a.negated }) (eqb-true a.form.0 b.form.0 p.0) ∙ ap (λ (x : Bool). record { form = b.form; negated = x }) (same_sign a.negated b.negated p.1)
 
 pub no_lines : (s : Stored) (lines : Lines) → ((l : Literal) → line_in lines l ≡ None) → WereLines s lines
 no_lines s lines e = λ l x h. absurd (cc (e l))

@@ -4,13 +4,11 @@ pub mod Closing
 pub mod Ids
 pub mod Scripting
 pub mod Instances
-pub mod Saying
+pub mod TakenApart
 pub mod Takings
 pub mod Opposing
 pub mod Refuting
-pub mod Names
 pub mod Fitting
-pub mod Stacking
 pub mod Stepping
 pub mod Adding
 pub mod Instancing
@@ -19,7 +17,6 @@ pub mod Keeping
 pub mod Parts
 pub mod LineRows
 pub mod SameSteps
-pub mod Trailing
 pub mod Closed
 pub mod Seeing
 pub mod Renewing

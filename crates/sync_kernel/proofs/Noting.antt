@@ -1,9 +1,9 @@
 -- What is kept beside the facts of a branch, while the branch and the store grow.
 use Rattle.std.proofs.Common.{List}
 use Rattle.sync_terms.specs.Stored.{Stored, Extends}
-use Rattle.sync_kernel.specs.declared.branches.Said.{Said}
+use Rattle.sync_kernel_facts.specs.declared.branches.Said.{Said}
 use Rattle.sync_kernel.specs.declared.notes.Notes.{Notes}
-use Rattle.sync_kernel.specs.Branches.{facts_in, AreSaid, Begins}
+use Rattle.sync_kernel_facts.specs.Branches.{facts_in, AreSaid, Begins}
 use Rattle.sync_kernel.specs.Notes.{AreNotes}
 use Rattle.sync_kernel.proofs.Renewing.{lines-more}
 use Rattle.sync_kernel.proofs.Seeing.{seen_grows}

@@ -11,9 +11,9 @@ use Rattle.sync_terms.specs.Values.{Valuation, truth, Holds}
 use Rattle.sync_terms.specs.Stored.{Stored, formula, IsForm, IsShared}
 use Rattle.sync_linear.specs.Forms.{tree_eq}
 use Rattle.sync_linear.proofs.Trees.{same_tree, tree_is}
-use Rattle.sync_kernel.specs.Facts.{Fact}
+use Rattle.sync_kernel_facts.specs.Facts.{Fact, is_plain}
 use Rattle.sync_kernel.specs.Rows.{row_of, formula_eq}
-use Rattle.sync_kernel.specs.Steps.{is_plain, is_opposed, is_false_row, same_fault}
+use Rattle.sync_kernel.specs.Steps.{is_opposed, is_false_row, same_fault}
 use Rattle.sync_kernel.specs.Opposed.{is_undone, closes_same}
 use Rattle.sync_kernel.proofs.Sound.{AllHold, truth_neg, false_row_refutes, not_true}
 

@@ -20,15 +20,15 @@ use Rattle.sync_linear.specs.Forms.{IsWithin, Narrow}
 use Rattle.sync_linear.specs.Stores.{IsLineOf}
 use Rattle.sync_linear.proofs.Spines.{zero_line}
 use Rattle.sync_linear.proofs.Joins.{join_line, join_fits, fits_line}
-use Rattle.sync_kernel.specs.declared.branches.Known.{Known}
+use Rattle.sync_kernel_facts.specs.declared.branches.Known.{Known}
 use Rattle.sync_kernel.specs.declared.rows.Shape.{Shape}
 use Rattle.sync_kernel.specs.declared.rows.Used.{Used}
 use Rattle.sync_kernel.specs.declared.sums.Summed.{Summed}
-use Rattle.sync_kernel.specs.Facts.{Fact, newest}
+use Rattle.sync_kernel_facts.specs.Facts.{Fact, newest}
 use Rattle.sync_kernel.specs.Rows.{Row, row_of, within, narrow}
 use Rattle.sync_kernel.specs.Steps.{at_line, usable, is_turned, fits_in, Next, with_row, with_part, is_equation, one_apart, go_on, added, sum_fault}
 use Rattle.sync_kernel.specs.Shapes.{row_shaped}
-use Rattle.sync_kernel.specs.Literals.{literal_form, IsLiteral}
+use Rattle.sync_kernel_facts.specs.Literals.{literal_form, IsLiteral}
 use Rattle.sync_kernel.specs.Holding.{IsKnown, stop_of, StepGives}
 use Rattle.sync_kernel.proofs.Atoms.{within_is, is_within, narrow_is, is_narrow}
 

@@ -17,8 +17,8 @@ use Rattle.sync_terms.specs.Plans.{Plan, End, Same, Sum, Inst, Parts, Split, Cut
 use Rattle.sync_terms.proofs.Meaning.{truth-neg}
 use Rattle.sync_kernel_facts.specs.Lemmas.{cong_fact, read_fact, size_fact, total_fact}
 use Rattle.sync_kernel_facts.specs.Laws.{AreTrue}
-use Rattle.sync_kernel.specs.Facts.{Fact, same_name, newest, denial, as_hypothesis, facts_size}
-use Rattle.sync_kernel.specs.Steps.{at_line, no_params, is_plain, same_fault, sum_fault}
+use Rattle.sync_kernel_facts.specs.Facts.{Fact, same_name, newest, denial, as_hypothesis, facts_size, no_params, is_plain}
+use Rattle.sync_kernel.specs.Steps.{at_line, same_fault, sum_fault}
 use Rattle.sync_kernel.specs.Taking.{Two, parts_of, cases_of, plain_fact, taken, by_params, instance}
 use Rattle.sync_kernel.specs.Scripts.{with_fact, fitting, with_instance, with_parts, Cases, cases_with, both_fitting, with_cases, with_cut, after, going, block_fault, script_fault}
 use Rattle.sync_kernel.proofs.Sound.{AllHold, sum_refutes}

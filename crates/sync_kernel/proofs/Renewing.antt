@@ -11,9 +11,9 @@ use Rattle.sync_linear.specs.Lines.{Line, times}
 use Rattle.sync_linear.specs.Forms.{coefficient_of}
 use Rattle.sync_linear.specs.Stores.{HasId, HasAtoms, IsLineOf}
 use Rattle.sync_linear.proofs.Joins.{none_or_stored}
-use Rattle.sync_kernel.specs.declared.literals.Literal.{Literal}
+use Rattle.sync_kernel_facts.specs.declared.literals.Literal.{Literal}
 use Rattle.sync_kernel.specs.declared.lines.Lines.{Lines}
-use Rattle.sync_kernel.specs.Literals.{literal_form}
+use Rattle.sync_kernel_facts.specs.Literals.{literal_form}
 use Rattle.sync_kernel.specs.Rows.{Row, row_of}
 use Rattle.sync_kernel.specs.SumLines.{IsRowLine, WasLine, WereLines}
 use Rattle.sync_kernel.proofs.Fitting.{literal-more}

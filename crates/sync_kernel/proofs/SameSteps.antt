@@ -14,15 +14,15 @@ use Rattle.sync_terms.specs.Stored.{Stored, formula, IsForm, IsShared}
 use Rattle.sync_linear.specs.Lines.{Line, IsLine}
 use Rattle.sync_linear.specs.Forms.{constant_of, Narrow}
 use Rattle.sync_linear.specs.Stores.{IsLineOf}
-use Rattle.sync_kernel.specs.declared.literals.Literal.{Literal}
+use Rattle.sync_kernel_facts.specs.declared.literals.Literal.{Literal}
 use Rattle.sync_kernel.specs.declared.rows.Shape.{Shape}
 use Rattle.sync_kernel.specs.declared.rows.Kind.{Kind}
 use Rattle.sync_kernel.specs.declared.rows.Kind.TheVariants.{AtMostZero, Zero, NotZero}
-use Rattle.sync_kernel.specs.Facts.{Fact}
+use Rattle.sync_kernel_facts.specs.Facts.{Fact}
 use Rattle.sync_kernel.specs.Rows.{Row, narrow, no_atom, is_false, formula_eq}
 use Rattle.sync_kernel.specs.Steps.{at_line, is_false_row, same_fault}
 use Rattle.sync_kernel.specs.Shapes.{row_shaped}
-use Rattle.sync_kernel.specs.Literals.{literal_form, IsLiteral, IsBare, same_literal, is_negation}
+use Rattle.sync_kernel_facts.specs.Literals.{literal_form, IsLiteral, IsBare, same_literal, is_negation}
 use Rattle.sync_kernel.specs.Opposed.{closes_same}
 use Rattle.sync_kernel.proofs.Atoms.{is_narrow, narrow_is}
 use Rattle.sync_kernel.proofs.Closing.{empty_is, is_empty, shown, above}

@@ -6,19 +6,18 @@ use Rattle.std.proofs.lemmas.List.{length_push, length-map, length-take, length-
 use Rattle.std.proofs.lemmas.Slice.Zip.{AllZip-long}
 use Rattle.sync_terms.specs.Trees.{Formula, Le, Lt, Eq, Not, And, Or, Imp}
 use Rattle.sync_terms.specs.Stored.{Stored, IsShared, Extends}
-use Rattle.sync_kernel.specs.declared.literals.Literal.{Literal}
-use Rattle.sync_kernel.specs.declared.branches.Said.{Said}
-use Rattle.sync_kernel.specs.declared.branches.Held.{Held}
+use Rattle.sync_kernel_facts.specs.declared.literals.Literal.{Literal}
+use Rattle.sync_kernel_facts.specs.declared.branches.Said.{Said}
+use Rattle.sync_kernel_facts.specs.declared.branches.Held.{Held}
 use Rattle.sync_kernel.specs.declared.seen.Seen.{Seen}
-use Rattle.sync_kernel.specs.Facts.{Fact}
-use Rattle.sync_kernel.specs.Branches.{said_fact, facts_in, AreSaid, Begins}
-use Rattle.sync_kernel.specs.Literals.{literal_form, IsLiteral, IsBare, is_negation}
+use Rattle.sync_kernel_facts.specs.Facts.{Fact, is_plain}
+use Rattle.sync_kernel_facts.specs.Branches.{said_fact, facts_in, AreSaid, Begins}
+use Rattle.sync_kernel_facts.specs.Literals.{literal_form, IsLiteral, IsBare, is_negation, denied_by, IsEntry}
 use Rattle.sync_kernel.specs.Rows.{formula_eq}
-use Rattle.sync_kernel.specs.Steps.{is_plain}
 use Rattle.sync_kernel.specs.Opposed.{is_fact, is_undone, is_closing_with}
-use Rattle.sync_kernel.specs.Stacks.{saids}
-use Rattle.sync_kernel.specs.Trails.{has_entry}
-use Rattle.sync_kernel.specs.Seen.{denied_by, says, denies, IsEntry, is_closed, HasSeen, seen_count, IsSeen}
+use Rattle.sync_kernel_facts.specs.Stacks.{saids}
+use Rattle.sync_kernel_facts.specs.Trails.{has_entry}
+use Rattle.sync_kernel.specs.Seen.{says, denies, is_closed, HasSeen, seen_count, IsSeen}
 use Rattle.sync_kernel.proofs.Fitting.{facts-more, literal-more, IsLiteral-more}
 use Rattle.sync_kernel.proofs.SameSteps.{literals_tell}
 use Rattle.sync_kernel.proofs.Closed.{closed_with, closed_take, open_before}

@@ -20,9 +20,9 @@ use Rattle.sync_linear.proofs.Ring.{times_zero}
 use Rattle.sync_kernel.specs.declared.rows.Kind.{Kind}
 use Rattle.sync_kernel.specs.declared.rows.Kind.TheVariants.{AtMostZero, Zero, NotZero}
 use Rattle.sync_kernel.specs.declared.rows.Used.{Used}
-use Rattle.sync_kernel.specs.Facts.{Fact, same_name, newest}
+use Rattle.sync_kernel_facts.specs.Facts.{Fact, same_name, newest, is_plain}
 use Rattle.sync_kernel.specs.Rows.{Row, row_of, row_of_not, narrow, no_atom, is_false}
-use Rattle.sync_kernel.specs.Steps.{is_plain, is_false_row, usable, is_turned, fits_in, Next, with_row, with_part, is_bound, is_equation, apart_first, one_apart, closes, go_on, added, sum_fault}
+use Rattle.sync_kernel.specs.Steps.{is_false_row, usable, is_turned, fits_in, Next, with_row, with_part, is_bound, is_equation, apart_first, one_apart, closes, go_on, added, sum_fault}
 use Rattle.sync_kernel.proofs.Atoms.{constant_value}
 
 -- what a line says of its value

@@ -14,18 +14,18 @@ use Rattle.sync_terms.specs.declared.store.TermStop.TheVariants as term
 use Rattle.sync_terms.specs.Trees.{most_nodes}
 use Rattle.sync_terms.specs.Trees.{Formula, formula_size}
 use Rattle.sync_terms.specs.Stored.{Stored}
-use Rattle.sync_kernel.specs.declared.literals.Literal.{Literal}
-use Rattle.sync_kernel.specs.declared.branches.Said.{Said}
-use Rattle.sync_kernel.specs.declared.branches.Known.{Known}
-use Rattle.sync_kernel.specs.Facts.{Fact, same_name, newest}
-use Rattle.sync_kernel.specs.Literals.{literal_form, IsLiteral}
-use Rattle.sync_kernel.specs.Branches.{said_fact, facts_in, IsSaid, AreSaid, newest_said}
-use Rattle.sync_kernel.specs.Knowing.{known_of}
+use Rattle.sync_kernel_facts.specs.declared.literals.Literal.{Literal}
+use Rattle.sync_kernel_facts.specs.declared.branches.Said.{Said}
+use Rattle.sync_kernel_facts.specs.declared.branches.Known.{Known}
+use Rattle.sync_kernel_facts.specs.Facts.{Fact, same_name, newest}
+use Rattle.sync_kernel_facts.specs.Literals.{literal_form, IsLiteral}
+use Rattle.sync_kernel_facts.specs.Branches.{said_fact, facts_in, IsSaid, AreSaid, newest_said}
+use Rattle.sync_kernel_facts.specs.Knowing.{known_of}
 use Rattle.sync_kernel.specs.Scripts.{with_fact, fitting, going}
 use Rattle.sync_kernel.specs.Holding.{IsKnown, StopsFor, Leaves, Refuses, Makes, large_stop}
 use Rattle.sync_kernel.proofs.Fitting.{not_fitting}
-use Rattle.sync_kernel.proofs.Stacking.{newest_in}
-use Rattle.sync_kernel.proofs.Names.{none_params}
+use Rattle.sync_kernel_facts.proofs.Stacking.{newest_in}
+use Rattle.sync_kernel_facts.proofs.Names.{none_params}
 
 -- ---- answers of any kind
 

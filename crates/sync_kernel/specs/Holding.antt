@@ -1,13 +1,11 @@
 -- What is known of a fact by its name, and how the code's answers compare with the definitions.
-use Rattle.std.specs.Prelude.{◌≡◌, ℕ, ◌<◌, Bool, List, Option, Some, None, Result, Ok, Err}
+use Rattle.std.specs.Prelude.{◌≡◌, ℕ, ◌<◌, List, Option, Some, None, Result, Ok, Err}
 use Rattle.std.specs.List.{AllByRecursion}
 use Rattle.sync_base.specs.declared.stops.Rule.{Rule}
 use Rattle.sync_base.specs.declared.stops.Rule.TheVariants.{K7, K8}
 use Rattle.sync_base.specs.declared.stops.Refusal.{Refusal}
 use Rattle.sync_base.specs.declared.stops.Stop.{Stop}
 use Rattle.sync_base.specs.declared.stops.Stop.TheVariants.{Refused, Memory}
-use Rattle.sync_terms.specs.declared.scripts.HypName.{HypName}
-use Rattle.sync_terms.specs.contracts.scripts.HypNamePartialEq.TheImpl.{eq-value}
 use Rattle.sync_terms.specs.declared.store.TermStop.{TermStop}
 use Rattle.sync_terms.specs.declared.store.TermStop.TheVariants as term
 use Rattle.sync_terms.specs.Trees.{most_nodes}
@@ -16,23 +14,20 @@ use Rattle.sync_terms.specs.Stored.{Stored, IsForm}
 use Rattle.sync_linear.specs.declared.stops.LinearStop.{LinearStop}
 use Rattle.sync_linear.specs.declared.stops.LinearStop.TheVariants as linear
 use Rattle.sync_linear.specs.Stores.{IsLineOf}
-use Rattle.sync_kernel.specs.declared.branches.Known.{Known}
-use Rattle.sync_kernel.specs.declared.literals.Literal.{Literal}
+use Rattle.sync_kernel_facts.specs.declared.branches.Known.{Known}
+use Rattle.sync_kernel_facts.specs.declared.literals.Literal.{Literal}
 use Rattle.sync_kernel.specs.declared.steps.Left.{Left}
 use Rattle.sync_kernel.specs.declared.steps.Left.TheVariants.{Open, Closed}
-use Rattle.sync_kernel.specs.declared.sequents.Hyp.{Hyp}
+use Rattle.sync_kernel_facts.specs.declared.sequents.Hyp.{Hyp}
 use Rattle.sync_kernel.specs.declared.sums.Summed.{Summed}
-use Rattle.sync_kernel.specs.Facts.{Fact}
-use Rattle.sync_kernel.specs.declared.branches.Said.{Said}
+use Rattle.sync_kernel_facts.specs.Facts.{Fact, is_plain}
+use Rattle.sync_kernel_facts.specs.declared.branches.Said.{Said}
 use Rattle.sync_kernel.specs.declared.splits.Pair.{Pair}
-use Rattle.sync_kernel.specs.Branches.{facts_in}
+use Rattle.sync_kernel_facts.specs.Branches.{facts_in}
 use Rattle.sync_kernel.specs.Scripts.{Cases, cases_with}
-use Rattle.sync_kernel.specs.Literals.{literal_form, IsLiteral, pair_forms}
-use Rattle.sync_kernel.specs.Steps.{is_plain, Next}
-
--- whether two names are the same, as the program's `==` tells
-abbrev pub equal_names : HypName → HypName → Bool
-equal_names = eq-value.it
+use Rattle.sync_kernel_facts.specs.Literals.{literal_form, IsLiteral}
+use Rattle.sync_kernel.specs.Pairs.{pair_forms}
+use Rattle.sync_kernel.specs.Steps.{Next}
 
 -- what is known is the fact, or there is none
 abbrev pub IsKnown : Stored → Option Known → Option Fact → Type 0

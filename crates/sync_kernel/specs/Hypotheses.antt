@@ -2,8 +2,8 @@
 use Rattle.std.specs.Prelude.{List}
 use Rattle.sync_terms.specs.Stored.{Stored}
 use Rattle.sync_kernel.specs.declared.hypotheses.Hypotheses.{Hypotheses}
-use Rattle.sync_kernel.specs.Facts.{Fact}
-use Rattle.sync_kernel.specs.Branches.{facts_in, AreSaid}
+use Rattle.sync_kernel_facts.specs.Facts.{Fact}
+use Rattle.sync_kernel_facts.specs.Branches.{facts_in, AreSaid}
 use Rattle.sync_kernel.specs.Notes.{AreNotes}
 
 -- the hypotheses, newest last

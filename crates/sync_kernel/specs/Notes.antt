@@ -2,7 +2,7 @@
 use Rattle.std.specs.Prelude.{List}
 use Rattle.sync_terms.specs.Stored.{Stored}
 use Rattle.sync_kernel.specs.declared.notes.Notes.{Notes}
-use Rattle.sync_kernel.specs.Facts.{Fact}
+use Rattle.sync_kernel_facts.specs.Facts.{Fact}
 use Rattle.sync_kernel.specs.Seen.{IsSeen}
 use Rattle.sync_kernel.specs.SumLines.{WereLines}
 

@@ -1,10 +1,10 @@
--- A fact whose negation is a fact, seen_count for from the negated side.
+-- A fact whose negation is a fact, looked for from the negated side.
 use Rattle.std.specs.Prelude.{Bool, false, ◌&&◌, ◌||◌, List}
 use Rattle.std.specs.List.{list_any}
 use Rattle.sync_terms.specs.Trees.{Formula, Le, Lt, Eq, Not, And, Or, Imp}
-use Rattle.sync_kernel.specs.Facts.{Fact}
+use Rattle.sync_kernel_facts.specs.Facts.{Fact, is_plain}
 use Rattle.sync_kernel.specs.Rows.{row_of, formula_eq}
-use Rattle.sync_kernel.specs.Steps.{is_plain, is_false_row}
+use Rattle.sync_kernel.specs.Steps.{is_false_row}
 
 -- a fact without parameters says this
 abbrev pub is_fact : List Fact → Formula → Bool

@@ -11,7 +11,7 @@ use Rattle.sync_terms.specs.Trees.{Tree, Formula, neg}
 use Rattle.sync_terms.specs.Stored.{Stored, Extends}
 use Rattle.sync_terms.specs.Plans.{Plan, End, Same, Sum, Inst, Parts, Split, Cut, Read, Size, Total, Cong, Then, kind_plan, block_plan, step_plan}
 use Rattle.sync_kernel_facts.specs.Lemmas.{cong_fact, read_fact, size_fact, total_fact}
-use Rattle.sync_kernel.specs.Facts.{Fact, denial, newest, named, facts_size}
+use Rattle.sync_kernel_facts.specs.Facts.{Fact, denial, newest, named, facts_size}
 use Rattle.sync_kernel.specs.Steps.{at_line, same_fault, sum_fault}
 use Rattle.sync_kernel.specs.Taking.{Two, parts_of, cases_of, plain_fact, taken, instance}
 

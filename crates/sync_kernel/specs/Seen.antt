@@ -1,24 +1,13 @@
 -- What `same` keeps of the facts that it looked at.
 use Rattle.std.specs.Prelude.{◌≡◌, ℕ, ◌-◌, ◌≤◌, Bool, false, ◌||◌, List, map, length, take, Option, Some, None, if◌then◌else◌}
 use Rattle.std.specs.List.{list_any, AllZip}
-use Rattle.sync_terms.specs.Trees.{Formula, Le, Lt, Eq, Not, And, Or, Imp}
+use Rattle.sync_terms.specs.Trees.{Formula, Not}
 use Rattle.sync_terms.specs.Stored.{Stored, IsShared}
-use Rattle.sync_kernel.specs.declared.literals.Literal.{Literal}
+use Rattle.sync_kernel_facts.specs.declared.literals.Literal.{Literal}
 use Rattle.sync_kernel.specs.declared.seen.Seen.{Seen}
-use Rattle.sync_kernel.specs.Facts.{Fact}
-use Rattle.sync_kernel.specs.Literals.{literal_form, IsLiteral, IsBare}
+use Rattle.sync_kernel_facts.specs.Facts.{Fact, is_plain}
+use Rattle.sync_kernel_facts.specs.Literals.{literal_form, IsLiteral, IsBare, denied_by, IsEntry}
 use Rattle.sync_kernel.specs.Opposed.{closes_same, is_undone, is_fact}
-use Rattle.sync_kernel.specs.Steps.{is_plain}
-
--- what a formula denies: `!F` denies F
-abbrev pub denied_by : Formula → Option Formula
-denied_by (Not f) = Some f
-denied_by (Le t u) = None
-denied_by (Lt t u) = None
-denied_by (Eq t u) = None
-denied_by (And f g) = None
-denied_by (Or f g) = None
-denied_by (Imp f g) = None
 
 -- what a fact without parameters says, and what it denies
 abbrev pub says : Fact → Option Formula
@@ -26,13 +15,6 @@ says f = if is_plain f then Some f.form else None
 
 abbrev pub denies : Fact → Option Formula
 denies f = if is_plain f then denied_by f.form else None
-
--- the bare literal of a formula, or neither is there
-abbrev pub IsEntry : Stored → Option Literal → Option Formula → Type 0
-IsEntry s None None = Unit {0}
-IsEntry s None (Some f) = ⊥
-IsEntry s (Some l) None = ⊥
-IsEntry s (Some l) (Some f) = (literal_form s l ≡ f) × IsLiteral s l × IsBare s l
 
 -- `same` closes a branch with these facts
 abbrev pub is_closed : List Fact → Bool

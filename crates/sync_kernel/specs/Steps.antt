@@ -11,20 +11,12 @@ use Rattle.sync_linear.specs.Forms.{constant_of}
 use Rattle.sync_kernel.specs.declared.rows.Kind.{Kind}
 use Rattle.sync_kernel.specs.declared.rows.Kind.TheVariants.{AtMostZero, Zero, NotZero}
 use Rattle.sync_kernel.specs.declared.rows.Used.{Used}
-use Rattle.sync_kernel.specs.Facts.{Fact, newest}
+use Rattle.sync_kernel_facts.specs.Facts.{Fact, is_plain, newest}
 use Rattle.sync_kernel.specs.Rows.{Row, row_of, within, narrow, no_atom, is_false, formula_eq}
 
 -- a rule that is broken at a line
 abbrev pub at_line : ℕ → Option Rule → Option Refusal
 at_line line fault = option_map (λ (r : Rule). record { line = line; rule = r }) fault
-
-abbrev pub no_params : List ℕ → Bool
-no_params [] = true
-no_params (p ∷ ps) = false
-
--- a fact without parameters
-abbrev pub is_plain : Fact → Bool
-is_plain f = no_params f.params
 
 -- the negation of a formula is a fact too
 abbrev pub is_opposed : List Fact → Fact → Bool

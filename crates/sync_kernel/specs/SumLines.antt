@@ -5,9 +5,9 @@ use Rattle.sync_terms.specs.Stored.{Stored, Extends}
 use Rattle.sync_linear.specs.Lines.{Line}
 use Rattle.sync_linear.specs.Forms.{Narrow}
 use Rattle.sync_linear.specs.Stores.{IsLineOf}
-use Rattle.sync_kernel.specs.declared.literals.Literal.{Literal}
+use Rattle.sync_kernel_facts.specs.declared.literals.Literal.{Literal}
 use Rattle.sync_kernel.specs.declared.lines.Lines.{Lines}
-use Rattle.sync_kernel.specs.Literals.{literal_form, IsLiteral, same_literal}
+use Rattle.sync_kernel_facts.specs.Literals.{literal_form, IsLiteral, same_literal}
 use Rattle.sync_kernel.specs.Rows.{Row, row_of}
 
 -- this is the line of the row, within 128 bits

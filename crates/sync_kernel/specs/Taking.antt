@@ -3,8 +3,7 @@ use Rattle.std.specs.Prelude.{ℕ, nat_eq, List, [], ◌∷◌, length, Option, 
 use Rattle.sync_base.specs.declared.stops.Rule.{Rule}
 use Rattle.sync_base.specs.declared.stops.Rule.TheVariants.{K1, K2, K3}
 use Rattle.sync_terms.specs.Trees.{Tree, Name, Formula, Le, Lt, Eq, Not, And, Or, Imp, neg, replaced_in}
-use Rattle.sync_kernel.specs.Facts.{Fact}
-use Rattle.sync_kernel.specs.Steps.{is_plain}
+use Rattle.sync_kernel_facts.specs.Facts.{Fact, is_plain}
 
 pub record Two : Type 0 where
   pub left : Formula

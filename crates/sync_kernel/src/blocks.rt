@@ -3,21 +3,21 @@ ghost use Rattle.std.specs.Prelude.{◌≡◌, OnOk};
 ghost use Rattle.sync_base.specs.Outcome.{Passes};
 ghost use Rattle.sync_terms.specs.Stored.{Extends};
 ghost use Rattle.sync_terms.specs.Plans.{Plan, plan_of, IsScriptOf};
-ghost use Rattle.sync_kernel.specs.Literals.{literal_form, IsLiteral};
-ghost use Rattle.sync_kernel.specs.Branches.{facts_in, AreSaid, Begins};
+ghost use Rattle.sync_kernel_facts.specs.Literals.{literal_form, IsLiteral};
+ghost use Rattle.sync_kernel_facts.specs.Branches.{facts_in, AreSaid, Begins};
 ghost use Rattle.sync_kernel.specs.Scripts.{then_of, IsStepOf, with_fact, after, block_fault};
 ghost use Rattle.sync_kernel.specs.Holding.{StepPasses};
 ghost use Rattle.sync_kernel.specs.Notes.{AreNotes};
 
-use crate::branches::Branch;
-use crate::literals::Literal;
 use crate::notes::Notes;
 use crate::sames::same;
 use crate::steps::{Left, MapFact, cut, inst, learn, parts, said, split};
 use crate::stops::refusal;
 use crate::sums::sum;
+use MapFact::{Cong, Read, Size, Total};
 use std::alloc::Global;
 use sync_base::{Rule, Stop};
+use sync_kernel_facts::{Branch, Literal};
 use sync_terms::{Block, ScriptStep, StepKind, Terms};
 
 /// Checks that a block closes its branch. The branch may have gained facts.
@@ -103,14 +103,8 @@ fn check_step(
             return Ok(Left::Closed);
         }
         StepKind::Sum(list) => {
-            sum(
-                alloc,
-                terms,
-                branch,
-                &mut notes.lines,
-                line,
-                list.as_slice(),
-            )?;
+            let list = list.as_slice();
+            sum(alloc, terms, branch, &mut notes.lines, line, list)?;
             return Ok(Left::Closed);
         }
         StepKind::Inst(hyp, list, name) => {
@@ -131,18 +125,16 @@ fn check_step(
             branch.push(said(alloc, terms, *name, cases.right))?;
         }
         StepKind::Read(map, key, name) => {
-            learn(alloc, terms, branch, MapFact::Read(*map, *key), *name, line)?;
+            learn(alloc, terms, branch, Read(*map, *key), *name, line)?;
         }
         StepKind::Size(map, key, name) => {
-            learn(alloc, terms, branch, MapFact::Size(*map, *key), *name, line)?;
+            learn(alloc, terms, branch, Size(*map, *key), *name, line)?;
         }
         StepKind::Total(map, key, name) => {
-            let fact = MapFact::Total(*map, *key);
-            learn(alloc, terms, branch, fact, *name, line)?;
+            learn(alloc, terms, branch, Total(*map, *key), *name, line)?;
         }
         StepKind::Cong(map, left, right, name) => {
-            let fact = MapFact::Cong(*map, *left, *right);
-            learn(alloc, terms, branch, fact, *name, line)?;
+            learn(alloc, terms, branch, Cong(*map, *left, *right), *name, line)?;
         }
     }
     Ok(Left::Open)

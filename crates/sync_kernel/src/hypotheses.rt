@@ -2,13 +2,11 @@
 ghost use Rattle.std.specs.Prelude.{◌≡◌, ◌+◌, ◌++◌, ◌∷◌, [], not, nat_lt, OnOk, OnErr};
 ghost use Rattle.sync_terms.specs.Trees.{most_nodes};
 ghost use Rattle.sync_terms.specs.Stored.{Stored, IsForm};
-ghost use Rattle.sync_kernel.specs.Facts.{fact_of, facts_size};
+ghost use Rattle.sync_kernel_facts.specs.Facts.{fact_of, facts_size};
 
-use crate::branches::{Branch, Said};
-use crate::literals::Literal;
 use crate::notes::Notes;
-use crate::sequents::Hyp;
 use std::alloc::{AllocError, Global};
+use sync_kernel_facts::{Branch, Hyp, Literal, Said};
 use sync_terms::Terms;
 
 /// Hypotheses by their names, newest last, from which scripts may prove, and what is kept beside them from one proof to the next.

@@ -2,23 +2,19 @@
 #![tactic(auto)]
 
 mod blocks;
-mod branches;
 mod hypotheses;
 mod lines;
-mod literals;
 mod notes;
 mod provers;
 mod rows;
 mod sames;
 mod seen;
-mod sequents;
 mod splits;
 mod steps;
 mod stops;
 mod sums;
-mod trails;
 
 pub use hypotheses::Hypotheses;
 pub use provers::{prove, prove_from};
-pub use sequents::{Hyp, Sequent};
+pub use sync_kernel_facts::{Hyp, Sequent};
 pub use sync_terms::{Block, HypName, Part, Script, ScriptStep, StepKind};

@@ -3,14 +3,14 @@ ghost use Rattle.std.specs.Prelude.{◌≡◌, Err, Some, OnOk, IsSome};
 ghost use Rattle.sync_linear.specs.declared.stops.LinearStop.TheVariants.{Width};
 ghost use Rattle.sync_linear.specs.Forms.{Narrow};
 ghost use Rattle.sync_terms.specs.Stored.{Stored};
-ghost use Rattle.sync_kernel.specs.Literals.{literal_form, IsLiteral};
+ghost use Rattle.sync_kernel_facts.specs.Literals.{literal_form, IsLiteral};
 ghost use Rattle.sync_kernel.specs.Rows.{row_of};
 ghost use Rattle.sync_kernel.specs.Shapes.{shaped, row_shaped};
 
-use crate::literals::Literal;
 use crate::rows::Shape;
 use std::alloc::Global;
 use std::collections::HashMap;
+use sync_kernel_facts::Literal;
 use sync_linear::{Linear, LinearStop};
 use sync_terms::Terms;
 

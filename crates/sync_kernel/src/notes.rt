@@ -1,7 +1,7 @@
 //! What is kept beside the facts of a branch, for the steps `same` and `sum`.
 ghost use Rattle.std.specs.Prelude.{List, take};
 ghost use Rattle.sync_terms.specs.Stored.{Stored};
-ghost use Rattle.sync_kernel.specs.Facts.{Fact};
+ghost use Rattle.sync_kernel_facts.specs.Facts.{Fact};
 
 use crate::lines::Lines;
 use crate::seen::Seen;

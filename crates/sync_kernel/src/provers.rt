@@ -4,19 +4,17 @@ ghost use Rattle.sync_base.specs.Outcome.{Passes};
 ghost use Rattle.sync_terms.specs.Stored.{Extends, IsForm, formula};
 ghost use Rattle.sync_terms.specs.Plans.{plan_of, IsScriptOf};
 ghost use Rattle.sync_terms.specs.Values.{IsValid};
-ghost use Rattle.sync_kernel.specs.Facts.{fact_of, as_hypothesis};
+ghost use Rattle.sync_kernel_facts.specs.Facts.{fact_of, as_hypothesis};
 ghost use Rattle.sync_kernel.specs.Holding.{AreForms};
 ghost use Rattle.sync_kernel.specs.Hypotheses.{AreReady, known_in};
 ghost use Rattle.sync_kernel.specs.Scripts.{script_fault};
 
 use crate::blocks::check_block;
-use crate::branches::Said;
 use crate::hypotheses::Hypotheses;
-use crate::literals::Literal;
-use crate::sequents::{Hyp, Sequent};
 use sqlite_items::Items;
 use std::alloc::{AllocError, Global};
 use sync_base::Stop;
+use sync_kernel_facts::{Hyp, Literal, Said, Sequent};
 use sync_terms::{FormId, HypName, Script, Terms};
 
 /// The hypotheses of a sequent, ready for a proof.

@@ -4,12 +4,12 @@ ghost use Rattle.sync_terms.specs.Stored.{Stored, IsTerm, IsShared, HasParts, fo
 ghost use Rattle.sync_linear.specs.declared.stops.LinearStop.TheVariants.{Width};
 ghost use Rattle.sync_linear.specs.Forms.{Narrow};
 ghost use Rattle.sync_linear.specs.Stores.{IsLineOf};
-ghost use Rattle.sync_kernel.specs.Literals.{literal_form, IsLiteral};
+ghost use Rattle.sync_kernel_facts.specs.Literals.{literal_form, IsLiteral};
 ghost use Rattle.sync_kernel.specs.Rows.{row_of, row_of_not};
 ghost use Rattle.sync_kernel.specs.Shapes.{shaped, row_shaped};
 
-use crate::literals::Literal;
 use std::alloc::Global;
+use sync_kernel_facts::Literal;
 use sync_linear::{Change, Linear, LinearStop};
 use sync_terms::{FormNode, TermId, Terms};
 

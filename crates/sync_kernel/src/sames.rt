@@ -5,21 +5,20 @@ ghost use Rattle.sync_terms.specs.Stored.{Stored, IsShared};
 ghost use Rattle.sync_terms.specs.Trees.{Tree};
 ghost use Rattle.sync_linear.specs.Forms.{constant_of};
 ghost use Rattle.sync_linear.specs.Stores.{IsLineOf};
-ghost use Rattle.sync_kernel.specs.Facts.{Fact};
-ghost use Rattle.sync_kernel.specs.Branches.{said_fact, facts_in, IsSaid, AreSaid};
-ghost use Rattle.sync_kernel.specs.Literals.{literal_form, IsLiteral, IsBare};
+ghost use Rattle.sync_kernel_facts.specs.Facts.{Fact};
+ghost use Rattle.sync_kernel_facts.specs.Branches.{said_fact, facts_in, IsSaid, AreSaid};
+ghost use Rattle.sync_kernel_facts.specs.Literals.{literal_form, IsLiteral, IsBare, denied_by, IsEntry};
 ghost use Rattle.sync_kernel.specs.Rows.{no_atom, is_false, row_of};
 ghost use Rattle.sync_kernel.specs.Steps.{at_line, is_false_row, same_fault};
 ghost use Rattle.sync_kernel.specs.Opposed.{is_closing_with};
-ghost use Rattle.sync_kernel.specs.Seen.{denied_by, IsEntry, HasSeen, IsSeen, seen_count};
+ghost use Rattle.sync_kernel.specs.Seen.{HasSeen, IsSeen, seen_count};
 
-use crate::branches::{Branch, Said};
-use crate::literals::Literal;
 use crate::rows::{Kind, shape_of};
 use crate::seen::Seen;
 use crate::stops::refusal;
 use std::alloc::Global;
 use sync_base::{NoMemory, Rule, Stop};
+use sync_kernel_facts::{Branch, Literal, Said};
 use sync_linear::{Linear, LinearStop};
 use sync_terms::Terms;
 

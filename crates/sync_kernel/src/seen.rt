@@ -1,12 +1,11 @@
 //! What the step `same` keeps of the facts that it looked at.
 ghost use Rattle.std.specs.Prelude.{◌≡◌, ◌++◌, ◌∷◌, [], List, take, OnOk};
 ghost use Rattle.sync_terms.specs.Stored.{Stored};
-ghost use Rattle.sync_kernel.specs.Facts.{Fact};
+ghost use Rattle.sync_kernel_facts.specs.Facts.{Fact};
 ghost use Rattle.sync_kernel.specs.Seen.{IsSeen, TellsOpposed, seen_count};
 
-use crate::literals::Literal;
-use crate::trails::Trail;
 use std::alloc::{AllocError, Global};
+use sync_kernel_facts::{Literal, Trail};
 
 /// What the oldest facts of a branch say and deny, a place for each, and whether the newest of them made a
 /// contradiction. The places of a fact with parameters have no literals.

@@ -3,10 +3,11 @@ ghost use Rattle.std.specs.Prelude.{◌≡◌, ◌<◌, IfOk, IfSome, Err, optio
 ghost use Rattle.sync_terms.specs.declared.store.TermStop.TheVariants.{TooLarge};
 ghost use Rattle.sync_terms.specs.Stored.{Extends, IsTerm, IsForm, HasParts, form_shape, tree};
 ghost use Rattle.sync_terms.specs.Trees.{most_nodes, Lt, formula_size};
-ghost use Rattle.sync_kernel.specs.Literals.{literal_form, IsLiteral, pair_forms, IsPair, TakesApart};
+ghost use Rattle.sync_kernel_facts.specs.Literals.{literal_form, IsLiteral};
+ghost use Rattle.sync_kernel.specs.Pairs.{pair_forms, IsPair, TakesApart};
 ghost use Rattle.sync_kernel.specs.Taking.{Two, parts_of as wanted_parts, parts_of_not as wanted_parts_of_not, cases_of as wanted_cases, cases_of_not as wanted_cases_of_not};
 
-use crate::literals::Literal;
+use sync_kernel_facts::Literal;
 use sync_terms::{FormNode, TermId, TermStop, Terms};
 
 /// Two formulas.

@@ -3,22 +3,21 @@ ghost use Rattle.std.specs.Prelude.{◌≡◌, ℕ, All, Ok, OnOk, IfOk, map, le
 ghost use Rattle.sync_terms.specs.Stored.{Stored, Extends, IsTerm, IsForm, tree, formula};
 ghost use Rattle.sync_terms.specs.Trees.{Formula};
 ghost use Rattle.sync_terms.specs.Building.{BuildsForm};
-ghost use Rattle.sync_kernel.specs.Facts.{newest, named};
-ghost use Rattle.sync_kernel.specs.Literals.{literal_form, IsLiteral, pair_forms, IsPair};
-ghost use Rattle.sync_kernel.specs.Branches.{facts_in, said_fact, IsSaid, AreSaid, Begins};
+ghost use Rattle.sync_kernel_facts.specs.Facts.{newest, named};
+ghost use Rattle.sync_kernel_facts.specs.Literals.{literal_form, IsLiteral};
+ghost use Rattle.sync_kernel.specs.Pairs.{pair_forms, IsPair};
+ghost use Rattle.sync_kernel_facts.specs.Branches.{facts_in, said_fact, IsSaid, AreSaid, Begins};
 ghost use Rattle.sync_kernel.specs.Taking.{plain_fact, instance};
 ghost use Rattle.sync_kernel.specs.Scripts.{fitting, both_fitting, with_fact, with_instance, with_parts, with_cases, with_cut};
 ghost use Rattle.sync_kernel.specs.MapFacts.{map_form, HasMapIds};
 ghost use Rattle.sync_kernel.specs.Holding.{Leaves, LeavesFacts, LeavesCases, Makes};
 
-use crate::branches::{Branch, Said};
-use crate::literals::Literal;
 use crate::splits::{Pair, cases_of, parts_of};
 use crate::stops::{refusal, too_large};
 use sqlite_items::Items;
 use std::alloc::{AllocError, Global};
 use sync_base::{Rule, Stop};
-use sync_kernel_facts::{cong_fact, read_fact, size_fact, total_fact};
+use sync_kernel_facts::{Branch, Literal, Said, cong_fact, read_fact, size_fact, total_fact};
 use sync_terms::{FormId, HypName, Sym, TermId, TermStop, Terms};
 
 /// Whether a step leaves its branch open, or has closed it.

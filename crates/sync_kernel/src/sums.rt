@@ -5,21 +5,21 @@ ghost use Rattle.sync_base.specs.Outcome.{Passes};
 ghost use Rattle.sync_terms.specs.Stored.{Stored, IsShared};
 ghost use Rattle.sync_terms.specs.Trees.{Tree};
 ghost use Rattle.sync_linear.specs.Stores.{IsLineOf};
-ghost use Rattle.sync_kernel.specs.Facts.{Fact};
-ghost use Rattle.sync_kernel.specs.Branches.{facts_in, AreSaid};
-ghost use Rattle.sync_kernel.specs.Literals.{literal_form, IsLiteral};
+ghost use Rattle.sync_kernel_facts.specs.Facts.{Fact};
+ghost use Rattle.sync_kernel_facts.specs.Branches.{facts_in, AreSaid};
+ghost use Rattle.sync_kernel_facts.specs.Literals.{literal_form, IsLiteral};
 ghost use Rattle.sync_kernel.specs.SumLines.{WereLines};
 ghost use Rattle.sync_kernel.specs.Rows.{row_of};
 ghost use Rattle.sync_kernel.specs.Shapes.{shaped, row_shaped};
 ghost use Rattle.sync_kernel.specs.Steps.{at_line, is_bound, is_turned, with_part as part_added, one_apart as has_one_apart, closes as is_closed, sum_fault};
 ghost use Rattle.sync_kernel.specs.Holding.{IsKnown, StepGives};
 
-use crate::branches::{Branch, Known};
 use crate::lines::Lines;
 use crate::rows::{Kind, Shape, Used, shape_of};
 use crate::stops::{refusal, too_wide};
 use std::alloc::Global;
 use sync_base::{Rule, Stop};
+use sync_kernel_facts::{Branch, Known};
 use sync_linear::{Change, Linear};
 use sync_terms::{Part, Terms};
 

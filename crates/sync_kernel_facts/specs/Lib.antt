@@ -2,3 +2,9 @@ pub mod Lemmas
 pub mod Drafts
 pub mod Changes
 pub mod Laws
+pub mod Facts
+pub mod Literals
+pub mod Branches
+pub mod Knowing
+pub mod Stacks
+pub mod Trails

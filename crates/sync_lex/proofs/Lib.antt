@@ -9,3 +9,4 @@ pub mod Parting
 pub mod Places
 pub mod TerminalNumbers
 pub mod Interned
+mod Feeds

@@ -37,7 +37,7 @@ module _ (p : ℕ → Bool) where
   one_passes x m xs true e later = rw one-add (rw (e, later) refl)
   one_passes x m xs false e later = refl
 
-  prefix_passes : (xs : List ℕ) → list_all p (take (prefix_len p xs) xs) ≡ true
+  pub prefix_passes : (xs : List ℕ) → list_all p (take (prefix_len p xs) xs) ≡ true
   prefix_passes [] = refl
   prefix_passes (x ∷ xs) = one_passes x (prefix_len p xs) xs (p x) refl (prefix_passes xs)
 
@@ -51,7 +51,7 @@ module _ (p : ℕ → Bool) where
   take_run : (b : ℕ) (bytes : List ℕ) → p b ≡ true → take (prefix_len p (b ∷ bytes)) (b ∷ bytes) ≡ b ∷ take (prefix_len p bytes) bytes
   take_run b bytes e = rw (e, one-add) refl
 
-all_at : (p : List ℕ → Bool) (words : List (List ℕ)) (k : ℕ) (d : List ℕ) → list_all p words ≡ true → k < length words → p (get_or words k d) ≡ true
+pub all_at : (p : List ℕ → Bool) (words : List (List ℕ)) (k : ℕ) (d : List ℕ) → list_all p words ≡ true → k < length words → p (get_or words k d) ≡ true
 all_at p [] k d e lt = absurd (omega arith)
 all_at p (word ∷ words) zero d e lt = (both (p word) (list_all p words) e).0
 all_at p (word ∷ words) (suc k) d e lt = all_at p words k d (both (p word) (list_all p words) e).1 (omega arith)

@@ -30,28 +30,27 @@ pub fn lex(alloc: Global, text: &[u8]) -> Result<Tokens, Stop>
     }
     let mut list = Items::new(alloc);
     let mut line = 1;
-    let mut skip = 0;
-    for (at, byte) in text.iter().enumerate() {
-        if skip == 0 {
-            match next_piece(&text[at..]) {
-                Piece::Gap(len) => skip = len,
-                Piece::Match(kind, len) => {
-                    list.push(Lexeme {
-                        kind,
-                        start: at as u32,
-                        end: (at + len) as u32,
-                        line,
-                    })?;
-                    skip = len;
+    let mut at = 0;
+    while at < text.len() {
+        match next_piece(&text[at..]) {
+            Piece::Gap(len) => {
+                if text[at] == b'\n' {
+                    line += 1;
                 }
-                Piece::Broken(rule) => {
-                    return Err(Stop::Refused(Refusal { line, rule }));
-                }
+                at += len;
             }
-        }
-        skip -= 1;
-        if *byte == b'\n' {
-            line += 1;
+            Piece::Match(kind, len) => {
+                list.push(Lexeme {
+                    kind,
+                    start: at as u32,
+                    end: (at + len) as u32,
+                    line,
+                })?;
+                at += len;
+            }
+            Piece::Broken(rule) => {
+                return Err(Stop::Refused(Refusal { line, rule }));
+            }
         }
     }
     Ok(Tokens {

@@ -8,28 +8,10 @@ ghost use Rattle.sync_linear.specs.declared.stops.LinearStop.TheVariants.{Width}
 use crate::changes::{Change, Pair};
 use crate::stops::LinearStop;
 use std::collections::BTreeMap;
+use std::collections::btree_map::Entry;
 
 /// How many times each atom stands in a line, none of them 0.
 pub(crate) type Atoms = BTreeMap<u32, i128>;
-
-/// Changes how many times an atom stands there that does not stand there yet.
-fn start_at(atoms: &mut Atoms, how: Change, id: u32, by: &i128) -> Result<(), LinearStop>
-    requires { times atoms.old.entries id ≡ pos 0 }
-    ensures fits { OnOk result (ChangeFits how (times atoms.old.entries id) by.now) }
-    ensures width { result ≡ Err Width → ChangeFits how (times atoms.old.entries id) by.now → ⊥ }
-    ensures others { OnOk result ((q : ℕ) → times atoms.new.entries q
-        ≡ (if nat_eq id q then changed how (times atoms.old.entries q) by.now else times atoms.old.entries q)) }
-    ensures no_zero { OnOk result (HasNoZero atoms.old.entries → HasNoZero atoms.new.entries) }
-{
-    match how.of(Pair { old: 0, by: *by }) {
-        None => Err(LinearStop::Width),
-        Some(0) => Ok(()),
-        Some(new) => {
-            atoms.insert(id, new)?;
-            Ok(())
-        }
-    }
-}
 
 /// Changes how many times one atom stands there.
 pub(crate) fn change_at(
@@ -44,22 +26,29 @@ pub(crate) fn change_at(
         ≡ (if nat_eq id q then changed how (times atoms.old.entries q) by.now else times atoms.old.entries q)) }
     ensures no_zero { OnOk result (HasNoZero atoms.old.entries → HasNoZero atoms.new.entries) }
 {
-    let Some(times) = atoms.get_mut(&id) else {
-        return start_at(atoms, how, id, by);
-    };
-    match how.of(Pair {
-        old: *times,
-        by: *by,
-    }) {
-        None => Err(LinearStop::Width),
-        Some(0) => {
-            atoms.remove(&id);
-            Ok(())
-        }
-        Some(new) => {
-            *times = new;
-            Ok(())
-        }
+    match atoms.entry(id)? {
+        Entry::Vacant(place) => match how.of(Pair { old: 0, by: *by }) {
+            None => Err(LinearStop::Width),
+            Some(0) => Ok(()),
+            Some(new) => {
+                place.insert(new);
+                Ok(())
+            }
+        },
+        Entry::Occupied(mut place) => match how.of(Pair {
+            old: *place.get(),
+            by: *by,
+        }) {
+            None => Err(LinearStop::Width),
+            Some(0) => {
+                place.remove();
+                Ok(())
+            }
+            Some(new) => {
+                place.insert(new);
+                Ok(())
+            }
+        },
     }
 }
 

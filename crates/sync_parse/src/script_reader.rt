@@ -327,13 +327,15 @@ fn step_inside<'a>(alloc: Global, terminals: &'a [Terminal], left: u32) -> Read<
 }
 
 /// The steps of a block that opens at a level, up to its closing brace.
+///
+/// Most blocks have one step, so room is made for one first.
 #[cycle(script)]
 #[tactic(auto, unfolding(crate::specs::Scripts::steps, sync_parse_exprs::specs::Terminals::row))]
 fn steps<'a>(alloc: Global, terminals: &'a [Terminal], left: u32) -> Read<'a, Items<RawScriptStep>>
     requires { 0 < left }
     ensures { Reads (λ x. (x.0, x.1.now)) result (steps (nested left) (left - 1) terminals.now) }
 {
-    let mut held = Items::new(alloc);
+    let mut held = Items::from_vec(Vec::with_capacity(alloc, 1)?);
     let mut rest = terminals;
     for _ in 0..terminals.len() {
         if goes_on(rest) {

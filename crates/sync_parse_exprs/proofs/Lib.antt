@@ -1,3 +1,4 @@
 pub mod Rows
 pub mod Inside
 pub mod Chains
+pub mod Lone

@@ -1,8 +1,11 @@
 //! Reading expressions. `left` is 65 less the number of brackets that are open.
-ghost use Rattle.std.specs.Prelude.{◌≡◌, ◌<◌, IfOk};
+ghost use Rattle.std.specs.Prelude.{◌≡◌, ◌<◌, ℕ, false, None, Ok, IfOk, IfSome, IsTrue};
+ghost use Rattle.sync_lex.specs.declared.signs.Sign.TheVariants as sign;
+ghost use Rattle.sync_lex.specs.Terminals.{is_sign};
 ghost use Rattle.sync_parse_exprs.specs.Faults.{Reads};
-ghost use Rattle.sync_parse_exprs.specs.Terminals.{series};
-ghost use Rattle.sync_parse_exprs.specs.Expressions.{signed, placed, special_of, function_of, begins_operand, relation_of, sum_of, factor_of, whole, sign_operand, operand, unary, product, relation, operator_at, item_at, level_at, implies, inside, expr_at, exprs_at};
+ghost use Rattle.sync_parse_exprs.specs.Terminals.{Reader, series};
+ghost use Rattle.sync_parse_exprs.specs.declared.expressions.RawExprKind.{RawExprKind};
+ghost use Rattle.sync_parse_exprs.specs.Expressions.{signed, placed, special_of, function_of, begins_operand, relation_of, sum_of, factor_of, whole, sign_operand, operand, unary, product, sums, relation, operator_at, item_at, level_at, implies, inside, expr_at, exprs_at};
 
 use crate::expressions::{Function, Operator, RawExpr, RawExprKind, Special};
 use crate::faults::{Fault, Halt};
@@ -167,6 +170,57 @@ fn factor_of(terminals: &[Terminal]) -> Option<u128>
     }
 }
 
+fn number_leaf(number: u128) -> RawExprKind
+    ensures { result ≡ RawExprKind.Number (signed number) }
+{
+    RawExprKind::Number(signed(number))
+}
+
+/// A name or a number that no `*`, `+` or `-` follows: a sum by itself.
+///
+/// Most expressions are one, so it is looked for before the levels are gone through.
+fn leaf<'a>(terminals: &'a [Terminal], left: u32) -> Option<(RawExprKind, &'a [Terminal])>
+    ensures { IfSome result (λ x. (inner : Reader RawExprKind) → sums inner left terminals.now ≡ Ok (x.0, x.1.now)) }
+{
+    let (first, rest) = next(terminals)?;
+    let (behind, _) = next(rest)?;
+    if left == 0 || behind.is(Sign::Star) || sum_of(behind).is_some() {
+        return None;
+    }
+    match first.what {
+        TerminalKind::Name(name, _) => {
+            let line = first.line;
+            Some((RawExprKind::Name(RawName { name, line }), rest))
+        }
+        TerminalKind::Number(number) => Some((number_leaf(number), rest)),
+        TerminalKind::Sign(_) => None,
+    }
+}
+
+/// Whether a terminal is no operator above sums.
+fn ends_levels(terminal: Terminal) -> bool
+    ensures relations { IsTrue result → relation_of terminal ≡ None }
+    ensures ands { IsTrue result → is_sign terminal sign.And ≡ false }
+    ensures ors { IsTrue result → is_sign terminal sign.Or ≡ false }
+    ensures implications { IsTrue result → is_sign terminal sign.Implies ≡ false }
+{
+    relation_of(terminal).is_none()
+        && !terminal.is(Sign::And)
+        && !terminal.is(Sign::Or)
+        && !terminal.is(Sign::Implies)
+}
+
+/// A name or a number that no operator follows: an expression by itself.
+fn lone<'a>(terminals: &'a [Terminal], left: u32) -> Option<(RawExprKind, &'a [Terminal])>
+    ensures { IfSome result (λ x. (inner : Reader RawExprKind) (run : ℕ) → implies inner left run terminals.now ≡ Ok (x.0, x.1.now)) }
+{
+    let (what, rest) = leaf(terminals, left)?;
+    match next(rest) {
+        Some((behind, _)) if ends_levels(behind) => Some((what, rest)),
+        _ => None,
+    }
+}
+
 /// An expression inside of brackets that open at a level.
 #[cycle(expr)]
 #[tactic(auto, using(crate::proofs::Inside::inside_is))]
@@ -175,19 +229,38 @@ fn expr_inside<'a>(alloc: Global, terminals: &'a [Terminal], left: u32) -> Read<
     ensures { Reads (λ x. (x.0, x.1.now)) result (whole (inside left) terminals.now) }
 {
     let line = first_line(terminals);
+    if let Some((what, rest)) = lone(terminals, left - 1) {
+        return Ok((RawExpr { what, line }, rest));
+    }
     let (what, rest) = implies(alloc, terminals, left - 1, CHAIN)?;
     Ok((RawExpr { what, line }, rest))
 }
 
+/// How many arguments a function mostly has.
+fn usual_arguments(function: Function) -> usize {
+    match function {
+        Function::Size | Function::Sum | Function::Held => 1,
+        Function::Get | Function::Has | Function::Del => 2,
+        Function::Put | Function::Bump => 3,
+    }
+}
+
 /// Expressions with commas between, at least one, inside of brackets that open at a level.
+///
+/// Room is made for so many first.
 #[cycle(expr)]
 #[tactic(auto, unfolding(crate::specs::Terminals::series, crate::specs::Terminals::behind_commas))]
-fn expr_series<'a>(alloc: Global, terminals: &'a [Terminal], left: u32) -> Read<'a, Items<RawExpr>>
+fn expr_series<'a>(
+    alloc: Global,
+    terminals: &'a [Terminal],
+    left: u32,
+    room: usize,
+) -> Read<'a, Items<RawExpr>>
     requires { 0 < left }
     ensures { Reads (λ x. (x.0, x.1.now)) result (series (whole (inside left)) terminals.now) }
 {
     let (first, mut rest) = expr_inside(alloc, terminals, left)?;
-    let mut held = Items::new(alloc);
+    let mut held = Items::from_vec(Vec::with_capacity(alloc, room)?);
     held.push(first)?;
     for _ in 0..rest.len() {
         match next(rest) {
@@ -241,7 +314,7 @@ fn sign_operand<'a>(
             let (list, rest) = if begins_with(rest, Sign::CloseRound) {
                 (Items::new(alloc), rest)
             } else {
-                expr_series(alloc, rest, left)?
+                expr_series(alloc, rest, left, usual_arguments(function))?
             };
             let (_, rest) = sign(rest, left - 1, Sign::CloseRound)?;
             Ok((RawExprKind::Call(function, line, list), rest))
@@ -356,13 +429,24 @@ fn chained<'a>(
     }
 }
 
+/// Products with `+` or `-` between, from the left.
+#[cycle(expr)]
+fn sum<'a>(alloc: Global, terminals: &'a [Terminal], left: u32) -> Read<'a, RawExprKind>
+    ensures { Reads (λ x. (x.0, x.1.now)) result (sums (inside left) left terminals.now) }
+{
+    match leaf(terminals, left) {
+        Some(leaf) => Ok(leaf),
+        None => chained(alloc, terminals, left, Level::Sums),
+    }
+}
+
 #[cycle(expr)]
 #[tactic(auto, unfolding(crate::specs::Expressions::relation))]
 fn relation<'a>(alloc: Global, terminals: &'a [Terminal], left: u32) -> Read<'a, RawExprKind>
     ensures { Reads (λ x. (x.0, x.1.now)) result (relation (inside left) left terminals.now) }
 {
     let line = first_line(terminals);
-    let (first, rest) = chained(alloc, terminals, left, Level::Sums)?;
+    let (first, rest) = sum(alloc, terminals, left)?;
     let Some((terminal, after)) = next(rest) else {
         return Ok((first, rest));
     };
@@ -370,7 +454,7 @@ fn relation<'a>(alloc: Global, terminals: &'a [Terminal], left: u32) -> Read<'a,
         return Ok((first, rest));
     };
     let second_line = first_line(after);
-    let (second, rest) = chained(alloc, after, left, Level::Sums)?;
+    let (second, rest) = sum(alloc, after, left)?;
     Ok((
         two(alloc, operator, first, line, second, second_line)?,
         rest,
@@ -413,6 +497,9 @@ pub fn expr<'a>(alloc: Global, terminals: &'a [Terminal], left: u32) -> Read<'a,
     ensures { Reads (λ x. (x.0, x.1.now)) result (expr_at left terminals.now) }
 {
     let line = first_line(terminals);
+    if let Some((what, rest)) = lone(terminals, left) {
+        return Ok((RawExpr { what, line }, rest));
+    }
     let (what, rest) = implies(alloc, terminals, left, CHAIN)?;
     Ok((RawExpr { what, line }, rest))
 }
@@ -426,7 +513,7 @@ pub fn exprs<'a>(alloc: Global, terminals: &'a [Terminal], left: u32) -> Read<'a
     let (list, rest) = if begins_with(rest, Sign::CloseRound) {
         (Items::new(alloc), rest)
     } else {
-        expr_series(alloc, rest, left)?
+        expr_series(alloc, rest, left, 2)?
     };
     let (_, rest) = sign(rest, left - 1, Sign::CloseRound)?;
     Ok((list, rest))

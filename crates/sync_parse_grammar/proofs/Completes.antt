@@ -1,17 +1,15 @@
 -- What is spelled is read exactly where it is not too deep, and is else refused for depth: the law for each way to put productions
 -- together.
-use Rattle.std.proofs.Common.{◌≡◌, ℕ, zero, suc, ◌-◌, ◌<◌, ◌≤◌, ◌==◌, eqb, Bool, true, false, not, ◌||◌, if◌then◌else◌, List, [], ◌∷◌, ◌++◌, length, Result, Ok, Err, Some, refl, sym, ap, ◌∙◌, subst, arith, append_assoc, append-nil}
+use Rattle.std.proofs.Common.{◌≡◌, ℕ, zero, suc, ◌-◌, ◌<◌, ◌≤◌, ◌==◌, Bool, true, false, not, if◌then◌else◌, List, [], ◌∷◌, ◌++◌, length, Result, Ok, Err, Some, refl, sym, ap, ◌∙◌, subst, arith, append_assoc, append-nil}
 use Rattle.std.proofs.lemmas.Bool.{eqb-true}
 use Rattle.sync_base.proofs.Basics.{not_true}
 use Rattle.sync_base.specs.Outcome as outcome
 use Rattle.sync_base.specs.declared.strategies.Strategy.{Strategy}
 use Rattle.sync_lex.specs.declared.signs.Sign.{Sign}
 use Rattle.sync_lex.specs.declared.signs.Sign.TheVariants as sign
-use Rattle.sync_lex.specs.contracts.signs.Sign.{the_type}
-use Rattle.sync_lex.specs.declared.terminals.TerminalKind.{TerminalKind}
 use Rattle.sync_lex.specs.declared.terminals.TerminalKind.TheVariants as what
 use Rattle.sync_lex.specs.declared.terminals.Terminal.{Terminal}
-use Rattle.sync_lex.specs.Terminals.{says_sign, is_sign}
+use Rattle.sync_lex.specs.Terminals.{is_sign}
 use Rattle.sync_parse_exprs.specs.declared.faults.Fault.{Fault}
 use Rattle.sync_parse_exprs.specs.declared.faults.Fault.TheVariants as fault
 use Rattle.sync_parse_exprs.specs.declared.raw_names.RawName.{RawName}
@@ -19,19 +17,9 @@ use Rattle.sync_parse_exprs.specs.Terminals.{Read, Reader, unless_deep, begins_w
 use Rattle.sync_parse_forms.specs.Relations.{Spelled, The, AName, ANumber, AStrategy, Yields, Here, Then, ◌>>◌, Either, the_one, the_other, Many, nothing, more, Series, Listed, InRound, Names}
 use Rattle.sync_parse_forms.specs.Fronts.{code, front, front_of, Set, any, only, both, others}
 use Rattle.sync_parse_forms.proofs.Clears.{In, only_in, same_in, Starts, Follows, starts_then, starts_the, starts_name, follows_starts, follows_then, follows_many, follows_yields, head_is, tail_is}
-use Rattle.sync_parse_grammar.proofs.Counting.{one_shorter}
+use Rattle.sync_parse_forms.proofs.Completes.{Excused, Shrinks, says, is_it, front_case, begins_is, begins_not, pair_is, goes_is, shrinks_name}
+use Rattle.sync_parse_forms.proofs.Counting.{one_shorter}
 use Rattle.sync_parse_grammar.proofs.Depths.{Each}
-use denote.Enum.Bare.{true_same}
-use denote.Enum.Declared.{tag_of}
-use lib.Dec.{eqb-zero-suc, eqb-suc-suc}
-
--- too deep
-abbrev pub Excused : Fault → Type 0
-Excused (fault.Deep line) = Unit {0}
-Excused (fault.Version line) = ⊥
-Excused fault.Ended = ⊥
-Excused (fault.Wanted line) = ⊥
-Excused (fault.Unbuilt line) = ⊥
 
 -- reading gives this value, and S holds; or reading stops for depth, and S does not hold
 abbrev pub Meets : {A : Type 0} → Result A Fault → A → Type 0 → Type 0
@@ -65,10 +53,6 @@ Free x = Unit {0}
 -- P holds of all that is spelled
 pub record Shows {A : Type 0} (m : Spelled A) (P : A → Type 0) : Type 0 where
   pub at : (ts rest : List Terminal) (x : A) → m ts rest x → P x
-
--- what is spelled takes a terminal
-pub record Shrinks {A : Type 0} (m : Spelled A) : Type 0 where
-  pub at : (ts rest : List Terminal) (x : A) → m ts rest x → length rest < length ts
 
 -- ---- what holds of all that is spelled
 
@@ -160,13 +144,6 @@ met_within {go = go} {x = x} {S = S} (suc below) line need h = go_case (suc belo
 
 -- ---- single lexemes
 
--- the terminal at the front says what the derivation's terminal says
-pub says : (w v : Terminal) (ws vs : List Terminal) (x : TerminalKind) → ◌≡◌ {A = List Terminal} (w ∷ ws) (v ∷ vs) → v.what ≡ x → w.what ≡ x
-says w v ws vs x e is = ap (λ (z : Terminal). z.what) (head_is w v ws vs e) ∙ is
-
-pub is_it : (w : Terminal) (s : Sign) → w.what ≡ what.Sign s → is_sign w s ≡ true
-is_it w s is = ap (λ z. says_sign z s) is ∙ true_same the_type s s refl
-
 sign_case : {S : Type 0} (left : ℕ) → (S → 0 < left) → (0 < left → S) → (s : Sign) (ts : List Terminal) (line : ℕ) (rest : List Terminal) → The s ts rest line → Met (sign_at left s ts) (line, rest) S
 unfolding sign_at
 sign_case left need room s [] line rest d = let e : ◌≡◌ {A = List Terminal} [] (d.terminal ∷ rest) = d.stands in absurd cc
@@ -239,19 +216,6 @@ complete_strategy left room ts = record { at = λ x rest d e. strategy_case left
 
 -- ---- tests of the first lexeme
 
-pub front_case : (s : Sign) (x : TerminalKind) → says_sign x s ≡ eqb (front_of x) (code s)
-front_case s (what.Name n strategy) = sym (eqb-suc-suc 0 (suc (suc (tag_of the_type s))) ∙ eqb-zero-suc (suc (tag_of the_type s)))
-front_case s (what.Number n) = sym (eqb-suc-suc 1 (suc (suc (tag_of the_type s))) ∙ eqb-suc-suc 0 (suc (tag_of the_type s)) ∙ eqb-zero-suc (tag_of the_type s))
-front_case s (what.Sign own) = sym (eqb-suc-suc (suc (suc (tag_of the_type own))) (suc (suc (tag_of the_type s)))
-    ∙ eqb-suc-suc (suc (tag_of the_type own)) (suc (tag_of the_type s)) ∙ eqb-suc-suc (tag_of the_type own) (tag_of the_type s))
-
-pub begins_is : (s : Sign) (ts : List Terminal) → begins_with s ts ≡ only (code s) (front ts)
-begins_is s [] = sym (eqb-zero-suc (suc (suc (tag_of the_type s))))
-begins_is s (w ∷ ws) = front_case s w.what
-
-pub begins_not : (s : Sign) (ts : List Terminal) → others (only (code s)) (front ts) ≡ true → begins_with s ts ≡ false
-begins_not s ts e = begins_is s ts ∙ not_true (only (code s) (front ts)) e
-
 if_case : {A : Type 0} {q r : Set} {m n : Spelled A} {S : A → Type 0} {ts : List Terminal} {a b : Read A} (s : Sign) → Starts m (only (code s)) → Starts n r → In r (others (only (code s)))
     → Complete q m S ts a → Complete q n S ts b → (x : A) (rest : List Terminal) → Either m n ts rest x → q (front rest) ≡ true → Met (if begins_with s ts then a else b) (x, rest) (S x)
 if_case {ts = ts} s t u i c d x rest (the_one h) e = met_if _ (begins_with s ts) (begins_is s ts ∙ t.at ts rest x h) (c.at x rest h e)
@@ -278,9 +242,6 @@ pub complete_optional : {A : Type 0} {q : Set} {z : A} {n : Spelled A} {S : A �
 complete_optional s t i fits c = record { at = absent_case s t i fits c }
 
 -- ---- items in a row
-
-pub pair_is : {A : Type 0} {x y : A} {us vs : List Terminal} → x ≡ y → us ≡ vs → ◌≡◌ {A = A × List Terminal} (x, us) (y, vs)
-pair_is p q = λ i. (p i, q i)
 
 -- what is known of a row: what its items begin with, and what follows it
 pub record Row {A : Type 0} (q p : Set) (m : Spelled A) (S : A → Type 0) (begins : List Terminal → Bool) (item : Reader A) : Type 0 where
@@ -322,23 +283,6 @@ pub complete_row : {A : Type 0} {q p : Set} {m : Spelled A} {S : A → Type 0} {
 complete_row {begins = begins} {item = item} known ts = record { at = λ xs rest d e. row_case begins item known (length ts) [] ts xs rest (omega arith) e d }
 
 -- items up to a closing brace
-goes_case : (x : TerminalKind) → eqb (front_of x) 0 ≡ false
-goes_case (what.Name n strategy) = refl
-goes_case (what.Number n) = refl
-goes_case (what.Sign s) = off (eqb (code s) 0) refl
-  where
-    off : (c : Bool) → eqb (code s) 0 ≡ c → eqb (code s) 0 ≡ false
-    off true e = let k : code s ≡ 0 = eqb-true (code s) 0 e in absurd (omega (arith, k))
-    off false e = e
-
-pub goes_is : (ts : List Terminal) → others (both (only 0) (only (code sign.CloseBrace))) (front ts) ≡ true → goes_on ts ≡ true
-goes_is [] e = absurd cc
-goes_is (w ∷ ws) e = go (only 0 (front_of w.what)) (goes_case w.what) e
-  where
-    go : (c : Bool) → c ≡ false → not (c || only (code sign.CloseBrace) (front_of w.what)) ≡ true → goes_on (w ∷ ws) ≡ true
-    go true off h = absurd cc
-    go false off h = ap not (front_case sign.CloseBrace w.what) ∙ h
-
 goes_not : (ts : List Terminal) → only (code sign.CloseBrace) (front ts) ≡ true → goes_on ts ≡ false
 goes_not [] e = refl
 goes_not (w ∷ ws) e = ap not (front_case sign.CloseBrace w.what ∙ e)
@@ -443,9 +387,6 @@ round_case {S = S} q (suc below) item known s i ts xs rest d e =
 pub complete_round : {A : Type 0} {q p r : Set} {m : Spelled A} {S : A → Type 0} (left : ℕ) (item : Reader A) → (0 < left → Listing (only (code sign.CloseRound)) p m S item) → Starts m r
     → In r (others (only (code sign.CloseRound))) → (ts : List Terminal) → Complete q (InRound m) (Round left S) ts (in_round left (listed item sign.CloseRound) ts)
 complete_round {q = q} left item known s i ts = record { at = round_case q left item known s i ts }
-
-pub shrinks_name : Shrinks AName
-shrinks_name = record { at = λ ts rest x d. one_shorter ts rest d.terminal d.stands }
 
 pub each_free : {A : Type 0} (xs : List A) → Each Free xs
 each_free [] = tt

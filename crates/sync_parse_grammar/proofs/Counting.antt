@@ -81,9 +81,6 @@ by_terminal : (ts rest : List Terminal) (w : Terminal) → ts ≡ w ∷ rest →
 unfolding times_said
 by_terminal ts rest w e is = ap (λ us. bys us) e ∙ ap (λ (c : Bool). (if c then 1 else 0) + bys rest) is
 
-pub one_shorter : (ts rest : List Terminal) (w : Terminal) → ts ≡ w ∷ rest → length rest < length ts
-one_shorter ts rest w e = let size : length ts ≡ suc (length rest) = ap (λ (us : List Terminal). length us) e in omega (arith, size)
-
 pub silent_the : {s : Sign} → is_same s sign.By ≡ false → Silent true (The s)
 silent_the {s = s} apart = record { at = λ ts rest x d. one_terminal ts rest d.terminal d.stands (ap (λ z. says_sign z sign.By) d.is ∙ apart) }
 

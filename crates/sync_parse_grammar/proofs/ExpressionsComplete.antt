@@ -35,7 +35,8 @@ use Rattle.sync_parse_grammar.specs.Shallow.{flat, with_all, in_brackets, Run, s
 use Rattle.sync_parse_grammar.specs.Shallow as shallow
 use Rattle.sync_parse_grammar.proofs.Depths.{Fits, fits_room, fits_flat, fits_both, both_first, both_second, fits_within, within_fits, each_fits, fits_each, FitsKind, FitsExpr, fits_placed, placed_fits, IsSingle, IsLonger, of_number, of_name, of_param, of_nil, of_special, of_bracketed, of_call, of_not, of_minus, of_times, single_fits, fits_single, run_of, run_placed}
 use Rattle.sync_parse_grammar.proofs.Runs.{operand_run, own_run, product_run, Links, sum_links, and_links, or_links, relation_two, relation_run, and_run, or_run, fits_longer, longer_fits, signs_small, of_implies, implications_small, linked_fits, fits_behind, linked_run, linked_small, chain_back}
-use Rattle.sync_parse_grammar.proofs.Completes.{Met, gives, met_as, too_deep, Complete, Shrinks, shows_then, shows_yields, complete_yields, complete_spelled, complete_then, complete_part, complete_next, complete_here, met_if, met_else, met_within, says, is_it, complete_the, complete_name, complete_factor, front_case, pair_is, Round, complete_round}
+use Rattle.sync_parse_forms.proofs.Completes.{Shrinks, says, is_it, front_case, pair_is}
+use Rattle.sync_parse_grammar.proofs.Completes.{Met, gives, met_as, too_deep, Complete, shows_then, shows_yields, complete_yields, complete_spelled, complete_then, complete_part, complete_next, complete_here, met_if, met_else, met_within, complete_the, complete_name, complete_factor, Round, complete_round}
 
 -- ---- whole expressions
 

@@ -44,10 +44,12 @@ use Rattle.sync_parse_forms.proofs.Clears.{In, only_in, among_in, same_in, Start
 use Rattle.sync_parse_grammar.proofs.ExpressionsClear.{operators, operands, starts_expr}
 use Rattle.sync_parse_grammar.proofs.MachinesSound.{text_sound, read_terminals}
 use Rattle.sync_parse_grammar.proofs.MachinesClear.{formula_fork, value_fork, place_fork, have_fork, starts_act, field_fork, modes, operation_fork, invariant_fork, proof_fork, behind_operations, behind_fields, invariants_follow, operations_follow, terminals_are, weaker}
-use Rattle.sync_parse_grammar.proofs.Counting.{silent_act, silent_field, silent_operation, silent_invariant, silent_claim, silent_block, one_shorter}
+use Rattle.sync_parse_grammar.proofs.Counting.{silent_act, silent_field, silent_operation, silent_invariant, silent_claim, silent_block}
 use Rattle.sync_parse_grammar.specs.Shallow.{Depth, flat, with_both, with_all, in_brackets, expr_depth, pattern_depth, place_depth, act_depth, statement_depth, operation_depth, invariant_depth, machine_depth, proof_depth, IsShallow}
 use Rattle.sync_parse_grammar.proofs.Depths.{Fits, fits_room, fits_flat, fits_both, both_first, both_second, fits_within, within_fits, fits_is, each_fits, fits_each, FitsExpr}
-use Rattle.sync_parse_grammar.proofs.Completes.{Excused, Met, gives, Complete, Free, Shows, Shrinks, shows_then, shows_yields, Row, braced, complete_yields, complete_then, complete_part, complete_next, complete_opening, complete_here, complete_if, complete_last, complete_optional, complete_row, each_free, met_if, met_within, says, begins_is, begins_not, front_case, complete_the, complete_name, complete_number, complete_strategy, complete_names}
+use Rattle.sync_parse_forms.proofs.Counting.{one_shorter}
+use Rattle.sync_parse_forms.proofs.Completes.{Excused, Shrinks, says, begins_is, begins_not, front_case}
+use Rattle.sync_parse_grammar.proofs.Completes.{Met, gives, Complete, Free, Shows, shows_then, shows_yields, Row, braced, complete_yields, complete_then, complete_part, complete_next, complete_opening, complete_here, complete_if, complete_last, complete_optional, complete_row, each_free, met_if, met_within, complete_the, complete_name, complete_number, complete_strategy, complete_names}
 use Rattle.sync_parse_grammar.proofs.ExpressionsComplete.{complete_expr, if_yes, if_no, sign_yes, sign_not}
 use Rattle.sync_parse_grammar.proofs.ScriptsComplete.{union_in, expr_next, complete_script}
 

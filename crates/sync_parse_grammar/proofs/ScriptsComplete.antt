@@ -28,7 +28,8 @@ use Rattle.sync_parse_grammar.proofs.ScriptsClear.{starts_as, scaled_fork, same_
 use Rattle.sync_parse_grammar.proofs.Counting.{Silent, silent_part, silent_step, silent_nested_block}
 use Rattle.sync_parse_grammar.specs.Shallow.{with_both, with_all, expr_depth, block_depth}
 use Rattle.sync_parse_grammar.proofs.Depths.{Fits, fits_room, fits_flat, fits_both, both_first, both_second, fits_within, within_fits, fits_is, Each, each_fits, fits_each, FitsExpr, step_depth, depth_of, FitsStepKind, FitsStep, FitsBlock, step_is, block_is, of_same, of_sum, of_inst, of_parts, of_split, of_cut, of_read, of_size, of_total, of_cong}
-use Rattle.sync_parse_grammar.proofs.Completes.{Met, gives, Complete, Free, Shows, shows_then, shows_yields, braced, complete_yields, complete_then, complete_part, complete_next, complete_opening, complete_here, complete_if, complete_last, complete_row, complete_series, each_free, met_within, no_room, says, complete_sign, complete_the, complete_name, complete_number}
+use Rattle.sync_parse_forms.proofs.Completes.{says}
+use Rattle.sync_parse_grammar.proofs.Completes.{Met, gives, Complete, Free, Shows, shows_then, shows_yields, braced, complete_yields, complete_then, complete_part, complete_next, complete_opening, complete_here, complete_if, complete_last, complete_row, complete_series, each_free, met_within, no_room, complete_sign, complete_the, complete_name, complete_number}
 use Rattle.sync_parse_grammar.proofs.ExpressionsComplete.{complete_expr, complete_args, round_fits, fits_round}
 
 -- ---- alternatives by their first sign

@@ -11,10 +11,9 @@ use Rattle.sync_lex.specs.Terminals.{terminals_in}
 use Rattle.sync_parse_exprs.specs.declared.faults.Fault.{Fault}
 use Rattle.sync_parse_exprs.specs.declared.faults.Fault.TheVariants as fault
 use Rattle.sync_parse.specs.Faults.{refusal_of, refused}
-use Rattle.sync_parse_forms.proofs.Completes.{Met, Excused}
+use Rattle.sync_parse_forms.proofs.Completes.{Met}
 use Rattle.sync_parse_grammar.specs.Texts.{IsVersionOne, MayRefuse, IsOfVersionOne}
 use Rattle.sync_parse_grammar.proofs.MachinesClear.{terminals_are}
-use Rattle.sync_parse_grammar.proofs.Completes as grammar
 use Rattle.sync_parse_grammar.proofs.MachinesComplete.{Stopped, deep_is, stops_is}
 use Rattle.sync_parse_texts.specs.declared.text_reader.RawWholeText.{RawWholeText}
 use Rattle.sync_parse_texts.specs.Texts.{Sections, sections_of, whole_text}
@@ -85,18 +84,10 @@ fault_of ws r (Err f) same h = record { fault = f; stands = same; refuses = err_
 faulted : (text : List ℕ) (ws : Terminals) (r : Refusal) → terminals_in text ≡ Ok ws → whole_text text ≡ Err r → Faulted ws r
 faulted text ws r is e = fault_of ws r (sections_of ws.list) refl (ap of_terminals (sym is) ∙ sym (whole_is text) ∙ e)
 
--- too deep, as the productions of programs and of the grammar say it alike
-deep : (f : Fault) → Excused f → grammar.Excused f
-deep (fault.Deep line) e = tt
-deep (fault.Version line) e = absurd e
-deep fault.Ended e = absurd e
-deep (fault.Wanted line) e = absurd e
-deep (fault.Unbuilt line) e = absurd e
-
 refused_read : (ws : Terminals) (x : Sections) (r : Refusal) → Faulted ws r → Met (sections_of ws.list) x → r.rule ≡ rule.G3
 refused_read ws x r f met =
     let stands : Met {A = Sections} (Err f.fault) x = subst (λ t. Met t x) f.stands met in
-    subst (λ (z : Refusal). z.rule ≡ rule.G3) f.refuses (deep_is ws.last_line f.fault (deep f.fault stands.is))
+    subst (λ (z : Refusal). z.rule ≡ rule.G3) f.refuses (deep_is ws.last_line f.fault stands.is)
 
 refused_stopped : (ws : Terminals) (r : Refusal) → Faulted ws r → Stopped (sections_of ws.list) → (r.rule ≡ rule.G3) ⊎ (r.rule ≡ rule.G4)
 refused_stopped ws r f stopped =

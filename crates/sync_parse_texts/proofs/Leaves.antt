@@ -14,7 +14,7 @@ use Rattle.sync_parse_forms.proofs.Bundle.{IsForm}
 use Rattle.sync_parse_forms.proofs.Coded.{from_laws}
 use Rattle.sync_parse_grammar.specs.Scripts.{Script}
 use Rattle.sync_parse_forms.proofs.Clears.{Starts, starts_then, starts_the, starts_weaker}
-use Rattle.sync_parse_grammar.proofs.Completes.{Complete, Met, Shrinks}
+use Rattle.sync_parse_grammar.proofs.Completes.{Complete, Met}
 use Rattle.sync_parse_grammar.proofs.Counting.{silent_block}
 use Rattle.sync_parse_grammar.proofs.ExpressionsSound.{expr_sound}
 use Rattle.sync_parse_grammar.proofs.ExpressionsClear.{clear_expr, starts_expr}
@@ -37,9 +37,6 @@ excused (Err (fault.Unbuilt line)) x h = absurd h.is.0
 complete : {A : Type 0} {q : Set} {m : forms.Spelled A} {S : A → Type 0} {ts : List Terminal} (r : Read A) → Complete q m S ts r → new_completes.Complete q m ts r
 complete r h = record { at = λ x rest d e. excused r (x, rest) (h.at x rest d e) }
 
-shrinks : {A : Type 0} {m : forms.Spelled A} → Shrinks m → new_completes.Shrinks m
-shrinks h = record { at = h.at }
-
 -- ---- scripts
 
 script_shrinks : (ts rest : List Terminal) (x : RawScript) → Script ts rest x → length rest < length ts
@@ -58,6 +55,6 @@ abbrev pub known_form : (X : Type 0) → Known X → Form X
 known_form X c = record { spelled = known_spelled X c; read = known_read X c }
 
 pub known_law : {s : Bool} (X : Type 0) (c : Known X) (n : ℕ) (q : List ℕ) → all_of (known_follow X c) q ≡ true → IsForm s n true (known_first X c) q (known_form X c) (known_form X c)
-known_law X an_expr n q h = from_laws (known_form X an_expr) (known_first X an_expr) (known_follow X an_expr) (λ left ts. expr_sound left ts) (λ left ts. complete _ (complete_expr left ts)) clear_expr starts_expr (shrinks shrinks_expr) q h
+known_law X an_expr n q h = from_laws (known_form X an_expr) (known_first X an_expr) (known_follow X an_expr) (λ left ts. expr_sound left ts) (λ left ts. complete _ (complete_expr left ts)) clear_expr starts_expr shrinks_expr q h
 known_law X a_script n q h = from_laws (known_form X a_script) (known_first X a_script) (known_follow X a_script) (λ left ts. script_sound left ts) (λ left ts. complete _ (complete_script left ts)) clear_script script_starts
     (record { at = script_shrinks }) q h

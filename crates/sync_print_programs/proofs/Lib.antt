@@ -1,5 +1,4 @@
-mod Alone
+pub mod Alone
 pub mod Shrinks
 pub mod Steps
 pub mod Written
-mod Endings

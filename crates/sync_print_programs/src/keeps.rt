@@ -176,8 +176,9 @@ fn keep_body(
     Ok(())
 }
 
+/// The tokens and facts that a keep lists, in braces.
 #[tactic(auto, unfolding(sync_parse_programs::specs::ProofStatements::keep))]
-pub(crate) fn keep(
+pub fn keep(
     alloc: Global,
     names: &NameList,
     out: &mut Vec<u8>,
@@ -359,7 +360,8 @@ fn declaration(
     }
 }
 
-pub(crate) struct DeclarationItem;
+/// A word or a cell in the row of declarations.
+pub struct DeclarationItem;
 
 impl Repeated for DeclarationItem {
     type Value = RawDeclaration;

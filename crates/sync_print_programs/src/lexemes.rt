@@ -12,7 +12,7 @@ use sync_parse_exprs::{RawExpr, RawName};
 
 /// A sign or a reserved word.
 #[tactic(auto, using(crate::proofs::Steps::sign_written))]
-pub(crate) fn sign(names: &NameList, out: &mut Vec<u8>, sign: Sign) -> Result<(), AllocError>
+pub fn sign(names: &NameList, out: &mut Vec<u8>, sign: Sign) -> Result<(), AllocError>
     ensures { OnOk result (out.new.items ≡ out.old.items ++ lexeme_written names.now (a_sign sign)) }
 {
     sync_print::sign(names, out, sign)
@@ -20,7 +20,7 @@ pub(crate) fn sign(names: &NameList, out: &mut Vec<u8>, sign: Sign) -> Result<()
 
 /// A name.
 #[tactic(auto, using(crate::proofs::Steps::name_written))]
-pub(crate) fn name(names: &NameList, out: &mut Vec<u8>, x: RawName) -> Result<(), AllocError>
+pub fn name(names: &NameList, out: &mut Vec<u8>, x: RawName) -> Result<(), AllocError>
     ensures { OnOk result (out.new.items ≡ out.old.items ++ lexeme_written names.now (a_name x.name)) }
 {
     sync_print::name(names, out, x.name)

@@ -14,7 +14,7 @@ use sync_parse_exprs::{RawExpr, RawName};
 use sync_parse_programs::RawNumber;
 
 /// What rows and lists repeat.
-pub(crate) trait Repeated {
+pub trait Repeated {
     type Value;
 
     ghost writes: { NameList → Self.Value → List ℕ };
@@ -29,7 +29,7 @@ pub(crate) trait Repeated {
 }
 
 /// Items in a row.
-pub(crate) fn in_row<P: Repeated>(
+pub fn in_row<P: Repeated>(
     alloc: Global,
     names: &NameList,
     out: &mut Vec<u8>,
@@ -131,7 +131,7 @@ impl Repeated for NameItem {
 
 /// Expressions in round brackets.
 #[tactic(auto, unfolding(sync_parse_programs::specs::Known::args))]
-pub(crate) fn args(
+pub fn args(
     alloc: Global,
     names: &NameList,
     out: &mut Vec<u8>,
@@ -163,7 +163,7 @@ pub(crate) fn name_list(
 
 /// Scripts in a row.
 #[tactic(auto, unfolding(sync_parse_programs::specs::Known::scripts))]
-pub(crate) fn scripts(
+pub fn scripts(
     alloc: Global,
     names: &NameList,
     out: &mut Vec<u8>,
@@ -176,11 +176,7 @@ pub(crate) fn scripts(
 
 /// `@` and a name, or nothing.
 #[tactic(auto, unfolding(sync_parse_programs::specs::Known::label))]
-pub(crate) fn label(
-    names: &NameList,
-    out: &mut Vec<u8>,
-    x: Option<RawName>,
-) -> Result<(), AllocError>
+pub fn label(names: &NameList, out: &mut Vec<u8>, x: Option<RawName>) -> Result<(), AllocError>
     ensures { OnOk result (out.new.items ≡ out.old.items ++ written_of names.now label x) }
 {
     match x {

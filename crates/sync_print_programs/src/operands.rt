@@ -15,7 +15,7 @@ use sync_parse_programs::{
 
 /// A number or a local.
 #[tactic(auto, unfolding(sync_parse_programs::specs::Operands::operand))]
-pub(crate) fn operand(
+pub fn operand(
     alloc: Global,
     names: &NameList,
     out: &mut Vec<u8>,
@@ -42,8 +42,9 @@ fn relation(names: &NameList, out: &mut Vec<u8>, x: RawRelation) -> Result<(), A
     }
 }
 
+/// Two operands and the relation between them.
 #[tactic(auto, unfolding(sync_parse_programs::specs::Operands::condition))]
-pub(crate) fn condition(
+pub fn condition(
     alloc: Global,
     names: &NameList,
     out: &mut Vec<u8>,
@@ -59,7 +60,7 @@ pub(crate) fn condition(
 
 /// What a local is set to by arithmetic.
 #[tactic(auto, unfolding(sync_parse_programs::specs::Operands::calculated))]
-pub(crate) fn calculated(
+pub fn calculated(
     alloc: Global,
     names: &NameList,
     out: &mut Vec<u8>,
@@ -102,8 +103,9 @@ pub(crate) fn calculated(
     }
 }
 
+/// An operand and its scripts, in square brackets.
 #[tactic(auto, unfolding(sync_parse_programs::specs::Operands::index))]
-pub(crate) fn index(
+pub fn index(
     alloc: Global,
     names: &NameList,
     out: &mut Vec<u8>,
@@ -144,7 +146,7 @@ fn change(
 
 /// A word that is set to an operand.
 #[tactic(auto, unfolding(sync_parse_programs::specs::Operands::stored))]
-pub(crate) fn stored(
+pub fn stored(
     alloc: Global,
     names: &NameList,
     out: &mut Vec<u8>,
@@ -170,8 +172,9 @@ fn cas(alloc: Global, names: &NameList, out: &mut Vec<u8>, x: &RawCas) -> Result
     Ok(())
 }
 
+/// An operation on a word that gives a value.
 #[tactic(auto, unfolding(sync_parse_programs::specs::Operands::word_operation))]
-pub(crate) fn word_operation(
+pub fn word_operation(
     alloc: Global,
     names: &NameList,
     out: &mut Vec<u8>,

@@ -16,7 +16,7 @@ use sync_parse_programs::{
 
 /// A number in square brackets.
 #[tactic(auto, unfolding(sync_parse_programs::specs::ProofStatements::in_squares_number))]
-pub(crate) fn in_squares_number(
+pub fn in_squares_number(
     alloc: Global,
     names: &NameList,
     out: &mut Vec<u8>,
@@ -76,7 +76,7 @@ fn tokens(
 
 /// An operation with its tokens.
 #[tactic(auto, unfolding(sync_parse_programs::specs::ProofStatements::do_form))]
-pub(crate) fn do_form(
+pub fn do_form(
     alloc: Global,
     names: &NameList,
     out: &mut Vec<u8>,
@@ -143,8 +143,9 @@ fn kept_tokens(
     Ok(())
 }
 
+/// Arguments, kept tokens and scripts, as an opened word is closed with them.
 #[tactic(auto, unfolding(sync_parse_programs::specs::ProofStatements::closing))]
-pub(crate) fn closing(
+pub fn closing(
     alloc: Global,
     names: &NameList,
     out: &mut Vec<u8>,
@@ -262,7 +263,7 @@ fn assertion(
 
 /// A proof statement that may stand anywhere.
 #[tactic(auto, unfolding(sync_parse_programs::specs::ProofStatements::plain_proof))]
-pub(crate) fn plain_proof(
+pub fn plain_proof(
     alloc: Global,
     names: &NameList,
     out: &mut Vec<u8>,
@@ -410,8 +411,9 @@ impl Repeated for ProofItem {
     }
 }
 
+/// Proof statements in braces.
 #[tactic(auto, unfolding(sync_parse_programs::specs::ProofStatements::proof_block))]
-pub(crate) fn proof_block(
+pub fn proof_block(
     alloc: Global,
     names: &NameList,
     out: &mut Vec<u8>,

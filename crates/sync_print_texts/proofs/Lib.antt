@@ -1,3 +1,4 @@
+mod Endings
 mod Told
 mod ProgramsTold
 mod Said

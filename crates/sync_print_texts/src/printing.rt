@@ -8,13 +8,13 @@ ghost use Rattle.sync_print_programs.specs.Written.{as_printed};
 ghost use Rattle.sync_print_texts.specs.Rereading.{ReadsBack};
 ghost use Rattle.sync_print_texts.specs.Whole.{show_whole};
 
+use crate::programs::program;
 use sqlite_items::Items;
 use std::alloc::{AllocError, Global};
 use sync_base::NameList;
 use sync_parse_programs::RawProgram;
 use sync_parse_texts::RawWholeText;
 use sync_print::{machine, proofs, version};
-use sync_print_programs::program;
 
 /// A program, or nothing.
 #[tactic(auto, using(sync_print::proofs::Steps::nothing_more), unfolding(sync_parse_texts::specs::Texts::program_part, sync_print_programs::specs::Written::bytes_of))]

@@ -32,10 +32,8 @@ use Rattle.sync_read_names.specs.Scopes.{or_nothing, declare, flag, has_owner, o
 use Rattle.sync_read_names.specs.Exprs.{form_of}
 use Rattle.sync_read.specs.Acts.{few_before, fields_from, params_from, steps_from}
 use Rattle.sync_read.specs.Resolving.{start_count, starts_once, is_started, begin_operation, operation_in, operations_from, begin_invariant, invariant_in, invariants_from, machine_in}
-use Rattle.sync_parse.specs.declared.trees.RawText.{RawText}
-use Rattle.sync_read.specs.Scripts.{proofs_from}
-use Rattle.sync_read.specs.Texts.{TextTree, unowned, first_scope, resolved}
-use Rattle.sync_read.proofs.Chains.{after, after_ok, both, weaker, if_ok}
+use Rattle.sync_read.specs.Texts.{unowned, first_scope}
+use Rattle.sync_read.proofs.Chains.{after_ok, both, weaker, if_ok}
 use Rattle.sync_read.proofs.Sorted.{form_is}
 use Rattle.sync_read.proofs.Owning.{IsCounted, IsLater, name_at, Between, Inside, agrees}
 use Rattle.sync_read.proofs.Declaring.{few_before_ok, no_limit, one_more, declare_is, no_field_name, not_taken, more_between, Anybody, AreFields, fields_are}
@@ -375,12 +373,3 @@ machine_is count m =
 
 pub machine_formed : (count : ℕ) (m : RawMachine) (x : MachineTree × Scope) → machine_in (first_scope count) m ≡ Ok x → machine_fault x.0 ≡ None
 machine_formed count m x e = IfOk-at_ok Keeps e (machine_is count m)
-
--- the text that a raw text means has a machine that breaks no rule of names
-text_is : (raw : RawText) → IfOk (resolved raw) (λ (t : TextTree). machine_fault t.machine ≡ None)
-text_is raw =
-    after_ok (λ (t : TextTree). machine_fault t.machine ≡ None) Keeps (machine_in (first_scope (length raw.names.list)) raw.machine) _ (machine_is (length raw.names.list) raw.machine) (λ m h.
-    after (λ (t : TextTree). machine_fault t.machine ≡ None) (proofs_from [] m.1 raw.proofs) _ (λ ps. h))
-
-pub text_formed : (raw : RawText) (t : TextTree) → resolved raw ≡ Ok t → machine_fault t.machine ≡ None
-text_formed raw t e = IfOk-at_ok (λ (t : TextTree). machine_fault t.machine ≡ None) e (text_is raw)

@@ -1,6 +1,6 @@
 -- What each kind of step is read to, and what a step that is made means.
 use Rattle.std.proofs.Common.{◌≡◌, ℕ, List, Result, Ok, sym, ap, ◌∙◌}
-use Rattle.std.specs.Prelude.{map, []}
+use Rattle.std.specs.Prelude.{[]}
 use Rattle.sync_base.specs.declared.stops.Refusal.{Refusal}
 use Rattle.sync_base.specs.declared.stops.Stop.{Stop}
 use Rattle.sync_base.specs.declared.stops.Stop.TheVariants.{Refused, Memory}

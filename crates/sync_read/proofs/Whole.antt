@@ -1,5 +1,5 @@
 -- Proofs, machines and texts: what they are once their parts are made.
-use Rattle.std.proofs.Common.{◌≡◌, ℕ, List, [], ◌∷◌, length, map, None, Result, Ok, Err, sym, ap, subst, ◌∙◌}
+use Rattle.std.proofs.Common.{◌≡◌, ℕ, List, [], ◌∷◌, map, None, Result, Ok, Err, sym, ap, subst, ◌∙◌}
 use Rattle.sync_base.specs.declared.stops.Refusal.{Refusal}
 use Rattle.sync_base.specs.declared.stops.Stop.{Stop}
 use Rattle.sync_base.specs.declared.stops.Stop.TheVariants.{Refused, Memory}
@@ -12,7 +12,7 @@ use Rattle.sync_machine.specs.Views.{operation_tree, invariant_tree, machine_tre
 use Rattle.sync_machine.specs.Naming.{machine_fault, AreTextNames}
 use Rattle.sync_terms.specs.declared.proofs.Claim.{Claim}
 use Rattle.sync_parse.specs.declared.trees.RawProof.{RawProof}
-use Rattle.sync_parse.specs.declared.trees.RawText.{RawText}
+use Rattle.sync_parse.specs.declared.trees.RawMachine.{RawMachine}
 use Rattle.sync_read_names.specs.declared.scopes.Scope.{Scope}
 use Rattle.sync_read_names.specs.Scopes.{meaning_of}
 use Rattle.sync_read.specs.Acts.{few_before}
@@ -101,17 +101,18 @@ machine_kept t m grows ids =
 pub machine_stays : (t : Stored) (m : Machine) → Extends m.terms t → HasOwnIds m → HasOwnIds (over t m)
 machine_stays t m grows ids = record { ops = operations_stay m.terms t m.ops grows ids.ops; invariants = invariants_stay m.terms t m.invariants grows ids.invariants }
 
-pub names_kept : (t : Stored) (m : Machine) (s next : Scope) (raw : RawText) → Extends m.terms t → HasOwnIds m → machine_in s raw.machine ≡ Ok (machine_tree m, next) → AreTextNames (machine_tree (over t m))
-names_kept t m s next raw grows ids is = subst AreTextNames (sym (machine_kept t m grows ids)) (machine_names s raw.machine (machine_tree m, next) is)
+pub names_kept : (t : Stored) (m : Machine) (s next : Scope) (raw : RawMachine) → Extends m.terms t → HasOwnIds m → machine_in s raw ≡ Ok (machine_tree m, next) → AreTextNames (machine_tree (over t m))
+names_kept t m s next raw grows ids is = subst AreTextNames (sym (machine_kept t m grows ids)) (machine_names s raw (machine_tree m, next) is)
 
-pub formed_kept : (t : Stored) (m : Machine) (s next : Scope) (raw : RawText) (count : ℕ) → Extends m.terms t → HasOwnIds m → s ≡ first_scope count → machine_in s raw.machine ≡ Ok (machine_tree m, next) → machine_fault (machine_tree (over t m)) ≡ None
+pub formed_kept : (t : Stored) (m : Machine) (s next : Scope) (raw : RawMachine) (count : ℕ) → Extends m.terms t → HasOwnIds m → s ≡ first_scope count → machine_in s raw ≡ Ok (machine_tree m, next) → machine_fault (machine_tree (over t m)) ≡ None
 formed_kept t m s next raw count grows ids first is =
-    ap machine_fault (machine_kept t m grows ids) ∙ machine_formed count raw.machine (machine_tree m, next) (ap (λ z. machine_in z raw.machine) (sym first) ∙ is)
+    ap machine_fault (machine_kept t m grows ids) ∙ machine_formed count raw (machine_tree m, next) (ap (λ z. machine_in z raw) (sym first) ∙ is)
 
--- ---- texts
+-- ---- machines with proofs
 
-pub text_stops : (e : Stop) (s : Scope) (raw : RawText) (m : MachineTree × Scope) → s ≡ first_scope (length raw.names.list) → machine_in s raw.machine ≡ Ok m → Stops e (proofs_from [] m.1 raw.proofs) → Stops e (resolved raw)
-text_stops Memory s raw m first machine h = tt
-text_stops (Refused r) s raw m first machine h =
-    ap (λ x. x >>= (λ m. proofs_from [] m.1 raw.proofs >>= (λ ps. Ok (record { machine = m.0; proofs = ps.0; names = raw.names })))) (ap (λ s. machine_in s raw.machine) (sym first) ∙ machine)
-    ∙ ap (λ x. x >>= (λ ps. Ok (record { machine = m.0; proofs = ps.0; names = raw.names }))) h
+pub resolving_stops : (e : Stop) (s : Scope) (names : ℕ) (raw : RawMachine) (proofs : List RawProof) (m : MachineTree × Scope) → s ≡ first_scope names → machine_in s raw ≡ Ok m → Stops e (proofs_from [] m.1 proofs)
+    → Stops e (resolved names raw proofs)
+resolving_stops Memory s names raw proofs m first machine h = tt
+resolving_stops (Refused r) s names raw proofs m first machine h =
+    ap (λ x. x >>= (λ m. proofs_from [] m.1 proofs >>= (λ ps. Ok (record { machine = m.0; proofs = ps.0; scope = ps.1 })))) (ap (λ s. machine_in s raw) (sym first) ∙ machine)
+    ∙ ap (λ x. x >>= (λ ps. Ok (record { machine = m.0; proofs = ps.0; scope = ps.1 }))) h

@@ -9,4 +9,4 @@ mod texts;
 pub use acts::few_before;
 pub use machines::machine;
 pub use scripts::{numbers, proofs, script};
-pub use texts::{Text, first_scope, resolve};
+pub use texts::{Resolved, first_scope, resolve};

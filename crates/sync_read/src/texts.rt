@@ -1,28 +1,28 @@
-//! The machine and the proofs of a text.
+//! The machine and the proofs of a text, with what its names stand for behind them.
 ghost use Rattle.std.specs.Prelude.{◌≡◌, None, IfOk};
 ghost use Rattle.sync_base.specs.Outcome.{Gives};
 ghost use Rattle.sync_machine.specs.Views.{machine_tree, HasOwnIds};
 ghost use Rattle.sync_machine.specs.Naming.{machine_fault, AreTextNames};
 ghost use Rattle.sync_terms.specs.Proofs.{AreScriptsOf};
-ghost use Rattle.sync_read.specs.declared.texts.Text.{Text};
-ghost use Rattle.sync_read.specs.Texts.{first_scope, resolved, text_tree};
+ghost use Rattle.sync_read.specs.declared.texts.Resolved.{Resolved};
+ghost use Rattle.sync_read.specs.Texts.{first_scope, resolved, resolved_tree};
 
 use crate::machines::machine;
 use crate::scripts::proofs;
 use sqlite_items::Items;
 use std::alloc::Global;
-use sync_base::{LONGEST_TEXT, NameList, NoMemory, Stop};
+use sync_base::{LONGEST_TEXT, NoMemory, Stop};
 use sync_machine::Machine;
-use sync_parse::RawText;
+use sync_parse::{RawMachine, RawProof};
 use sync_read_names::{Meaning, Owner, Owners, Scope, Sight};
 use sync_terms::Proofs;
 
-/// A text: its machine, with the store of all its terms, its proofs and its names.
+/// A machine with the store of all its terms, its proofs, and the scope behind them.
 #[derive(Drop)]
-pub struct Text {
+pub struct Resolved {
     pub machine: Machine,
     pub proofs: Proofs,
-    pub names: NameList,
+    pub scope: Scope,
 }
 
 /// A scope of so many names, of which none stands for anything.
@@ -55,26 +55,31 @@ pub fn first_scope(alloc: Global, count: usize) -> Result<Scope, NoMemory>
     })
 }
 
-/// The machine, the proofs and the names of a raw tree. Refuses with the first broken rule N.
+/// The machine and the proofs of raw trees in a text with so many names. Refuses with the first broken rule N.
 ///
 /// The machine breaks no rule of names, so nothing has to ask once more.
 #[tactic(auto, using(crate::proofs::Growing::operations_kept, crate::proofs::Growing::operations_stay, crate::proofs::Growing::invariants_kept, crate::proofs::Growing::invariants_stay, sync_read_names::proofs::Kept::stays))]
-pub fn resolve(alloc: Global, raw: RawText) -> Result<Text, Stop>
-    ensures exact { Gives text_tree result (resolved raw) }
-    ensures ids { IfOk result (λ (t : Text). HasOwnIds t.machine) }
-    ensures names { IfOk result (λ (t : Text). AreTextNames (machine_tree t.machine)) }
-    ensures formed { IfOk result (λ (t : Text). machine_fault (machine_tree t.machine) ≡ None) }
-    ensures scripts { IfOk result (λ (t : Text). AreScriptsOf t.machine.terms t.proofs.list) }
+pub fn resolve(
+    alloc: Global,
+    names: usize,
+    raw: &RawMachine,
+    raw_proofs: &[RawProof],
+) -> Result<Resolved, Stop>
+    ensures exact { Gives resolved_tree result (resolved names raw.now raw_proofs.now) }
+    ensures ids { IfOk result (λ (t : Resolved). HasOwnIds t.machine) }
+    ensures names { IfOk result (λ (t : Resolved). AreTextNames (machine_tree t.machine)) }
+    ensures formed { IfOk result (λ (t : Resolved). machine_fault (machine_tree t.machine) ≡ None) }
+    ensures scripts { IfOk result (λ (t : Resolved). AreScriptsOf t.machine.terms t.proofs.list) }
 {
-    let mut scope = first_scope(alloc, raw.names.list.len())?;
+    let mut scope = first_scope(alloc, names)?;
     let Machine {
         name,
         fields,
         ops,
         invariants,
         mut terms,
-    } = machine(alloc, &mut scope, &raw.machine)?;
-    let list = proofs(alloc, &mut terms, &mut scope, raw.proofs.as_slice())?;
+    } = machine(alloc, &mut scope, raw)?;
+    let list = proofs(alloc, &mut terms, &mut scope, raw_proofs)?;
     let machine = Machine {
         name,
         fields,
@@ -82,9 +87,9 @@ pub fn resolve(alloc: Global, raw: RawText) -> Result<Text, Stop>
         invariants,
         terms,
     };
-    Ok(Text {
+    Ok(Resolved {
         machine,
         proofs: Proofs { list },
-        names: raw.names,
+        scope,
     })
 }

@@ -4,3 +4,4 @@ pub mod Keeps
 pub mod ProofStatements
 pub mod Statements
 pub mod Programs
+pub mod Parts

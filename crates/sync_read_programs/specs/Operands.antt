@@ -1,5 +1,5 @@
 -- Operands, conditions, calculations, indices and scripts of a program, or the first rule of names that they break.
-use Rattle.std.specs.Prelude.{ℕ, suc, ◌^◌, nat_lt, nat_eq, min, ◌||◌, List, [], ◌∷◌, ◌++◌, Option, Some, None, option_map, Result, Ok, if◌then◌else◌}
+use Rattle.std.specs.Prelude.{ℕ, suc, ◌^◌, nat_lt, nat_eq, min, List, [], ◌∷◌, ◌++◌, Option, option_map, Result, Ok, if◌then◌else◌}
 use Rattle.sync_base.specs.declared.stops.Refusal.{Refusal}
 use Rattle.sync_base.specs.declared.stops.Rule.TheVariants.{N1, N5}
 use Rattle.sync_base.specs.Outcome.{◌>>=◌}

@@ -3,6 +3,7 @@ use Rattle.std.specs.Prelude.{ℕ, ◌+◌, true, false, List, [], ◌∷◌, �
 use Rattle.sync_base.specs.declared.stops.Refusal.{Refusal}
 use Rattle.sync_base.specs.Outcome.{◌>>=◌}
 use Rattle.sync_machine.specs.Machines.{MachineTree}
+use Rattle.sync_parse_exprs.specs.declared.raw_names.RawName.{RawName}
 use Rattle.sync_parse_programs.specs.declared.statements.RawList.{RawList}
 use Rattle.sync_parse_programs.specs.declared.statements.RawStart.{RawStart}
 use Rattle.sync_parse_programs.specs.declared.statements.RawThread.{RawThread}
@@ -12,7 +13,7 @@ use Rattle.sync_read_names.specs.declared.scopes.Scope.{Scope}
 use Rattle.sync_read.specs.Acts.{few_before}
 use Rattle.sync_read_programs.specs.declared.scopes.Aims.{Aims}
 use Rattle.sync_read_programs.specs.declared.scopes.ProgramScope.{ProgramScope}
-use Rattle.sync_read_programs.specs.Scopes.{scope_behind, in_start, in_thread, in_ends, in_last, note_thread, first_of_name}
+use Rattle.sync_read_programs.specs.Scopes.{scope_behind, in_start, in_thread, in_ends, in_last, prove_name, note_thread, first_of_name}
 use Rattle.sync_read_programs.specs.Keeps.{keep_in, all_room, declarations_from}
 use Rattle.sync_read_programs.specs.ProofStatements.{start_exchange, start_steps_from}
 use Rattle.sync_read_programs.specs.Statements.{list_in}
@@ -32,6 +33,13 @@ start_in s x = do
 abbrev pub aims_at : Option ℕ → Aims
 aims_at end = record { next = None; breaks = None; meet = None; end = end }
 
+-- the names that a thread takes are known in its body, also those that its keep at the end has too
+unfoldable pub known_again : ProgramScope → List RawName → Result ProgramScope Refusal
+known_again s [] = Ok s
+known_again s (n ∷ ns) = do
+  s2 ← prove_name s n
+  known_again s2 ns
+
 -- the thread with this number
 unfoldable pub thread_in : ℕ → ProgramScope → RawThread → Result (ThreadTree × ProgramScope) Refusal
 thread_in number s t = do
@@ -39,7 +47,8 @@ thread_in number s t = do
   m ← first_of_name number s t.name
   takes ← keep_in false (in_thread number s) t.takes
   ends ← keep_in true (in_ends number takes.1) t.ends
-  body ← list_in t.body (aims_at (Some (length t.ends.names))) (in_thread number ends.1)
+  again ← known_again (in_thread number ends.1) t.takes.names
+  body ← list_in t.body (aims_at (Some (length t.ends.names))) again
   Ok (record { name = t.name.name; takes = takes.0; ends = ends.0; body = body.0; line = t.line }, body.1)
 
 unfoldable pub threads_from : List ThreadTree → ProgramScope → List RawThread → Result (List ThreadTree × ProgramScope) Refusal

@@ -128,7 +128,7 @@ closes w c line = if (length c.args == w.names) && (length c.tokens == w.clauses
 
 -- ---- statements that stand everywhere
 
--- the name differs from the locals before its term is read, and is known behind it
+-- the name differs from locals and constants before its term is read, and is known behind it
 unfoldable pub let_in : ProgramScope → RawLet → Result (ProofTree × ProgramScope) Refusal
 let_in s l = do
   n ← may_prove s l.name

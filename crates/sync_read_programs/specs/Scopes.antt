@@ -1,8 +1,7 @@
 -- What the names of a program stand for at a place, and how they come to stand for it.
-use Rattle.std.specs.Prelude.{ℕ, suc, ◌+◌, ◌-◌, ◌^◌, ◌==◌, nat_eq, nat_lt, min, Bool, true, false, ◌&&◌, ◌||◌, List, [], ◌∷◌, length, map, count_by, replicate, slice_get, slice_set, Option, Some, None, is_some, is_none, Result, Ok, Err, if◌then◌else◌}
+use Rattle.std.specs.Prelude.{ℕ, ◌+◌, ◌-◌, ◌^◌, ◌==◌, nat_eq, min, Bool, true, false, ◌||◌, List, [], ◌∷◌, length, map, count_by, replicate, slice_get, slice_set, Option, Some, None, Result, Ok, if◌then◌else◌}
 use Rattle.sync_base.specs.declared.stops.Refusal.{Refusal}
-use Rattle.sync_base.specs.declared.stops.Rule.TheVariants.{N1, N2, N3, N5}
-use Rattle.sync_base.specs.Outcome.{◌>>=◌}
+use Rattle.sync_base.specs.declared.stops.Rule.TheVariants.{N1, N2, N3}
 use Rattle.sync_base.specs.declared.strategies.Strategy.{Strategy}
 use Rattle.sync_base.specs.declared.strategies.Strategy.TheVariants as strategy
 use Rattle.sync_base.specs.declared.strategies.OpMode.{OpMode}
@@ -14,7 +13,6 @@ use Rattle.sync_rules.specs.declared.slots.Role.{Role}
 use Rattle.sync_rules.specs.declared.slots.Role.TheVariants as role
 use Rattle.sync_rules.specs.Slots.{SlotTree, slots_of}
 use Rattle.sync_parse_exprs.specs.declared.raw_names.RawName.{RawName}
-use Rattle.sync_read_names.specs.declared.scopes.Meaning.TheVariants as meaning
 use Rattle.sync_read_names.specs.declared.scopes.Owners.{Owners}
 use Rattle.sync_read_names.specs.declared.scopes.Owner.{Owner}
 use Rattle.sync_read_names.specs.declared.scopes.Owner.TheVariants as owner
@@ -29,7 +27,6 @@ use Rattle.sync_read_programs.specs.declared.scopes.Standing.{Standing}
 use Rattle.sync_read_programs.specs.declared.scopes.Call.{Call}
 use Rattle.sync_read_programs.specs.declared.scopes.Purpose.{Purpose}
 use Rattle.sync_read_programs.specs.declared.scopes.Purpose.TheVariants as purpose
-use Rattle.sync_read_programs.specs.declared.scopes.Aims.{Aims}
 use Rattle.sync_read_programs.specs.declared.scopes.ProgramScope.{ProgramScope}
 
 -- a refusal where a test is true

@@ -1,6 +1,6 @@
 -- Statements of a program, or the first rule of names that they break: a statement is what it puts before the rest of
 -- its list.
-use Rattle.std.specs.Prelude.{ℕ, Bool, true, false, List, [], ◌∷◌, ◌++◌, length, Option, Some, None, option_map, Result, Ok, if◌then◌else◌}
+use Rattle.std.specs.Prelude.{ℕ, Bool, true, false, List, [], ◌∷◌, ◌++◌, length, Option, Some, None, option_map, Result, Ok}
 use Rattle.sync_base.specs.declared.stops.Refusal.{Refusal}
 use Rattle.sync_base.specs.Outcome.{◌>>=◌}
 use Rattle.sync_parse_exprs.specs.declared.raw_names.RawName.{RawName}
@@ -35,7 +35,7 @@ use Rattle.sync_read_programs.specs.declared.scopes.WordCounts.{WordCounts}
 use Rattle.sync_read_programs.specs.declared.scopes.Purpose.TheVariants as purpose
 use Rattle.sync_read_programs.specs.declared.scopes.Aims.{Aims}
 use Rattle.sync_read_programs.specs.declared.scopes.ProgramScope.{ProgramScope}
-use Rattle.sync_read_programs.specs.Scopes.{as_many, as_many_if, may_assign, assign_name, word_in, cell_in, with_wrap, knows_wrap}
+use Rattle.sync_read_programs.specs.Scopes.{as_many_if, may_assign, assign_name, word_in, cell_in, with_wrap, knows_wrap}
 use Rattle.sync_read_programs.specs.Operands.{label_of, operand_in, two_operands, condition_in, calculation_in, scripts_from, index_in}
 use Rattle.sync_read_programs.specs.Keeps.{keep_in, keep_if}
 use Rattle.sync_read_programs.specs.ProofStatements.{exchange_in, plain_in, proof_block}

@@ -1,10 +1,17 @@
-//! What each name of a program stands for: what its raw tree means, or the first rule N that it breaks, as definitions; and
-//! the scopes in which names stand.
+//! From the raw tree of a program to its plain tree over a machine: what each name stands for, with the first rule N that
+//! is broken.
 #![tactic(auto)]
 
+mod declarations;
+mod keeps;
+mod operands;
+mod programs;
+mod proof_statements;
 mod scopes;
+mod shapes;
+mod statements;
 
+pub use programs::program;
 pub use scopes::{
-    Aims, Call, Declared, Entrance, ProgramScope, Purpose, Room, Standing, WordCounts, as_many,
-    as_many_if, may_call,
+    Aims, Call, Declared, Entrance, ProgramScope, Purpose, Room, Standing, WordCounts, scope_behind,
 };

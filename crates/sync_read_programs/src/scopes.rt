@@ -1,13 +1,21 @@
 //! What the names of a program stand for at a place.
-ghost use Rattle.std.specs.Prelude.{◌≡◌, ◌<◌};
+ghost use Rattle.std.specs.Prelude.{◌≡◌, ℕ, ◌<◌, map, length, count_by, get_or, IfOk};
 ghost use Rattle.sync_base.specs.Outcome.{Gives};
-ghost use Rattle.sync_read_programs.specs.Scopes.{is_cell, as_many, as_many_if, may_call, with_local, has_proof, word_sight, thread_sight};
+ghost use Rattle.sync_terms.specs.Stored.{Stored};
+ghost use Rattle.sync_machine.specs.Views.{act_tree, operation_tree, machine_tree, HasOwnIds};
+ghost use Rattle.sync_machine.specs.declared.fields.Field.{Field};
+ghost use Rattle.sync_rules.specs.declared.slots.Slot.{Slot};
+ghost use Rattle.sync_machine.specs.declared.machine.Step.{Step};
+ghost use Rattle.sync_read_names.specs.Scopes.{with_flag};
+ghost use Rattle.sync_read_programs.specs.Scopes.{is_constant, constants_from, names_token, gives_token, is_guard, is_cell, calls_of, call_of, scope_behind, as_many, as_many_if, may_call, with_local, has_proof, word_sight, thread_sight};
 
 use sqlite_items::{Items, at};
-use sync_base::{Rule, Stop};
-use sync_machine::{OpMode, Strategy};
+use std::alloc::Global;
+use sync_base::{NoMemory, Rule, Stop, place_number};
+use sync_machine::{Act, Field, Machine, OpMode, Operation, Step, Strategy};
 use sync_parse_exprs::RawName;
-use sync_read_names::{Meaning, Owner, Owners, Scope, Sight, refused};
+use sync_read_names::{Meaning, Owner, Owners, Scope, Sight, refused, with_flag};
+use sync_rules::{Role, Slot, signature};
 
 /// How many names a word has for values, how many clauses, and how many of these without a guard.
 #[derive(Clone, Copy, PartialEq, Eq, Debug)]
@@ -99,7 +107,7 @@ pub struct ProgramScope {
 }
 
 /// As many as are wanted, or N3 at the called name.
-pub fn as_many(found: usize, wanted: usize, line: u32) -> Result<usize, Stop>
+pub(crate) fn as_many(found: usize, wanted: usize, line: u32) -> Result<usize, Stop>
     ensures { Gives (λ n. n) result (as_many found wanted line) }
 {
     if found == wanted {
@@ -110,7 +118,7 @@ pub fn as_many(found: usize, wanted: usize, line: u32) -> Result<usize, Stop>
 }
 
 /// The same, where something is wanted.
-pub fn as_many_if(wanted: Option<usize>, found: usize, line: u32) -> Result<usize, Stop>
+pub(crate) fn as_many_if(wanted: Option<usize>, found: usize, line: u32) -> Result<usize, Stop>
     ensures { Gives (λ n. n) result (as_many_if wanted found line) }
 {
     match wanted {
@@ -119,8 +127,185 @@ pub fn as_many_if(wanted: Option<usize>, found: usize, line: u32) -> Result<usiz
     }
 }
 
+fn is_constant(strategy: Strategy) -> bool
+    ensures { result ≡ is_constant strategy }
+{
+    match strategy {
+        Strategy::Constant => true,
+        Strategy::Variable
+        | Strategy::NotTokenized
+        | Strategy::Count
+        | Strategy::PersistentCount
+        | Strategy::Option
+        | Strategy::Map
+        | Strategy::Set
+        | Strategy::Multiset
+        | Strategy::PersistentOption
+        | Strategy::PersistentMap
+        | Strategy::PersistentSet
+        | Strategy::StorageMap => false,
+    }
+}
+
+/// The same flags with one of them up.
+fn flagged(flags: u64, number: usize) -> u64
+    ensures { result ≡ with_flag flags number }
+{
+    if number < 64 {
+        with_flag(flags, number as u32)
+    } else {
+        flags
+    }
+}
+
+/// A flag for each constant among the first 64 fields.
+#[tactic(auto, unfolding(crate::specs::Scopes::constants_from))]
+fn constants(fields: &[Field]) -> u64
+    ensures { result ≡ constants_from 0 0 fields.now }
+{
+    let mut flags = 0;
+    for (number, field) in fields.iter().enumerate() {
+        if is_constant(field.strategy) {
+            flags = flagged(flags, number);
+        }
+    }
+    flags
+}
+
+fn names_token(role: Role) -> bool
+    ensures { result ≡ names_token role }
+{
+    match role {
+        Role::Change | Role::Read | Role::Taken | Role::In => true,
+        Role::Given | Role::Out | Role::Seen => false,
+    }
+}
+
+fn gives_token(role: Role) -> bool
+    ensures { result ≡ gives_token role }
+{
+    match role {
+        Role::Given | Role::Out => true,
+        Role::Change | Role::Read | Role::Taken | Role::In | Role::Seen => false,
+    }
+}
+
+fn is_guard(act: Act) -> bool
+    ensures { (s : Stored) → result ≡ is_guard (act_tree s act) }
+{
+    match act {
+        Act::Guard(_, _) => true,
+        Act::Init(_, _)
+        | Act::Require(_)
+        | Act::Assert(_)
+        | Act::Update(_, _)
+        | Act::HaveVariable(_)
+        | Act::Have(_, _)
+        | Act::Add(_, _)
+        | Act::Deposit(_, _)
+        | Act::Remove(_, _)
+        | Act::Withdraw(_, _) => false,
+    }
+}
+
+/// How many of the slots want the name of a token.
+fn named_slots(slots: &[Slot]) -> usize
+    ensures { result ≡ count_by (λ (x : Slot). names_token x.role) slots.now }
+{
+    slots.iter().filter(|slot| names_token(slot.role)).count()
+}
+
+/// How many of the slots give a token.
+fn given_slots(slots: &[Slot]) -> usize
+    ensures { result ≡ count_by (λ (x : Slot). gives_token x.role) slots.now }
+{
+    slots.iter().filter(|slot| gives_token(slot.role)).count()
+}
+
+/// How many statements are guards.
+fn guards(steps: &[Step]) -> usize
+    ensures { (s : Stored) → result ≡ count_by (λ (x : Step). is_guard (act_tree s x.act)) steps.now }
+{
+    steps.iter().filter(|step| is_guard(step.act)).count()
+}
+
+/// What whoever calls the operation with this number brings.
+fn called_so(
+    alloc: Global,
+    machine: &Machine,
+    number: u32,
+    operation: &Operation,
+) -> Result<Call, NoMemory>
+    requires ids { HasOwnIds machine.now }
+    requires low { number < length machine.now.ops }
+    requires there { operation.now ≡ get_or machine.now.ops number operation.now }
+    ensures { IfOk result (λ c. c ≡ call_of machine.now.fields (operation_tree machine.now.terms operation.now)) }
+{
+    let slots = signature(alloc, machine, number)?;
+    Ok(Call {
+        mode: operation.mode,
+        args: operation.params.len(),
+        tokens: named_slots(slots.as_slice()),
+        given: given_slots(slots.as_slice()),
+        guards: guards(operation.steps.as_slice()),
+    })
+}
+
+/// The calls of a machine's operations.
+fn calls(alloc: Global, machine: &Machine) -> Result<Items<Call>, NoMemory>
+    requires ids { HasOwnIds machine.now }
+    ensures { IfOk result (λ cs. cs ≡ calls_of (machine_tree machine.now)) }
+{
+    let mut held = Items::new(alloc);
+    for (number, operation) in machine.ops.as_slice().iter().enumerate() {
+        let made = called_so(alloc, machine, place_number(number)?, operation)?;
+        held.push(made)?;
+    }
+    Ok(held)
+}
+
+/// The strategies of fields.
+fn strategies(alloc: Global, fields: &[Field]) -> Result<Items<Strategy>, NoMemory>
+    ensures { IfOk result (λ xs. xs ≡ map (λ (f : Field). f.strategy) fields.now) }
+{
+    let mut held = Items::new(alloc);
+    for field in fields {
+        held.push(field.strategy)?;
+    }
+    Ok(held)
+}
+
+/// The scope behind a machine and its proofs, which have so many scripts.
+pub fn scope_behind(
+    alloc: Global,
+    machine: &Machine,
+    scope: Scope,
+    scripts: usize,
+) -> Result<ProgramScope, NoMemory>
+    requires ids { HasOwnIds machine.now }
+    ensures { IfOk result (λ s. s ≡ scope_behind (machine_tree machine.now) scope scripts) }
+{
+    let none = Standing {
+        declared: Declared::Nothing,
+        thread: None,
+        ends_token: false,
+        listed: 0,
+    };
+    let standings = Items::from_vec(vec![in alloc; none; scope.meanings.len()]?);
+    Ok(ProgramScope {
+        standings,
+        calls: calls(alloc, machine)?,
+        strategies: strategies(alloc, machine.fields.as_slice())?,
+        constants: constants(machine.fields.as_slice()),
+        starts: false,
+        lists: 0,
+        scripts,
+        scope,
+    })
+}
+
 /// Whether an operation may be called so.
-pub fn may_call(purpose: Purpose, call: Call) -> bool
+pub(crate) fn may_call(purpose: Purpose, call: Call) -> bool
     ensures { result ≡ may_call purpose call }
 {
     match purpose {
@@ -192,21 +377,21 @@ impl ProgramScope {
     }
 
     /// In the clauses of a word.
-    pub fn enter_word(&mut self, name: u32)
+    pub(crate) fn enter_word(&mut self, name: u32)
         ensures { self.new ≡ in_word name self.old }
     {
         self.enter(false, Owner::Word(name), word_sight(self.constants));
     }
 
     /// In the start, whose arguments know no constant.
-    pub fn enter_start(&mut self)
+    pub(crate) fn enter_start(&mut self)
         ensures { self.new ≡ in_start self.old }
     {
         self.enter(true, Owner::Thread(1), thread_sight(0));
     }
 
     /// In the thread with this number.
-    pub fn enter_thread(&mut self, number: usize)
+    pub(crate) fn enter_thread(&mut self, number: usize)
         requires { number < 16 }
         ensures { self.new ≡ in_thread number self.old }
     {
@@ -218,7 +403,7 @@ impl ProgramScope {
     }
 
     /// In the keep that the thread with this number ends with.
-    pub fn enter_ends(&mut self, number: usize)
+    pub(crate) fn enter_ends(&mut self, number: usize)
         requires { number < 16 }
         ensures { self.new ≡ in_ends number self.old }
     {
@@ -230,34 +415,34 @@ impl ProgramScope {
     }
 
     /// In the final block.
-    pub fn enter_last(&mut self)
+    pub(crate) fn enter_last(&mut self)
         ensures { self.new ≡ in_last self.old }
     {
         self.enter(false, Owner::Last(18), thread_sight(self.constants));
     }
 
     /// From here on constants are known.
-    pub fn know_constants(&mut self)
+    pub(crate) fn know_constants(&mut self)
         ensures { self.new ≡ with_constants self.old }
     {
         self.scope.sight.fields = Some(self.constants);
     }
 
     /// Whether `old` and `new` are known.
-    pub fn set_atomic(&mut self, known: bool)
+    pub(crate) fn set_atomic(&mut self, known: bool)
         ensures { self.new ≡ with_atomic known self.old }
     {
         self.scope.sight.atomic = known;
     }
 
     /// Whether `wrap` is known.
-    pub fn set_wrap(&mut self, known: bool)
+    pub(crate) fn set_wrap(&mut self, known: bool)
         ensures { self.new ≡ with_wrap known self.old }
     {
         self.scope.sight.wrap = known;
     }
 
-    pub fn knows_wrap(&self) -> bool
+    pub(crate) fn knows_wrap(&self) -> bool
         ensures { result ≡ knows_wrap self.now }
     {
         self.scope.sight.wrap
@@ -282,7 +467,7 @@ impl ProgramScope {
     }
 
     /// A name that may be a proof name.
-    pub fn may_prove(&self, named: RawName) -> Result<u32, Stop>
+    pub(crate) fn may_prove(&self, named: RawName) -> Result<u32, Stop>
         ensures { Gives (λ n. n) result (may_prove self.now named) }
     {
         if self.is_constant_name(named.name) || self.scope.is_assigned(named.name) {
@@ -293,7 +478,7 @@ impl ProgramScope {
     }
 
     /// A name that may be a local.
-    pub fn may_assign(&self, named: RawName) -> Result<u32, Stop>
+    pub(crate) fn may_assign(&self, named: RawName) -> Result<u32, Stop>
         ensures { Gives (λ n. n) result (may_assign self.now named) }
     {
         if self.is_constant_name(named.name) || self.is_proof_name(named.name) {
@@ -304,7 +489,7 @@ impl ProgramScope {
     }
 
     /// A proof name, known from here on.
-    pub fn prove_name(&mut self, named: RawName) -> Result<(), Stop>
+    pub(crate) fn prove_name(&mut self, named: RawName) -> Result<(), Stop>
         ensures { Gives (λ _. self.new) result (prove_name self.old named) }
     {
         let owners = match at(self.scope.owners.as_slice(), named.name as usize) {
@@ -317,7 +502,7 @@ impl ProgramScope {
     }
 
     /// A local, known from here on.
-    pub fn assign_name(&mut self, named: RawName) -> Result<(), Stop>
+    pub(crate) fn assign_name(&mut self, named: RawName) -> Result<(), Stop>
         ensures { Gives (λ _. self.new) result (assign_name self.old named) }
     {
         let owners = match at(self.scope.owners.as_slice(), named.name as usize) {
@@ -330,7 +515,7 @@ impl ProgramScope {
     }
 
     /// A proof name of a keep that a thread ends with, which no other such keep has.
-    pub fn end_name(&mut self, named: RawName) -> Result<(), Stop>
+    pub(crate) fn end_name(&mut self, named: RawName) -> Result<(), Stop>
         ensures { Gives (λ _. self.new) result (end_name self.old named) }
     {
         let owners = match at(self.scope.owners.as_slice(), named.name as usize) {
@@ -347,7 +532,7 @@ impl ProgramScope {
     }
 
     /// A name that a word has for a value, once.
-    pub fn word_name(&mut self, named: RawName) -> Result<(), Stop>
+    pub(crate) fn word_name(&mut self, named: RawName) -> Result<(), Stop>
         ensures { Gives (λ _. self.new) result (word_name self.old named) }
     {
         if self.scope.is_local(named.name) {
@@ -379,7 +564,7 @@ impl ProgramScope {
     }
 
     /// A word or cell of a new name.
-    pub fn declare_name(&mut self, declared: Declared, named: RawName) -> Result<(), Stop>
+    pub(crate) fn declare_name(&mut self, declared: Declared, named: RawName) -> Result<(), Stop>
         ensures { Gives (λ _. self.new) result (declare_name declared self.old named) }
     {
         let mut standing = self.standing(named.name);
@@ -394,7 +579,7 @@ impl ProgramScope {
     }
 
     /// The counts of a word.
-    pub fn word(&self, named: RawName) -> Result<WordCounts, Stop>
+    pub(crate) fn word(&self, named: RawName) -> Result<WordCounts, Stop>
         ensures { Gives (λ c. c) result (word_in self.now named) }
     {
         match self.standing(named.name).declared {
@@ -404,7 +589,7 @@ impl ProgramScope {
     }
 
     /// Whether a name is that of a cell.
-    pub fn is_cell(&self, name: u32) -> bool
+    pub(crate) fn is_cell(&self, name: u32) -> bool
         ensures { result ≡ is_cell (standing_of self.now name).declared }
     {
         match self.standing(name).declared {
@@ -414,7 +599,7 @@ impl ProgramScope {
     }
 
     /// The name of a cell.
-    pub fn cell(&self, named: RawName) -> Result<u32, Stop>
+    pub(crate) fn cell(&self, named: RawName) -> Result<u32, Stop>
         ensures { Gives (λ n. n) result (cell_in self.now named) }
     {
         if self.is_cell(named.name) {
@@ -425,7 +610,7 @@ impl ProgramScope {
     }
 
     /// A thread.
-    pub fn thread_named(&self, named: RawName) -> Result<Entrance, Stop>
+    pub(crate) fn thread_named(&self, named: RawName) -> Result<Entrance, Stop>
         ensures { Gives (λ e. e) result (thread_named self.now named) }
     {
         match self.standing(named.name).thread {
@@ -435,7 +620,7 @@ impl ProgramScope {
     }
 
     /// The thread with this number, which takes so many names; the first of a name counts.
-    pub fn note_thread(&mut self, number: usize, names: usize, named: RawName)
+    pub(crate) fn note_thread(&mut self, number: usize, names: usize, named: RawName)
         ensures { self.new ≡ note_thread number names self.old named }
     {
         let mut standing = self.standing(named.name);
@@ -448,7 +633,7 @@ impl ProgramScope {
     }
 
     /// The number of a thread whose name no earlier one has.
-    pub fn first_of_name(&self, number: usize, named: RawName) -> Result<usize, Stop>
+    pub(crate) fn first_of_name(&self, number: usize, named: RawName) -> Result<usize, Stop>
         ensures { Gives (λ n. n) result (first_of_name number self.now named) }
     {
         if let Some(entrance) = self.standing(named.name).thread {
@@ -460,14 +645,14 @@ impl ProgramScope {
     }
 
     /// Another list of names begins.
-    pub fn next_list(&mut self)
+    pub(crate) fn next_list(&mut self)
         ensures { self.new ≡ next_list self.old }
     {
         self.lists = self.lists.saturating_add(1);
     }
 
     /// A name stands in a list once.
-    pub fn list_name(&mut self, named: RawName) -> Result<(), Stop>
+    pub(crate) fn list_name(&mut self, named: RawName) -> Result<(), Stop>
         ensures { Gives (λ _. self.new) result (list_name self.old named) }
     {
         let mut standing = self.standing(named.name);
@@ -480,7 +665,7 @@ impl ProgramScope {
     }
 
     /// A token name of a keep that a thread ends with, which no other such keep has.
-    pub fn end_token(&mut self, named: RawName) -> Result<(), Stop>
+    pub(crate) fn end_token(&mut self, named: RawName) -> Result<(), Stop>
         ensures { Gives (λ _. self.new) result (end_token self.old named) }
     {
         let mut standing = self.standing(named.name);

@@ -97,7 +97,7 @@ fn all_read_at_hand(m: &Machine, steps: &[Step]) -> bool
 
 /// Whether the exchange of the operation with this number does not look at the whole state.
 ///
-/// It costs the statements times the nodes of the terms that fields without tokens get.
+/// It costs the nodes of the terms that fields without tokens get, times the nodes of the operation.
 pub fn is_plain(m: &Machine, op: u32) -> bool
     requires ids { HasOwnIds m.now }
     requires op { op < length m.now.ops }

@@ -71,7 +71,12 @@ pub(crate) fn machine(alloc: Global) -> Option<Machine>
     ensures { IfSome result HasOwnIds }
 {
     match parse(alloc, TEXT) {
-        Ok(raw) => match resolve(alloc, raw) {
+        Ok(raw) => match resolve(
+            alloc,
+            raw.names.list.len(),
+            &raw.machine,
+            raw.proofs.as_slice(),
+        ) {
             Ok(text) => Some(text.machine),
             Err(_) => None,
         },

@@ -4,6 +4,7 @@
 mod exchanges;
 mod machines;
 mod pieces;
+mod runs;
 mod shards;
 mod slots;
 mod words;
@@ -14,6 +15,10 @@ fn main(rt: HostRuntime) -> io::Result<()> {
     words::print_steps(&rt)?;
     let sum = words::sum_of_threads(&rt, rt.alloc());
     println!(rt; "1 added two thousand times by two threads: {sum:?}")?;
+    runs::print_events(&rt)?;
+    runs::print_run(&rt, 3)?;
+    runs::print_run(&rt, 1)?;
+    runs::print_run(&rt, 0)?;
     let Some(m) = machines::machine(rt.alloc()) else {
         return println!(rt; "no machine");
     };

@@ -1,20 +1,18 @@
 -- What a shared step with its values does is what the step of the code does.
-use Rattle.std.proofs.Common.{◌≡◌, ℕ, ◌<◌, List, [], ◌∷◌, ◌++◌, length, slice_set, slice_index_or, Option, Some, None, Result, Ok, Err, refl, sym, ap, ◌∙◌}
+use Rattle.std.proofs.Common.{◌≡◌, ℕ, ◌<◌, [], ◌∷◌, ◌++◌, length, slice_set, slice_index_or, Option, Some, None, Result, Ok, Err, refl, ap, ◌∙◌}
 use Rattle.sync_base.specs.Outcome.{◌>>=◌}
-use Rattle.sync_thread.specs.declared.operands.CodeDecl.{CodeDecl}
-use Rattle.sync_thread.specs.declared.operands.Line.{Line}
 use Rattle.sync_thread.specs.declared.operands.Opd.{Opd}
 use Rattle.sync_thread.specs.declared.operands.WordOp.{WordOp}
 use Rattle.sync_thread.specs.declared.operands.WordOp.TheVariants as op
-use Rattle.sync_thread.specs.Arrays.{Span, words_named, cells_named}
+use Rattle.sync_thread.specs.Arrays.{words_named, cells_named}
 use Rattle.sync_thread.specs.Control.{Halt}
-use Rattle.sync_thread.specs.Code.{CodeShared, Read, Write, Peek, Operate, Print, Memory, code_step, cell_at, word_at, number_in, operand_value, effect_of, set_if, setting}
+use Rattle.sync_thread.specs.Code.{Read, Write, Peek, Operate, Print, Memory, cell_at, word_at, number_in, operand_value, effect_of, set_if, setting}
 use Rattle.sync_thread_places.specs.Values.{operand_in}
 use Rattle.sync_thread_places.specs.Runs.{holding}
 use Rattle.sync_thread_places.proofs.Held.{operand_held, operands_held, sets}
 use Rattle.sync_thread_events.specs.declared.steps.SharedStep.{SharedStep}
 use Rattle.sync_thread_events.specs.declared.steps.SharedStep.TheVariants as step
-use Rattle.sync_thread_events.specs.Steps.{asked_with, asked_word, assigned_if, worked}
+use Rattle.sync_thread_events.specs.Steps.{asked_word, assigned_if, worked}
 use Rattle.sync_thread_events.specs.Laws.{StepsAreCodeSteps, memory_after}
 
 works : (f : Opd → ℕ) (o : WordOp) (n : ℕ) → effect_of f o n ≡ worked n (asked_word f o)

@@ -1,2 +1,11 @@
 pub mod Ways
 pub mod CodeSteps
+pub mod Movement
+pub mod Tables
+pub mod Laying
+pub mod Stored
+pub mod Configs
+pub mod Waiting
+pub mod Leading
+pub mod Fresh
+pub mod Stepping

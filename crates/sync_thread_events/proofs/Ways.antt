@@ -1,5 +1,5 @@
 -- The list to which a way leads, a form at a time.
-use Rattle.std.proofs.Common.{◌≡◌, ℕ, suc, ◌+◌, ◌<◌, Bool, if◌then◌else◌, List, [], ◌∷◌, ◌++◌, length, drop, get_or, Option, Some, None, IfSome, IfNone, refl, sym, ap, ◌∙◌, ◌⊎◌}
+use Rattle.std.proofs.Common.{◌≡◌, suc, ◌<◌, if◌then◌else◌, List, [], ◌∷◌, ◌++◌, length, drop, get_or, Option, Some, None, IfSome, IfNone, sym, ap, ◌∙◌}
 use Rattle.sync_thread.specs.declared.operands.Cond.{Cond}
 use Rattle.sync_thread.specs.declared.program.CodeStmt.{CodeStmt, out-CodeStmt}
 use Rattle.sync_thread.specs.declared.program.CodeStmt.TheVariants as made

@@ -1,5 +1,5 @@
 -- A shared step with its values: what it asks for, what it finds, and what it leaves.
-use Rattle.std.specs.Prelude.{◌≡◌, ℕ, ◌+◌, ◌-◌, ◌%◌, ◌^◌, ◌<◌, if◌then◌else◌, nat_eq, List, [], ◌∷◌, ◌++◌, slice_set, slice_index_or, Option, Some, None, Result, Ok, Err}
+use Rattle.std.specs.Prelude.{◌≡◌, ℕ, ◌+◌, ◌^◌, ◌<◌, if◌then◌else◌, nat_eq, List, [], ◌∷◌, ◌++◌, slice_set, slice_index_or, Option, Some, None, Result, Ok, Err}
 use Rattle.sync_base.specs.Outcome.{◌>>=◌}
 use Rattle.sync_thread.specs.declared.operands.Line.{Line}
 use Rattle.sync_thread.specs.declared.operands.Opd.{Opd}
@@ -88,6 +88,11 @@ local_in None = None
 abbrev pub assigned_if : Option ℕ → ℕ → (ℕ → ℕ) → ℕ → ℕ
 assigned_if (Some x) n f = assigned x n f
 assigned_if None n f = f
+
+-- a table of locals with it
+abbrev pub with_local : Option ℕ → ℕ → List ℕ → List ℕ
+with_local (Some x) n ns = slice_set ns x n
+with_local None n ns = ns
 
 -- ---- what is done
 

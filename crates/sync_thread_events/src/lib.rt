@@ -2,13 +2,21 @@
 #![tactic(auto)]
 
 mod asking;
+mod endings;
 mod finding;
 mod laws;
+mod layout;
+mod moments;
+mod moving;
 mod steps;
 mod stores;
 
 pub use asking::{asked, local_of};
+pub use endings::Halted;
 pub use finding::list_at;
 pub use laws::steps_are_code_steps;
+pub use layout::{Laid, lay};
+pub use moments::Moment;
+pub use moving::{begin, go_on};
 pub use steps::{SharedStep, Span, Spans, WordStep};
-pub use stores::Store;
+pub use stores::{Steps, Store};

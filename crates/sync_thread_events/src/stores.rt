@@ -1,11 +1,23 @@
-//! Words, cells and lines in the hands of one thread.
+//! Who does shared steps; and words, cells and lines in the hands of one thread.
 
-ghost use Rattle.std.specs.Prelude.{◌≡◌, OnErr, OnOk};
+ghost use Rattle.std.specs.Prelude.{◌≡◌, ℕ, IfOk, OnErr, OnOk};
+ghost use Rattle.sync_thread_events.specs.declared.steps.SharedStep.{SharedStep};
 ghost use Rattle.sync_thread_events.specs.Steps.{cells_after, found_by, lines_after, words_after, worked};
+ghost use Rattle.sync_thread_events.specs.Doing.{HasDone};
 
 use crate::steps::{SharedStep, WordStep};
 use std::alloc::AllocError;
 use sync_thread::Line;
+
+/// Who does the shared steps of a thread.
+pub trait Steps {
+    /// The step was done on what was there, found a value, and left what is there now.
+    ghost does: { SharedStep → Self → ℕ → Self → Type 0 };
+
+    /// Does a step, and answers what it found in its word or cell; 0 where it looks at none.
+    fn perform(&mut self, step: SharedStep) -> Result<u64, AllocError>
+        ensures { IfOk result (λ found. does step self.old found self.new) };
+}
 
 /// Words and cells by their numbers, and the lines that were printed.
 #[derive(Drop)]
@@ -15,9 +27,12 @@ pub struct Store {
     pub lines: Vec<Line>,
 }
 
-impl Store {
-    /// Does a shared step, and answers what it found; 0 where it looked at nothing. Without memory nothing is done.
-    pub fn perform(&mut self, step: SharedStep) -> Result<u64, AllocError>
+impl Steps for Store {
+    ghost does = { HasDone };
+
+    /// Without memory nothing is done.
+    fn perform(&mut self, step: SharedStep) -> Result<u64, AllocError>
+        ensures done { IfOk result (λ found. HasDone step self.old found self.new) }
         ensures found { OnOk result (result ≡ Ok (found_by step self.old.words.items self.old.cells.items)) }
         ensures words { OnOk result (self.new.words.items ≡ words_after step self.old.words.items) }
         ensures cells { OnOk result (self.new.cells.items ≡ cells_after step self.old.cells.items) }

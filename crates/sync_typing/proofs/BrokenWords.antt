@@ -16,7 +16,7 @@ use Rattle.sync_thread.specs.Programs.{ProgramTree}
 use Rattle.sync_rules.specs.Locality.{names_only, form_names_only}
 use Rattle.sync_rules.specs.Obligations.{names, form_names}
 use Rattle.sync_rules.specs.Slots.{needs, started_at, updated_to, act_slot}
-use Rattle.sync_kernel.specs.Facts.{facts_size}
+use Rattle.sync_kernel_facts.specs.Facts.{facts_size}
 use Rattle.sync_typing.specs.Laws.{IsBroken}
 
 -- ---- line 12 breaks A1

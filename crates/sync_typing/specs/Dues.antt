@@ -9,7 +9,7 @@ use Rattle.sync_base.specs.declared.stops.Rule.TheVariants.{I2, K8, T1, T2, T3}
 use Rattle.sync_terms.specs.Trees.{Tree, most_nodes, Formula, Le, Lt, Eq, Not, And, Or, Imp, neg, tree_size, formula_size}
 use Rattle.sync_linear.specs.Forms.{constant_of, coefficient_of}
 use Rattle.sync_rules.specs.Locality.{names_only, form_names_only}
-use Rattle.sync_kernel.specs.Facts.{facts_size}
+use Rattle.sync_kernel_facts.specs.Facts.{facts_size}
 use Rattle.sync_kernel.specs.Rows.{atoms_of, narrow}
 use Rattle.sync_kernel.specs.Scripts.{script_fault}
 use Rattle.sync_thread.specs.Programs.{ScriptTree}

@@ -7,7 +7,7 @@ use Rattle.sync_base.specs.declared.stops.Rule.{Rule}
 use Rattle.sync_base.specs.declared.stops.Rule.TheVariants.{K8}
 use Rattle.sync_terms.specs.declared.scripts.HypName.TheVariants.{Low, High}
 use Rattle.sync_terms.specs.Trees.{Tree, most_nodes, Lit, Name, Nil, Formula, Le, tree_size, formula_size, replaced, replaced_in}
-use Rattle.sync_kernel.specs.Facts.{Fact, named}
+use Rattle.sync_kernel_facts.specs.Facts.{Fact, named}
 use Rattle.sync_terms.specs.Symbols.{name_symbol}
 use Rattle.sync_thread_machine.specs.ProgramSymbols.{first_fresh}
 

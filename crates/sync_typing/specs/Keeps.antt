@@ -8,7 +8,7 @@ use Rattle.sync_machine.specs.Naming.{is_in}
 use Rattle.sync_machine.specs.Statements.{or_zero, one}
 use Rattle.sync_rules.specs.Locality.{names_only, form_names_only}
 use Rattle.sync_rules.specs.Obligations.{names}
-use Rattle.sync_kernel.specs.Facts.{Fact}
+use Rattle.sync_kernel_facts.specs.Facts.{Fact}
 use Rattle.sync_thread.specs.Programs.{ScriptTree, KeepTree, KeepLineTree, KeepFactTree}
 use Rattle.sync_terms.specs.Symbols.{name_symbol}
 use Rattle.sync_thread_machine.specs.ProgramSymbols.{held_of, symbols, wrap_symbol}

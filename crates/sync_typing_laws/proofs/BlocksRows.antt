@@ -4,7 +4,7 @@ use Rattle.std.specs.List.{list_all}
 use Rattle.sync_base.specs.Outcome.{◌>>=◌}
 use Rattle.sync_base.specs.declared.stops.Rule.TheVariants.{T2, K8}
 use Rattle.sync_terms.specs.Trees.{most_nodes, Tree, Formula, tree_size, formula_size, replaced_in}
-use Rattle.sync_kernel.specs.Facts.{named}
+use Rattle.sync_kernel_facts.specs.Facts.{named}
 use Rattle.sync_typing.specs.Blocks.{fact_made}
 use Rattle.sync_typing.specs.Dues.{Wants, pay, spare, row, new_names_due, are_apart}
 use Rattle.sync_typing.specs.Environments.{Env, Outcome, Tokens, refused, fits, is_held, hand_after, take_in, tell}

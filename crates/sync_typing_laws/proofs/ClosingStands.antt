@@ -62,7 +62,7 @@ all_fit (z ∷ zs) = all_fit zs
 mutual
   unfolding number_fits map_fits
 
-  number_free : (v : Valuation) (t : Tree) → number_fits no_bound v t ≡ true
+  pub number_free : (v : Valuation) (t : Tree) → number_fits no_bound v t ≡ true
   number_free v (Lit n) = refl
   number_free v (Name x) = refl
   number_free v (Add a b) = let x = number_free v a in let y = number_free v b in rw (x, y) refl

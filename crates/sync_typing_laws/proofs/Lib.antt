@@ -1,34 +1,34 @@
-mod KeepingTerms
-mod LocalDues
-mod BlocksTerms
-mod BlocksWord
-mod BlocksTokens
-mod BlocksBags
-mod BlocksDecls
-mod BlocksNames
-mod BlocksRows
-mod BlocksTaken
-mod Opening
-mod Deciding
-mod KeepingSights
-mod BlocksBack
-mod ClosingStands
-mod ControlKept
-mod ControlTyped
-mod ControlNamed
-mod ControlStanding
-mod LocalMoves
-mod LocalRows
-mod LocalSets
-mod LocalStatements
-mod LocalTerms
-mod LocalSights
-mod LocalHands
-mod LocalRenamed
-mod LocalProofs
-mod LocalTokens
-mod LocalGoes
-mod LocalCells
-mod LocalCopies
-mod LocalWrites
-mod SingleRows
+pub mod KeepingTerms
+pub mod LocalDues
+pub mod BlocksTerms
+pub mod BlocksWord
+pub mod BlocksTokens
+pub mod BlocksBags
+pub mod BlocksDecls
+pub mod BlocksNames
+pub mod BlocksRows
+pub mod BlocksTaken
+pub mod Opening
+pub mod Deciding
+pub mod KeepingSights
+pub mod BlocksBack
+pub mod ClosingStands
+pub mod ControlKept
+pub mod ControlTyped
+pub mod ControlNamed
+pub mod ControlStanding
+pub mod LocalMoves
+pub mod LocalRows
+pub mod LocalSets
+pub mod LocalStatements
+pub mod LocalTerms
+pub mod LocalSights
+pub mod LocalHands
+pub mod LocalRenamed
+pub mod LocalProofs
+pub mod LocalTokens
+pub mod LocalGoes
+pub mod LocalCells
+pub mod LocalCopies
+pub mod LocalWrites
+pub mod SingleRows

@@ -17,7 +17,7 @@ use Rattle.sync_linear.specs.Forms.{constant_of, coefficient_of, weighed}
 use Rattle.sync_kernel_facts.specs.Laws.{AreTrue}
 use Rattle.sync_kernel.proofs.Atoms.{nothing_weighed}
 use Rattle.sync_kernel.proofs.Refuting.{script_valid}
-use Rattle.sync_kernel.specs.Facts.{Fact, as_hypothesis, facts_size}
+use Rattle.sync_kernel_facts.specs.Facts.{Fact, as_hypothesis, facts_size}
 use Rattle.sync_kernel.specs.Rows.{atoms_of, narrow}
 use Rattle.sync_kernel.specs.Scripts.{script_fault}
 use Rattle.sync_thread.specs.Programs.{ScriptTree}

@@ -11,7 +11,7 @@ use Rattle.sync_terms.specs.Trees.{Tree, Lit, Name, Add, Sub, Scale, Get, Has, S
 use Rattle.sync_terms.specs.Values.{Valuation, num, mapped, truth}
 use Rattle.sync_machine.specs.Naming.{IsTextName, is_in}
 use Rattle.sync_rules.specs.Locality.{names_only, form_names_only}
-use Rattle.sync_kernel.specs.Facts.{Fact}
+use Rattle.sync_kernel_facts.specs.Facts.{Fact}
 use Rattle.sync_exchange.specs.Exchange.{held_as}
 use Rattle.sync_thread.specs.Arrays.{name_limit}
 use Rattle.sync_thread.specs.Code.{locals_of}

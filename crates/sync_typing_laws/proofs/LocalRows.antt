@@ -11,7 +11,7 @@ use Rattle.sync_terms.specs.Trees.{Tree, Name, Formula, Le, Lt, Eq, Not, And, Or
 use Rattle.sync_terms.specs.Values.{Valuation, num, truth, Holds}
 use Rattle.sync_machine.specs.Naming.{is_in}
 use Rattle.sync_rules.specs.Locality.{names_only, form_names_only}
-use Rattle.sync_kernel.specs.Facts.{named}
+use Rattle.sync_kernel_facts.specs.Facts.{named}
 use Rattle.sync_thread.specs.Arrays.{name_limit}
 use Rattle.sync_thread.specs.Code.{locals_of, operand_value, compares, satisfies}
 use Rattle.sync_thread.specs.Programs.{KeepTree}

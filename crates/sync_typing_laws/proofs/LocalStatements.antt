@@ -11,7 +11,7 @@ use Rattle.sync_terms.specs.Trees.{Tree, Name, Formula, tree_size, formula_size}
 use Rattle.sync_terms.specs.Values.{Valuation, num, truth, Holds, with_value}
 use Rattle.sync_machine.specs.Naming.{is_in}
 use Rattle.sync_rules.specs.Locality.{names_only, form_names_only}
-use Rattle.sync_kernel.specs.Facts.{Fact, named}
+use Rattle.sync_kernel_facts.specs.Facts.{Fact, named}
 use Rattle.sync_thread.specs.Code.{locals_of, operand_value, setting, assigned as assigned_to}
 use Rattle.sync_thread.specs.Programs.{Set}
 use Rattle.sync_thread.specs.Resting.{Round}

@@ -11,7 +11,7 @@ use Rattle.sync_terms.specs.Values.{Valuation, num, truth, Holds}
 use Rattle.sync_machine.specs.Naming.{number_fault, formula_fault, IsTextName, is_in}
 use Rattle.sync_machine.specs.Statements.{or_zero, one}
 use Rattle.sync_rules.specs.Locality.{names_only, form_names_only}
-use Rattle.sync_kernel.specs.Facts.{Fact}
+use Rattle.sync_kernel_facts.specs.Facts.{Fact}
 use Rattle.sync_join.specs.Shards.{IsToken}
 use Rattle.sync_join.specs.declared.tokens.Token.{Token}
 use Rattle.sync_exchange.specs.Exchange.{held_as, tokens_in}
@@ -37,7 +37,7 @@ use Rattle.sync_typing_laws.proofs.BlocksTokens.{held_append, among_none, apart_
 use Rattle.sync_typing_laws.proofs.BlocksWord.{term_is, form_is, form_names, term_names, in_word_scoped, constant_low}
 use Rattle.sync_typing_laws.specs.Rests.{IsTidy, IsApart, StandsAt, StandsAround, StandsOpen, AgreeBelow, HasConstants, IsKnown, IsScopedEnv, worth, clauses_are_half_kept}
 use Rattle.sync_typing_laws.specs.Soundness.{HasNamedWords, OpenStands, world_with}
-use Rattle.sync_kernel.specs.Facts as facts
+use Rattle.sync_kernel_facts.specs.Facts as facts
 use mathlib.Core.Path.{refl, sym, ap, subst, ◌∙◌}
 
 -- ---- the row

@@ -9,7 +9,7 @@ use Rattle.sync_terms.specs.Values.{Valuation, num, Holds}
 use Rattle.sync_machine.specs.Naming.{IsTextName, is_in}
 use Rattle.sync_machine.specs.States.{strategy_at}
 use Rattle.sync_rules.specs.Locality.{names_only, form_names_only}
-use Rattle.sync_kernel.specs.Facts.{Fact}
+use Rattle.sync_kernel_facts.specs.Facts.{Fact}
 use Rattle.sync_join.specs.Join.{record_at, number_of}
 use Rattle.sync_join.specs.Shards.{AreSoundShards}
 use Rattle.sync_join.specs.declared.tokens.Token.{Token}

@@ -1,2 +1,4 @@
 mod Trees
 mod Walks
+mod Counting
+mod Staging

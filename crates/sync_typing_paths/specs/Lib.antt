@@ -1,2 +1,3 @@
 -- Statements of lists, as what they put before the rest.
 pub mod Statements
+pub mod Deeds

@@ -1,5 +1,5 @@
 use Rattle.sync_machine.specs.Views.{machine_tree}
-use Rattle.sync_read.specs.Texts.{text_tree}
+use Rattle.sync_check.specs.Texts.{text_tree}
 use Rattle.sync_check.proofs.Accepting.{is_meant, are_own, text_means}
 use Rattle.sync_check.proofs.checking.accepted_machine.Goals as goal
 

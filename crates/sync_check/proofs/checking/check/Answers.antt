@@ -1,4 +1,4 @@
-use Rattle.sync_read.specs.Texts.{text_tree}
+use Rattle.sync_check.specs.Texts.{text_tree}
 use Rattle.sync_check.proofs.Accepting.{accepted, text_means}
 use Rattle.sync_check.proofs.checking.check.Goals as goal
 

@@ -1,5 +1,5 @@
 use Rattle.std.proofs.Common.{◌≡◌, map, take}
-use Rattle.sync_read.specs.Texts.{text_tree}
+use Rattle.sync_check.specs.Texts.{text_tree}
 use Rattle.sync_check.specs.Listing.{obligation_line}
 use Rattle.sync_check.proofs.listing.lines_of.Given as goal
 

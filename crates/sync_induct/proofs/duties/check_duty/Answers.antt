@@ -2,7 +2,7 @@ use Rattle.std.proofs.Common.{◌≡◌, ◌+◌, Some, None, sym, ap, ◌∙◌
 use Rattle.std.specs.Prelude.{not, nat_lt, slice_get}
 use Rattle.sync_terms.specs.Trees.{most_nodes}
 use Rattle.sync_terms.specs.Plans.{plan_of}
-use Rattle.sync_kernel.specs.Facts.{facts_size}
+use Rattle.sync_kernel_facts.specs.Facts.{facts_size}
 use Rattle.sync_induct.specs.Checks.{duty_of, sequent_size}
 use Rattle.sync_terms.specs.Proofs.{titles_of, proofs_in}
 use Rattle.sync_induct.specs.Titles.{titled, first_at}

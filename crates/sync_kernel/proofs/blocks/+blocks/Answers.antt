@@ -14,10 +14,10 @@ use Rattle.sync_terms.proofs.Extending.{Extends-trans}
 use Rattle.sync_kernel.specs.declared.steps.MapFact.TheVariants as fact
 use Rattle.sync_kernel.specs.MapFacts.{map_form}
 use Rattle.sync_kernel.specs.declared.steps.Left.{Left}
-use Rattle.sync_kernel.specs.declared.branches.Said.{Said}
-use Rattle.sync_kernel.specs.Facts.{Fact}
+use Rattle.sync_kernel_facts.specs.declared.branches.Said.{Said}
+use Rattle.sync_kernel_facts.specs.Facts.{Fact}
 use Rattle.sync_kernel.specs.Notes.{AreNotes}
-use Rattle.sync_kernel.specs.Branches.{said_fact, facts_in, AreSaid, Begins}
+use Rattle.sync_kernel_facts.specs.Branches.{said_fact, facts_in, AreSaid, Begins}
 use Rattle.sync_kernel.specs.Scripts.{then_of, with_fact, fitting, after, block_fault}
 use Rattle.sync_kernel.proofs.Fitting.{Begins-refl, AreSaid-more, IsLiteral-more}
 use Rattle.sync_kernel.proofs.Scripting.{script-more, step-more, inst_ids, cut_id, cut_script, split_scripts, read_ids, size_ids, total_ids, cong_ids}
@@ -81,7 +81,7 @@ check_case-returns-clause-notes t c =
 pub check_step-inst-requires-clause-list : goal.check_step-inst-requires-clause-list
 check_step-inst-requires-clause-list t c =
     let i = c.in-Inst in
-    subst (All (IsTerm c.args.terms.now)) (sym c.as_slice-in-Inst.ensures) (inst_ids c.args.terms.now c.args.step.now c.requires.step i.hyp i.list i.name (i.is ∙ sym (rolls-Inst i.hyp i.list i.name)))
+    subst (All (IsTerm c.args.terms.now)) (sym c.as_slice.ensures) (inst_ids c.args.terms.now c.args.step.now c.requires.step i.hyp i.list i.name (i.is ∙ sym (rolls-Inst i.hyp i.list i.name)))
 
 pub check_step-check_case-requires : goal.check_step-check_case-requires
 check_step-check_case-requires t c =

@@ -1,4 +1,4 @@
-use Rattle.sync_kernel.specs.Branches.{facts_in}
+use Rattle.sync_kernel_facts.specs.Branches.{facts_in}
 use Rattle.sync_kernel.specs.Notes.{AreNotes}
 use Rattle.sync_kernel.proofs.Checking.{Checking}
 use Rattle.sync_kernel.proofs.blocks.+blocks.Given as goal

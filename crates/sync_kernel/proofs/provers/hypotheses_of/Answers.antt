@@ -1,7 +1,7 @@
 use Rattle.std.proofs.Common.{◌≡◌, ◌∷◌, ◌++◌, [], List, map, take, get_or, sym, ap, ◌∙◌}
 use Rattle.std.proofs.lemmas.List.{map_push, take_more}
 use Rattle.sync_terms.specs.declared.nodes.Sym.{Sym}
-use Rattle.sync_kernel.specs.Facts.{Fact, fact_of}
+use Rattle.sync_kernel_facts.specs.Facts.{Fact, fact_of}
 use Rattle.sync_kernel.proofs.provers.hypotheses_of.Goals as goal
 
 pub loop-hyp-init : goal.loop-hyp-init

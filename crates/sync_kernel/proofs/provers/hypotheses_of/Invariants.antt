@@ -1,5 +1,5 @@
 use Rattle.std.proofs.Common.{◌≡◌, take, map}
-use Rattle.sync_kernel.specs.Facts.{fact_of}
+use Rattle.sync_kernel_facts.specs.Facts.{fact_of}
 use Rattle.sync_kernel.specs.Hypotheses.{AreReady, known_in}
 use Rattle.sync_kernel.proofs.provers.hypotheses_of.Given as goal
 

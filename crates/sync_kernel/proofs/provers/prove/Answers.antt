@@ -2,7 +2,7 @@ use Rattle.std.proofs.Common.{List, map, ap, subst, ◌∙◌}
 use Rattle.std.specs.Prelude.{OnOk}
 use Rattle.sync_terms.specs.Stored.{formula}
 use Rattle.sync_terms.specs.Values.{Hypothesis, IsValid}
-use Rattle.sync_kernel.specs.Facts.{fact_of, as_hypothesis}
+use Rattle.sync_kernel_facts.specs.Facts.{fact_of, as_hypothesis}
 use Rattle.sync_kernel.proofs.Adding.{given_map}
 use Rattle.sync_kernel.proofs.provers.prove.Goals as goal
 

@@ -3,10 +3,10 @@ use Rattle.sync_base.specs.Outcome.{Passes}
 use Rattle.sync_terms.specs.Stored.{formula}
 use Rattle.sync_terms.specs.Plans.{plan_of}
 use Rattle.sync_kernel_facts.proofs.Truths.{cong_true, read_true, size_true, total_true}
-use Rattle.sync_kernel.specs.Facts.{Fact}
-use Rattle.sync_kernel.specs.Branches.{facts_in}
+use Rattle.sync_kernel_facts.specs.Facts.{Fact}
+use Rattle.sync_kernel_facts.specs.Branches.{facts_in}
 use Rattle.sync_kernel.specs.Hypotheses.{known_in}
-use Rattle.sync_kernel.specs.Literals.{literal_form}
+use Rattle.sync_kernel_facts.specs.Literals.{literal_form}
 use Rattle.sync_kernel.specs.Scripts.{block_fault}
 use Rattle.sync_kernel.proofs.Assuming.{begun, begun_notes, cut_is, cut_ready, cut_known}
 use Rattle.sync_kernel.proofs.Refuting.{passed_valid}

@@ -1,6 +1,6 @@
 use Rattle.std.proofs.Common.{sym, ◌∙◌}
-use Rattle.sync_kernel.specs.Branches.{said_fact}
-use Rattle.sync_kernel.proofs.Names.{plain_is}
+use Rattle.sync_kernel_facts.specs.Branches.{said_fact}
+use Rattle.sync_kernel_facts.proofs.Names.{plain_is}
 use Rattle.sync_kernel.proofs.Seeing.{seen_passed, seen_taken}
 use Rattle.sync_kernel.proofs.sames.look_at.Goals as goal
 

@@ -3,14 +3,14 @@ use Rattle.std.proofs.lemmas.Bool.{both_ways}
 use Rattle.std.proofs.lemmas.List.{length-map}
 use Rattle.sync_base.specs.declared.stops.Rule.TheVariants.{K4}
 use Rattle.sync_base.specs.declared.stops.Stop.TheVariants.{Refused}
-use Rattle.sync_kernel.specs.declared.branches.Held.{Held}
-use Rattle.sync_kernel.specs.Facts.{Fact}
-use Rattle.sync_kernel.specs.Branches.{facts_in, said_fact, AreSaid}
+use Rattle.sync_kernel_facts.specs.declared.branches.Held.{Held}
+use Rattle.sync_kernel_facts.specs.Facts.{Fact}
+use Rattle.sync_kernel_facts.specs.Branches.{facts_in, said_fact, AreSaid}
 use Rattle.sync_kernel.specs.Seen.{HasSeen, seen_count}
 use Rattle.sync_kernel.specs.Steps.{at_line, same_fault}
 use Rattle.sync_kernel.proofs.Seeing.{held_fact, seen_more, seen_closed, seen_open}
 use Rattle.sync_kernel.proofs.SameSteps.{fault_none, fault_some}
-use Rattle.sync_kernel.proofs.Stacking.{said_at}
+use Rattle.sync_kernel_facts.proofs.Stacking.{said_at}
 use Rattle.sync_kernel.proofs.Stepping.{passes_err}
 use Rattle.sync_kernel.proofs.sames.same.Goals as goal
 use Rattle.sync_kernel.proofs.sames.same.Goals.{then-loop-seen-test+else-len-facts, else-loop-seen-test}

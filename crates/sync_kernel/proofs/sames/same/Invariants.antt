@@ -1,5 +1,5 @@
 use Rattle.std.proofs.Common.{◌-◌, length}
-use Rattle.sync_kernel.specs.Branches.{facts_in}
+use Rattle.sync_kernel_facts.specs.Branches.{facts_in}
 use Rattle.sync_kernel.specs.Seen.{IsSeen, seen_count}
 use Rattle.sync_kernel.proofs.sames.same.Given as goal
 

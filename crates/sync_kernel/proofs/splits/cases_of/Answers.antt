@@ -1,9 +1,11 @@
 use Rattle.std.proofs.Common.{sym, ap, subst, ◌∙◌}
 use Rattle.sync_terms.specs.Stored.{formula}
 use Rattle.sync_terms.proofs.Extending.{Extends-refl}
-use Rattle.sync_kernel.specs.Literals.{literal_form, IsLiteral, TakesApart}
+use Rattle.sync_kernel_facts.specs.Literals.{literal_form, IsLiteral}
+use Rattle.sync_kernel.specs.Pairs.{TakesApart}
 use Rattle.sync_kernel.specs.Taking.{cases_of, cases_of_not}
-use Rattle.sync_kernel.proofs.Saying.{or_cases_of, imp_cases_of, not_cases, no_cases, taken_some, taken_none, plain_says, says_plain}
+use Rattle.sync_kernel.proofs.TakenApart.{or_cases_of, imp_cases_of, not_cases, no_cases, taken_some, taken_none}
+use Rattle.sync_kernel_facts.proofs.Saying.{plain_says, says_plain}
 use Rattle.sync_kernel.proofs.splits.cases_of.Goals as goal
 
 pub returns-in-Or-clause-cases : goal.returns-in-Or-clause-cases

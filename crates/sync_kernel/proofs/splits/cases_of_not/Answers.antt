@@ -2,7 +2,7 @@ use Rattle.std.proofs.Common.{Err, ap}
 use Rattle.sync_terms.proofs.Extending.{Extends-refl}
 use Rattle.sync_kernel.specs.Taking.{cases_of_not}
 use Rattle.sync_terms.specs.Stored.{form_shape}
-use Rattle.sync_kernel.proofs.Saying.{and_cases, taken_some, taken_none, orders_taken, orders_stop, no_cases_not}
+use Rattle.sync_kernel.proofs.TakenApart.{and_cases, taken_some, taken_none, orders_taken, orders_stop, no_cases_not}
 use Rattle.sync_kernel.proofs.splits.cases_of_not.Goals as goal
 
 pub returns-in-And-clause-cases : goal.returns-in-And-clause-cases

@@ -1,5 +1,5 @@
 use Rattle.std.proofs.lemmas.Result.{err_from_is_err_and}
-use Rattle.sync_kernel.proofs.Saying.{orders_below, orders_above, orders_forms}
+use Rattle.sync_kernel.proofs.TakenApart.{orders_below, orders_above, orders_forms}
 use Rattle.sync_kernel.proofs.splits.orders.Goals as goal
 
 pub returns-in_err-below-clause-too_large : goal.returns-in_err-below-clause-too_large

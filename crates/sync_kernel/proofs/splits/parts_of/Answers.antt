@@ -1,9 +1,10 @@
 use Rattle.std.proofs.Common.{sym, ap, ◌∙◌}
 use Rattle.std.specs.Prelude.{option_map}
 use Rattle.sync_terms.specs.Stored.{formula}
-use Rattle.sync_kernel.specs.Literals.{pair_forms}
+use Rattle.sync_kernel.specs.Pairs.{pair_forms}
 use Rattle.sync_kernel.specs.Taking.{parts_of, parts_of_not}
-use Rattle.sync_kernel.proofs.Saying.{and_parts_of, not_parts, no_parts, plain_says, says_plain}
+use Rattle.sync_kernel.proofs.TakenApart.{and_parts_of, not_parts, no_parts}
+use Rattle.sync_kernel_facts.proofs.Saying.{plain_says, says_plain}
 use Rattle.sync_kernel.proofs.splits.parts_of.Goals as goal
 
 pub returns-in-And-clause-pair : goal.returns-in-And-clause-pair

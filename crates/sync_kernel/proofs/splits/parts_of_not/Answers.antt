@@ -1,4 +1,5 @@
-use Rattle.sync_kernel.proofs.Saying.{or_parts, imp_parts, plain_says, no_parts_not}
+use Rattle.sync_kernel.proofs.TakenApart.{or_parts, imp_parts, no_parts_not}
+use Rattle.sync_kernel_facts.proofs.Saying.{plain_says}
 use Rattle.sync_kernel.proofs.splits.parts_of_not.Goals as goal
 
 pub returns-in-Or-clause-pair : goal.returns-in-Or-clause-pair

@@ -1,4 +1,4 @@
-use Rattle.sync_kernel.specs.Literals.{literal_form}
+use Rattle.sync_kernel_facts.specs.Literals.{literal_form}
 use Rattle.sync_kernel.proofs.Adding.{add_stops, add_leaves, add_said, add_begins}
 use Rattle.sync_kernel.proofs.steps.add.Goals as goal
 

@@ -1,9 +1,9 @@
 use Rattle.std.proofs.Common.{◌≡◌, subst}
 use Rattle.sync_terms.specs.Trees.{Formula}
-use Rattle.sync_kernel.specs.Branches.{facts_in}
+use Rattle.sync_kernel_facts.specs.Branches.{facts_in}
 use Rattle.sync_kernel.specs.Scripts.{with_fact, fitting}
 use Rattle.sync_kernel.specs.Holding.{Leaves}
-use Rattle.sync_kernel.proofs.Saying.{plain_says}
+use Rattle.sync_kernel_facts.proofs.Saying.{plain_says}
 use Rattle.sync_kernel.proofs.Adding.{built_stops, built_says}
 use Rattle.sync_kernel.proofs.steps.add_built.Goals as goal
 

@@ -3,9 +3,9 @@ use Rattle.std.specs.Prelude.{not, nat_lt}
 use Rattle.sync_base.specs.declared.stops.Rule.TheVariants.{K8}
 use Rattle.sync_terms.specs.Trees.{most_nodes}
 use Rattle.sync_kernel.specs.declared.splits.Pair.{Pair}
-use Rattle.sync_kernel.specs.Facts.{facts_size}
-use Rattle.sync_kernel.specs.Branches.{facts_in}
-use Rattle.sync_kernel.specs.Literals.{pair_forms}
+use Rattle.sync_kernel_facts.specs.Facts.{facts_size}
+use Rattle.sync_kernel_facts.specs.Branches.{facts_in}
+use Rattle.sync_kernel.specs.Pairs.{pair_forms}
 use Rattle.sync_kernel.specs.Scripts.{with_fact, Cases, cases_with, both_fitting}
 use Rattle.sync_kernel.proofs.Fitting.{fits_with, both_if}
 use Rattle.sync_kernel.proofs.Stepping.{leaves_ok, stops_at}

@@ -3,9 +3,9 @@ use Rattle.std.proofs.lemmas.Result.{err_from_is_err_and}
 use Rattle.sync_base.specs.declared.stops.Rule.{Rule}
 use Rattle.sync_terms.specs.Trees.{Formula}
 use Rattle.sync_terms.specs.Stored.{tree}
-use Rattle.sync_kernel.specs.Facts.{Fact, newest}
-use Rattle.sync_kernel.specs.Branches.{facts_in}
-use Rattle.sync_kernel.specs.Literals.{literal_form}
+use Rattle.sync_kernel_facts.specs.Facts.{Fact, newest}
+use Rattle.sync_kernel_facts.specs.Branches.{facts_in}
+use Rattle.sync_kernel_facts.specs.Literals.{literal_form}
 use Rattle.sync_kernel.specs.Taking.{instance}
 use Rattle.sync_kernel.specs.Scripts.{with_fact, fitting, with_instance}
 use Rattle.sync_kernel.specs.Holding.{Leaves}

@@ -7,8 +7,8 @@ use Rattle.sync_terms.specs.Trees.{most_nodes}
 use Rattle.sync_terms.specs.Trees.{formula_size, replaced_in}
 use Rattle.sync_terms.specs.Stored.{tree, formula, IsTerm}
 use Rattle.sync_terms.specs.Substitution.{substitution}
-use Rattle.sync_kernel.specs.Facts.{newest}
-use Rattle.sync_kernel.specs.Branches.{facts_in}
+use Rattle.sync_kernel_facts.specs.Facts.{newest}
+use Rattle.sync_kernel_facts.specs.Branches.{facts_in}
 use Rattle.sync_kernel.specs.Taking.{instance}
 use Rattle.sync_kernel.proofs.Instancing.{pairs_stored, no_instance, other_number, instance_is, instance_made, instance_stops, found_said, makes_rule}
 use Rattle.sync_kernel.proofs.steps.instance.Goals as goal

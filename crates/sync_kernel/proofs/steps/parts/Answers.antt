@@ -2,10 +2,11 @@ use Rattle.std.proofs.Common.{◌≡◌, Result, sym, subst}
 use Rattle.std.proofs.lemmas.Result.{err_from_is_err_and}
 use Rattle.sync_base.specs.Outcome.{◌>>=◌}
 use Rattle.sync_base.specs.declared.stops.Rule.{Rule}
-use Rattle.sync_kernel.specs.declared.literals.Literal.{Literal}
-use Rattle.sync_kernel.specs.Facts.{Fact, newest}
-use Rattle.sync_kernel.specs.Branches.{facts_in}
-use Rattle.sync_kernel.specs.Literals.{literal_form, IsLiteral, pair_forms}
+use Rattle.sync_kernel_facts.specs.declared.literals.Literal.{Literal}
+use Rattle.sync_kernel_facts.specs.Facts.{Fact, newest}
+use Rattle.sync_kernel_facts.specs.Branches.{facts_in}
+use Rattle.sync_kernel_facts.specs.Literals.{literal_form, IsLiteral}
+use Rattle.sync_kernel.specs.Pairs.{pair_forms}
 use Rattle.sync_kernel.specs.Taking.{Two, parts_of, plain_fact, taken}
 use Rattle.sync_kernel.specs.Scripts.{with_fact, fitting, with_parts}
 use Rattle.sync_kernel.specs.Holding.{StopsFor}

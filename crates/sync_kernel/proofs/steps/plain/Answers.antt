@@ -1,6 +1,6 @@
 use Rattle.sync_base.specs.declared.stops.Rule.TheVariants.{K1, K2}
-use Rattle.sync_kernel.specs.Facts.{newest}
-use Rattle.sync_kernel.specs.Branches.{facts_in}
+use Rattle.sync_kernel_facts.specs.Facts.{newest}
+use Rattle.sync_kernel_facts.specs.Branches.{facts_in}
 use Rattle.sync_kernel.specs.Taking.{plain_fact}
 use Rattle.sync_kernel.proofs.Stepping.{stops_at, known_is}
 use Rattle.sync_kernel.proofs.Adding.{none_known, plain_leaves, plain_stops}

@@ -2,11 +2,12 @@ use Rattle.std.proofs.Common.{◌≡◌, Option, Result, Ok, sym, ap, subst, ◌
 use Rattle.sync_base.specs.Outcome.{◌>>=◌}
 use Rattle.sync_base.specs.declared.stops.Rule.{Rule}
 use Rattle.sync_terms.specs.Trees.{Formula}
-use Rattle.sync_kernel.specs.declared.literals.Literal.{Literal}
+use Rattle.sync_kernel_facts.specs.declared.literals.Literal.{Literal}
 use Rattle.sync_kernel.specs.declared.splits.Pair.{Pair}
-use Rattle.sync_kernel.specs.Facts.{Fact, newest}
-use Rattle.sync_kernel.specs.Branches.{facts_in}
-use Rattle.sync_kernel.specs.Literals.{literal_form, IsLiteral, pair_forms, TakesApart}
+use Rattle.sync_kernel_facts.specs.Facts.{Fact, newest}
+use Rattle.sync_kernel_facts.specs.Branches.{facts_in}
+use Rattle.sync_kernel_facts.specs.Literals.{literal_form, IsLiteral}
+use Rattle.sync_kernel.specs.Pairs.{pair_forms, TakesApart}
 use Rattle.sync_kernel.specs.Taking.{Two, cases_of, plain_fact, taken}
 use Rattle.sync_kernel.specs.Scripts.{Cases, cases_with, both_fitting}
 use Rattle.sync_kernel.specs.Holding.{StopsFor, Leaves}

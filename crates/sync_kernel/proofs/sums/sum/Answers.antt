@@ -1,11 +1,11 @@
-use Rattle.std.proofs.Common.{rules, ◌+◌, pos, List, drop, get_or, sym, subst}
+use Rattle.std.proofs.Common.{◌+◌, pos, List, drop, get_or, sym, subst}
 use Rattle.std.proofs.lemmas.List.{drop_more}
 use Rattle.std.proofs.lemmas.Result.{err_from_is_err_and}
 use Rattle.sync_terms.specs.declared.scripts.Part.{Part}
 use Rattle.sync_terms.specs.declared.scripts.HypName.TheVariants.{Label}
 use Rattle.sync_kernel.specs.declared.rows.Used.{Used}
-use Rattle.sync_kernel.specs.Facts.{newest}
-use Rattle.sync_kernel.specs.Branches.{facts_in}
+use Rattle.sync_kernel_facts.specs.Facts.{newest}
+use Rattle.sync_kernel_facts.specs.Branches.{facts_in}
 use Rattle.sync_kernel.specs.Steps.{at_line, sum_fault}
 use Rattle.sync_kernel.proofs.Parts.{Summing, begins, known_stored, stops_at, goes_at, passes_err}
 use Rattle.sync_kernel.proofs.Stepping.{known_is}

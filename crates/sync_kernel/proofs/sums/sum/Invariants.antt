@@ -1,6 +1,6 @@
 use Rattle.std.proofs.Common.{drop}
 use Rattle.sync_kernel.specs.SumLines.{WereLines}
-use Rattle.sync_kernel.specs.Branches.{facts_in}
+use Rattle.sync_kernel_facts.specs.Branches.{facts_in}
 use Rattle.sync_kernel.proofs.Parts.{Summing}
 use Rattle.sync_kernel.proofs.sums.sum.Given as goal
 

@@ -5,13 +5,13 @@ use Rattle.std.proofs.lemmas.Int.{to_z-of_z}
 use mir.Val.{to_z, of_z}
 use Rattle.sync_linear.specs.declared.changes.Change.TheVariants as change
 use Rattle.sync_linear.specs.Lines.{IsChanged, LineFits}
-use Rattle.sync_kernel.specs.declared.branches.Known.{Known}
+use Rattle.sync_kernel_facts.specs.declared.branches.Known.{Known}
 use Rattle.std.proofs.Common.{Option, Some}
 use Rattle.sync_kernel.specs.Steps.{with_part, with_row}
 use Rattle.sync_kernel.specs.Shapes.{row_shaped}
 use Rattle.sync_kernel.specs.Holding.{IsKnown}
 use Rattle.std.specs.Option.{option_copied}
-use Rattle.sync_kernel.specs.Literals.{literal_form}
+use Rattle.sync_kernel_facts.specs.Literals.{literal_form}
 use Rattle.sync_kernel.specs.Rows.{row_of}
 use Rattle.sync_kernel.proofs.Keeping.{row_line, shape_row}
 use Rattle.sync_kernel.proofs.Renewing.{line_still}

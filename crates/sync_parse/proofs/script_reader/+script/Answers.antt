@@ -12,7 +12,7 @@ steps-loop-preserved t c =
 
 pub steps-returns-in_err-item : goal.steps-returns-in_err-item
 steps-returns-in_err-item t c =
-    let p = err_from_is_err_and c.from_residual.result c.from_residual.ensures.1 in
+    let p = err_from_is_err_and c.from_residual-in_err-item.result c.from_residual-in_err-item.ensures.1 in
     rw (p.1, p.2) (row_stops c.in_err-item.field-0.0 goes_on (step_at (nested c.args.left) (c.args.left - 1)) _ c.loop.counter c.loop.held c.loop.rest.now _
     (omega arith) (sym c.goes_on.ensures ∙ c.if-goes_on.true) c.in_err-item.ensures c.loop.invariant)
 

@@ -25,6 +25,9 @@ decreases-product l = l.left * 1000 + 100
 abbrev pub decreases-relation : goal.decreases-relation
 decreases-relation l = l.left * 1000 + 105
 
+abbrev pub decreases-sum : goal.decreases-sum
+decreases-sum l = l.left * 1000 + 103
+
 abbrev pub decreases-item : goal.decreases-item
 decreases-item l = l.left * 1000 + 101 + 10 * rank l.level
 

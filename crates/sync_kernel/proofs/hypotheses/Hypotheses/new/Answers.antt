@@ -1,4 +1,4 @@
-use Rattle.sync_kernel.specs.Branches.{facts_in}
+use Rattle.sync_kernel_facts.specs.Branches.{facts_in}
 use Rattle.sync_kernel.proofs.Assuming.{none_ready, none_known}
 use Rattle.sync_kernel.proofs.hypotheses.Hypotheses.new.Goals as goal
 

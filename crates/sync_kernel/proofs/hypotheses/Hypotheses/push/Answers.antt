@@ -1,5 +1,5 @@
 use Rattle.std.proofs.Common.{refl, ◌∙◌}
-use Rattle.sync_kernel.specs.Facts.{fact_of}
+use Rattle.sync_kernel_facts.specs.Facts.{fact_of}
 use Rattle.sync_kernel.proofs.Assuming.{hyp_fact, more_known, more_ready}
 use Rattle.sync_kernel.proofs.hypotheses.Hypotheses.push.Goals as goal
 

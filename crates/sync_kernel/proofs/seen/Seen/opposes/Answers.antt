@@ -1,7 +1,7 @@
 use Rattle.std.proofs.Common.{Bool, ◌||◌, sym, ap, ◌∙◌}
 use Rattle.std.proofs.lemmas.Bool.{or_left}
 use Rattle.sync_terms.specs.Trees.{Not}
-use Rattle.sync_kernel.specs.Literals.{literal_form}
+use Rattle.sync_kernel_facts.specs.Literals.{literal_form}
 use Rattle.sync_kernel.specs.Opposed.{is_fact, is_undone}
 use Rattle.sync_kernel.proofs.Seeing.{said_has, denied_has, undone_some, undone_none}
 use Rattle.sync_kernel.proofs.seen.Seen.opposes.Goals as goal

@@ -1,0 +1,10 @@
+pub mod Counting
+pub mod Going
+pub mod Opening
+pub mod Listed
+pub mod Branching
+pub mod Threaded
+pub mod Made
+pub mod Arms
+pub mod Stopping
+pub mod Declaring

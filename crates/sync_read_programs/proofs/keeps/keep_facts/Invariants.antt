@@ -1,0 +1,10 @@
+use Rattle.std.proofs.Common.{◌≡◌, drop, [], map}
+use Rattle.sync_terms.specs.Stored.{Stored, Extends}
+use Rattle.sync_thread.specs.Views.{keep_fact_tree}
+use Rattle.sync_read_programs.specs.Keeps.{keep_facts_from}
+use Rattle.sync_read_programs.proofs.keeps.keep_facts.Given as goal
+
+abbrev pub invariant-loop-x : goal.invariant-loop-x
+invariant-loop-x l =
+    ((t : Stored) → Extends l.terms t → keep_facts_from (map (keep_fact_tree t) l.held) l.scope (drop l.x-index l.raw) ≡ keep_facts_from [] l.scope l.raw)
+    × Extends l.initial.terms l.terms

@@ -1,0 +1,10 @@
+use Rattle.std.proofs.Common.{◌≡◌, drop, [], map}
+use Rattle.sync_terms.specs.Stored.{Stored, Extends}
+use Rattle.sync_thread.specs.Views.{script_tree}
+use Rattle.sync_read_programs.specs.Operands.{scripts_from}
+use Rattle.sync_read_programs.proofs.operands.scripts.Given as goal
+
+abbrev pub invariant-loop-x : goal.invariant-loop-x
+invariant-loop-x l =
+    ((t : Stored) → Extends l.terms t → scripts_from (map (script_tree t) l.held) l.scope (drop l.x-index l.raw) ≡ scripts_from [] l.initial.scope l.raw)
+    × Extends l.initial.terms l.terms

@@ -1,0 +1,5 @@
+mod Places
+mod Leading
+mod Rounds
+mod Whole
+mod Told

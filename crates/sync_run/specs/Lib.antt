@@ -1,0 +1,3 @@
+-- What a run tells.
+pub mod Turns
+pub mod Reports

@@ -1,0 +1,2 @@
+-- Lines of terms that are within 128 bits.
+pub mod Clearing

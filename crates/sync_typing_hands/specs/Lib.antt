@@ -1,0 +1,2 @@
+-- Hands, and what they are to the environments of the rules.
+pub mod Hands
