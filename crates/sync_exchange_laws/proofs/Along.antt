@@ -23,7 +23,7 @@ use Rattle.sync_exchange.proofs.Lawful.{IsLawful, reads_only, place-key, place-a
 use Rattle.sync_exchange.proofs.OneStrategy.{nothing-bound}
 use Rattle.sync_exchange.proofs.Standing.{binding-own}
 use Rattle.sync_exchange.proofs.Going.{Walk}
-use Rattle.sync_exchange_laws.specs.Conditions.{names_at}
+use Rattle.sync_exchange_laws.specs.Conditions.{valuation_at}
 use Rattle.sync_exchange_laws.specs.Along.{ExchangesGoAlong, key_under, value_under, IsThere, left_under, AreThere, all_left, AreVariablesThere, begun_under, ended, IsAlong, AssertHolds}
 use Rattle.sync_exchange_laws.proofs.Variables.{token-is, variables-found}
 use Rattle.sync_exchange_laws.proofs.Ending.{walked-at}
@@ -177,7 +177,7 @@ exchanges-go-along fit m proved o has other args long tokens given hand names ot
     let w =
     walked-at fit m proved o has other args long tokens given hand names others kept sound s joined reached whole
     either x e in
-    let v = names_at m.fields s o args x.bound in
+    let v = valuation_at m.fields s o args x.bound in
     let went =
     all-along fit m.fields v others o.steps w.begun w.end (map Name (range_with_len 0 (length m.fields))) w.walk in
     let slots = variables-found m.fields o.steps v (length m.fields) 0

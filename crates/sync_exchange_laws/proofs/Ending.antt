@@ -39,7 +39,7 @@ use Rattle.sync_exchange.proofs.Beginning.{valuation, same-outside, at-state, al
 use Rattle.sync_exchange.proofs.Transitions.{outcome-ok, laws, given-args, known, walk}
 use Rattle.sync_exchange.proofs.Whole.{nothing, state-length, first-names, values-list}
 use Rattle.sync_exchange_laws.specs.Along.{ended}
-use Rattle.sync_exchange_laws.specs.Conditions.{names_at, ExchangesMeetConditions}
+use Rattle.sync_exchange_laws.specs.Conditions.{valuation_at, ExchangesMeetConditions}
 
 -- ---- arguments by their names
 
@@ -206,11 +206,11 @@ pub record IsWalked (fit : ℤ → Bool) (m : MachineTree) (s : State) (o : Oper
   pub first : use_variables (variable_slots m.fields o) (beginning m.fields o args tokens given whole hand kept) ≡ Ok begun
   pub leaves : x ≡ ended end
   -- behind their slots the variables stand for the state's values
-  pub learns : AllByRecursion (λ (f : ℕ). is_some (field_slot m.fields o.steps f) ≡ true → begun.names.number f ≡ (names_at m.fields s o args x.bound).number f) (range_with_len 0 (length m.fields))
-  pub before : IsAt s (names_at m.fields s o args x.bound)
-  pub named_as : AreGiven (own_names o) (args ++ x.bound) (names_at m.fields s o args x.bound)
-  pub safe : IsKeptSafe m.fields (names_at m.fields s o args x.bound) (map Name (range_with_len 0 (length m.fields))) o.steps
-  pub walk : Walk fit m.fields (names_at m.fields s o args x.bound) others (map Name (range_with_len 0 (length m.fields))) o.steps begun end
+  pub learns : AllByRecursion (λ (f : ℕ). is_some (field_slot m.fields o.steps f) ≡ true → begun.names.number f ≡ (valuation_at m.fields s o args x.bound).number f) (range_with_len 0 (length m.fields))
+  pub before : IsAt s (valuation_at m.fields s o args x.bound)
+  pub named_as : AreGiven (own_names o) (args ++ x.bound) (valuation_at m.fields s o args x.bound)
+  pub safe : IsKeptSafe m.fields (valuation_at m.fields s o args x.bound) (map Name (range_with_len 0 (length m.fields))) o.steps
+  pub walk : Walk fit m.fields (valuation_at m.fields s o args x.bound) others (map Name (range_with_len 0 (length m.fields))) o.steps begun end
 
 pub walked-at : (fit : ℤ → Bool) (m : MachineTree) → IsProved m → (o : OperationTree) → Contains m.ops o
     → (IsInit o → ⊥)
@@ -263,7 +263,7 @@ walked-at fit m proved o has other args long tokens given hand names others kept
     let number : (z : ℕ) → nat_lt z (length m.fields) ≡ false → y.names.number z ≡ argument (own_names o) (args ++ x.bound) z = λ z out.
     own-or-free o args x.bound v y.names z own (same-outside m.fields s y.names z out).number
     (λ no_param free. sym (unbound-kept fit m.fields o.steps a.0 y z a.2 free) ∙ sym (begins.beyond z out).number ∙ start-number m.fields o args tokens given hand kept whole z out ∙ no-argument o.params args z no_param) in
-    let same : v ≡ names_at m.fields s o args x.bound =
+    let same : v ≡ valuation_at m.fields s o args x.bound =
     valuations-same m.fields s y.names
     (record { number = argument (own_names o) (args ++ x.bound); mapping = λ z. maps.nil }) number mapping in
     record {
@@ -287,7 +287,7 @@ exchanges-meet-conditions fit m proved o has other args long tokens given hand n
     let w =
     walked-at fit m proved o has other args long tokens given hand names others kept sound s joined reached whole
     either x e in
-    let v = names_at m.fields s o args x.bound in
+    let v = valuation_at m.fields s o args x.bound in
     let d = walked fit m.fields v others o.steps w.begun w.end (map Name (range_with_len 0 (length m.fields))) w.walk in
     let firsts : first_values m.fields o.mode ≡ map Name (range_with_len 0 (length m.fields)) =
     first-names m.fields o.mode other in

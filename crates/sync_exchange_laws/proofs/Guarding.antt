@@ -22,7 +22,7 @@ use Rattle.sync_exchange.proofs.Terms.{and_right}
 use Rattle.sync_exchange.proofs.Passing.{unless-ok, ok_is, bind-ok}
 use Rattle.sync_exchange.proofs.Rules.{AreRuled, regular}
 use Rattle.sync_exchange_laws.specs.Permissions.{is_content, stored_often}
-use Rattle.sync_exchange_laws.specs.Conditions.{names_at}
+use Rattle.sync_exchange_laws.specs.Conditions.{valuation_at}
 use Rattle.sync_exchange_laws.specs.Along.{key_under, value_under, IsThere, left_under, AreThere, all_left}
 use Rattle.sync_exchange_laws.specs.Guards.{shown_by, shown, IsShown, PropertiesShowGuards}
 use Rattle.sync_exchange_laws.proofs.Cells.{one_if}
@@ -130,7 +130,7 @@ pub properties-show-guards : PropertiesShowGuards
 properties-show-guards fit m proved o has property args long tokens given hand names others kept sound s joined
     reached whole either x e =
     let other : IsInit o → ⊥ = λ init. absurd (let no : mode.Property ≡ mode.Init = sym property ∙ init in cc) in
-    let v = names_at m.fields s o args x.bound in
+    let v = valuation_at m.fields s o args x.bound in
     let w =
     walked-at fit m proved o has other args long tokens given hand names others kept sound s joined reached whole
     either x e in

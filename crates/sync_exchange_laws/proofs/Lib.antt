@@ -12,6 +12,7 @@ pub mod Stopping
 pub mod Progressing
 pub mod Succeeding
 pub mod Handling
+pub mod Lasting
 pub mod Variables
 pub mod Ending
 pub mod Along
@@ -20,6 +21,11 @@ pub mod Returning
 pub mod Substituting
 pub mod TermsSucceeding
 pub mod Starting
+pub mod Agreeing
+pub mod AgreeingNames
+pub mod WholeTerms
 mod Examples
-mod Meeting
-mod Storage
+pub mod Meeting
+pub mod Storage
+mod Dealing
+mod Withdrawal

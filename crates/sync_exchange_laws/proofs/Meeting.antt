@@ -28,7 +28,7 @@ use Rattle.sync_exchange.specs.Exchange.{Exchanged, held_as, token_of, tokens_in
 use Rattle.sync_exchange.specs.Projection.{AreNames, IsProved}
 use Rattle.sync_exchange.proofs.Widening.{unbounded}
 use Rattle.sync_exchange_laws.specs.Progress.{AreBrought, NamesToken}
-use Rattle.sync_exchange_laws.specs.Conditions.{names_at, MeetsConditions}
+use Rattle.sync_exchange_laws.specs.Conditions.{valuation_at, MeetsConditions}
 use Rattle.sync_exchange_laws.specs.Along.{IsAlong, all_left, ended}
 use Rattle.sync_exchange_laws.specs.Terms.{terms_as, TermsUnderWay, all_dues, all_terms_left}
 use Rattle.sync_exchange_laws.specs.Guards.{guarded, IsShown}
@@ -43,7 +43,7 @@ abbrev begin : OperationTree
 begin = record { name = 1; mode = mode.Init; params = []; steps = record { act = acts.Init 0 (Lit (pos 3)); line = 3 } ∷ []; line = 2 }
 
 -- one is taken
-abbrev spend : OperationTree
+abbrev pub spend : OperationTree
 spend = record {
   name = 2;
   mode = mode.Transition;
@@ -62,22 +62,22 @@ look = record {
   line = 6;
 }
 
-abbrev counted : MachineTree
+abbrev pub counted : MachineTree
 counted = record { name = 0; fields = record { name = 0; strategy = Count; line = 1 } ∷ []; ops = begin ∷ spend ∷ look ∷ []; invariants = [] }
 
-symbols : AreTextNames counted
+pub symbols : AreTextNames counted
 unfolding bound_by
 symbols = record {
   ops = (record { params = tt; bound = (tt, tt) }, (record { params = tt; bound = (tt, tt) }, (record { params = tt; bound = (tt, tt) }, tt)));
   invariants = tt;
 }
 
-named : machine_fault counted ≡ None
+pub named : machine_fault counted ≡ None
 unfolding machine_fault first_fault field_fault operation_fault head_fault step_fault act_fault number_fault
     is_started bound_by invariant_rule sort_of
 named = refl
 
-ruled : strategy_fault counted ≡ None
+pub ruled : strategy_fault counted ≡ None
 unfolding operations_fault steps_fault broken_rule kind_of has_local_terms names_only fits has_shape field_of
     changed_by sort_of may_start
 ruled = refl
@@ -117,27 +117,27 @@ holds = record {
       (λ n g. absurd (n refl)) (λ n g. spend-safe v args g) (λ n g. look-safe v args g) other given;
 }
 
-proved : IsProved counted
+pub proved : IsProved counted
 proved = record { symbols = symbols; named = named; strategies = ruled; holds = holds }
 
-abbrev three : State
+abbrev pub three : State
 three = Number (pos 3) ∷ []
 
 nothing-known : Valuation
 nothing-known = record { number = λ x. pos 0; mapping = λ x. maps.nil }
 
-reached : IsReached counted three
+pub reached : IsReached counted three
 unfolding AreMet condition enabling safety amount_is_natural field_of last_values after sort_of truth
 reached = starts begin [] (record { names = nothing-known; declared = (0, omega arith, refl); is_init = refl; given = tt; met = (refl, tt); leaves = refl })
 
 -- a token of one, and one of two
-abbrev hand : List Held
+abbrev pub hand : List Held
 hand = record { name = 1; token = token_of 0 (pos 0) (pos 1) } ∷ record { name = 2; token = token_of 0 (pos 0) (pos 2) } ∷ []
 
-abbrev kept : Kept
+abbrev pub kept : Kept
 kept = record { records = Number (pos 0) ∷ []; stored = [] }
 
-sound : AreSoundShards counted.fields (tokens_in hand ++ []) kept
+pub sound : AreSoundShards counted.fields (tokens_in hand ++ []) kept
 unfolding sort_of
 sound = record {
   shaped = record {
@@ -148,7 +148,7 @@ sound = record {
   natural = ((λ e. omega (arith, ints)), ((λ e. omega (arith, ints)), tt));
 }
 
-names : AreNames counted.fields spend (1 ∷ []) [] hand
+pub names : AreNames counted.fields spend (1 ∷ []) [] hand
 unfolding act_slot IsDistinct
 names = record {
   enough_tokens = refl;
@@ -186,12 +186,12 @@ spends : (x : Exchanged) × (exchange_of counted.fields spend [] (1 ∷ []) [] [
 spends = progresses counted proved spend (1, omega arith, refl) (λ e. absurd (cc)) [] refl (1 ∷ []) [] hand names [] kept sound three refl reached [] (inr refl) _ refl brought
 
 -- the exchange along the valuation of no bound names finds its token
-goes : IsAlong counted.fields (names_at counted.fields three spend [] []) spend [] (1 ∷ []) [] hand kept []
+goes : IsAlong counted.fields (valuation_at counted.fields three spend [] []) spend [] (1 ∷ []) [] hand kept []
     (record { hand = record { name = 2; token = token_of 0 (pos 0) (pos 2) } ∷ []; kept = kept; bound = [] })
 unfolding held_as
 goes = record { variables = tt; found = (refl, tt); leaves = refl }
 
-follows : exchange_of counted.fields spend [] (1 ∷ []) [] [] hand kept ≡ Ok (record { hand = record { name = 2; token = token_of 0 (pos 0) (pos 2) } ∷ []; kept = kept; bound = [] })
+pub follows : exchange_of counted.fields spend [] (1 ∷ []) [] [] hand kept ≡ Ok (record { hand = record { name = 2; token = token_of 0 (pos 0) (pos 2) } ∷ []; kept = kept; bound = [] })
 unfolding bound_by
 follows = (exchanges-follow counted proved spend (1, omega arith, refl) (λ e. absurd (cc)) [] refl (1 ∷ []) [] hand names [] kept sound three refl reached [] (inr refl) [] refl _ goes).0
 

@@ -45,7 +45,7 @@ use Rattle.sync_exchange.proofs.Widening.{unbounded, place-fit, term-fit, form-f
 use Rattle.sync_exchange.proofs.Whole.{nothing, AreApart, first-name, params-apart, are-given}
 use Rattle.sync_exchange.proofs.Beginning.{same-outside, Trust, trust, no-inits, start-nil, start-stands, start-same, all-one, text-outside}
 use Rattle.sync_exchange.proofs.Transitions.{below-length, at-number}
-use Rattle.sync_exchange_laws.specs.Conditions.{names_at}
+use Rattle.sync_exchange_laws.specs.Conditions.{valuation_at}
 use Rattle.sync_exchange_laws.specs.Along.{ExchangesFollow, key_under, value_under, IsThere, left_under, AreThere, all_left, begun_under, IsAlong}
 use Rattle.sync_exchange_laws.proofs.Bringing.{passed, token-asked, object-asked, is-asked-cases}
 use Rattle.sync_exchange_laws.proofs.Variables.{variables-used}
@@ -404,7 +404,7 @@ module _ (m : MachineTree) (o : OperationTree) (args : List ℤ) (tokens given :
   beyond_fields = record { number = argument (own_names o) (args ++ bound); mapping = λ z. maps.nil }
 
   abbrev v : Valuation
-  v = names_at m.fields s o args bound
+  v = valuation_at m.fields s o args bound
 
   abbrev none : HasNoInit o.steps
   none = no-inits m.fields o.mode [] o.steps other rules.rules
@@ -500,7 +500,7 @@ exchanges-follow m proved o has other args long tokens given hand names others k
     either bound many x along =
     let rules = regular m proved.symbols proved.named proved.strategies o has in
     let t = trust m.fields o s whole other rules.rules either in
-    let v = names_at m.fields s o args bound in
+    let v = valuation_at m.fields s o args bound in
     let w : Valuation = record { number = argument (own_names o) (args ++ bound); mapping = λ z. maps.nil } in
     let begun = begun_under m.fields v o args tokens given whole hand kept in
     let first =

@@ -44,7 +44,7 @@ use Rattle.sync_exchange.proofs.Starting.{doing-init}
 use Rattle.sync_exchange.proofs.Initialising.{is_outside, init-reading, all-start, all-inside, starts-once, start-open, open-stands, initialises-in}
 use Rattle.sync_exchange_laws.specs.Along.{IsVariableThere, variable_left, AreVariablesThere, left_under, AreThere, all_left, begun_under, ended}
 use Rattle.sync_exchange_laws.specs.Terms.{IsStoredThere, AreStoredThere}
-use Rattle.sync_exchange_laws.specs.Starts.{first_names, ConditionsMakeStarts, StartsGoAlong, StartsFollow, StartsOfTermsFollow}
+use Rattle.sync_exchange_laws.specs.Starts.{start_valuation, ConditionsMakeStarts, StartsGoAlong, StartsFollow, StartsOfTermsFollow}
 use Rattle.sync_exchange_laws.proofs.Variables.{variables-used}
 use Rattle.sync_exchange_laws.proofs.Ending.{start-number, first-nil, unbound-kept, all-nil}
 use Rattle.sync_exchange_laws.proofs.Along.{all-along, went-along}
@@ -132,33 +132,33 @@ module _ (fs : List Field) (o : OperationTree) (args : List ℤ) (init : IsInit 
   abbrev beyond_fields : Valuation
   beyond_fields = record { number = argument (own_names o) (args ++ []); mapping = λ z. maps.nil }
 
-  ruled : AreRuled fs mode.Init [] o.steps
+  pub ruled : AreRuled fs mode.Init [] o.steps
   ruled = subst (λ k. AreRuled fs k [] o.steps) init rules.rules
 
   no-names : bound_names o.steps ≡ []
   no-names = binds-none fs [] o.steps ruled
 
   outside-number : (z : ℕ) → nat_lt z (length fs) ≡ false
-      → argument o.params args z ≡ (first_names fs o args).number z
+      → argument o.params args z ≡ (start_valuation fs o args).number z
   outside-number z out =
       ap (λ (ps : List ℕ). argument ps args z) (sym (append-nil o.params))
       ∙ ap (λ (qs : List ℕ). argument (o.params ++ qs) args z) (sym no-names)
       ∙ ap (λ (ns : List ℤ). argument (own_names o) ns z) (sym (append-nil args))
       ∙ (same-outside fs [] beyond_fields z out).number
 
-  outside-mapping : (z : ℕ) → nat_lt z (length fs) ≡ false → maps.nil ≡ (first_names fs o args).mapping z
+  outside-mapping : (z : ℕ) → nat_lt z (length fs) ≡ false → maps.nil ≡ (start_valuation fs o args).mapping z
   outside-mapping z out = (same-outside fs [] beyond_fields z out).mapping
 
-  pub first-given : length args ≡ length o.params → AreGiven o.params args (first_names fs o args)
+  pub first-given : length args ≡ length o.params → AreGiven o.params args (start_valuation fs o args)
   first-given long =
-      are-given (first_names fs o args) o.params args long (params-apart fs [] o.params rules.params).1
-      (all-one IsTextName (λ z. (first_names fs o args).number z ≡ argument o.params args z) o.params
+      are-given (start_valuation fs o args) o.params args long (params-apart fs [] o.params rules.params).1
+      (all-one IsTextName (λ z. (start_valuation fs o args).number z ≡ argument o.params args z) o.params
       (λ z text. sym (outside-number z (text-outside fs z rules.few text))) rules.texts.params)
 
 pub conditions-make-starts : ConditionsMakeStarts
 conditions-make-starts m texts named ruled o has init args long holds =
     let rules = regular m texts named ruled o has in
-    let v = first_names m.fields o args in
+    let v = start_valuation m.fields o args in
     record {
       names = v;
       declared = has;
@@ -203,7 +203,7 @@ module _ (fs : List Field) (o : OperationTree) (args : List ℤ) (tokens given :
   start = beginning fs o args tokens given whole hand kept
 
   abbrev v : Valuation
-  v = first_names fs o args
+  v = start_valuation fs o args
 
   abbrev cur : List Tree
   cur = first_values fs mode.Init
@@ -303,7 +303,7 @@ starts-go-along fit m proved o has init args long tokens given hand names perms 
     let out = outcome-ok (use_variables (variable_slots m.fields o) start >>= does_all fit m.fields o.steps) x e in
     let y = out.0 in
     let a = bind-ok (use_variables (variable_slots m.fields o) start) (does_all fit m.fields o.steps) y out.1 in
-    let v = first_names m.fields o args in
+    let v = start_valuation m.fields o args in
     let gives = first-given m.fields o args init rules long in
     let safe = proved.holds.starts_safe o has init args v gives in
     let cur = first_values m.fields mode.Init in
@@ -344,7 +344,7 @@ pub starts-follow : StartsFollow
 starts-follow m proved o has init args long tokens given hand names perms kept blanks empty whole there =
     let rules = regular m proved.symbols proved.named proved.strategies o has in
     let start = beginning m.fields o args tokens given whole hand kept in
-    let v = first_names m.fields o args in
+    let v = start_valuation m.fields o args in
     let begun = begun_under m.fields v o args tokens given whole hand kept in
     let slots =
     slots-there m.fields o args tokens given hand kept whole init names rules perms blanks empty in
@@ -361,7 +361,7 @@ pub starts-of-terms-follow : StartsOfTermsFollow
 starts-of-terms-follow m proved o has init args long tokens given hand apart perms kept blanks empty whole begun first
     names v reads d h dues =
     let rules = regular m proved.symbols proved.named proved.strategies o has in
-    let w = first_names m.fields o args in
+    let w = start_valuation m.fields o args in
     let u = with_terms names v in
     let starts = all-start m.fields [] o.steps (ruled m.fields o args init rules) in
     let went = terms-are-exchanged m.fields names v o.steps d begun h dues

@@ -33,10 +33,10 @@ use Rattle.sync_exchange_values.specs.Fitting.{number_fits, form_fits}
 use Rattle.sync_exchange.specs.Exchange.{Exchanging, Exchanged, held_as, stored_at, token_of, permission, argument, tokens_in, beginning, does, exchange_of}
 use Rattle.sync_exchange.specs.Projection.{AreNames, ArePermissions, AreBlank, IsProved}
 use Rattle.sync_exchange.proofs.Widening.{unbounded}
-use Rattle.sync_exchange_laws.specs.Conditions.{names_at}
+use Rattle.sync_exchange_laws.specs.Conditions.{valuation_at}
 use Rattle.sync_exchange_laws.specs.Along.{AreThere, begun_under, all_left, ended}
-use Rattle.sync_exchange_laws.specs.Succeeding.{AreBroughtUnder, bound_at, SucceedsWith}
-use Rattle.sync_exchange_laws.specs.Starts.{first_names, StartsAlongOne}
+use Rattle.sync_exchange_laws.specs.Succeeding.{AreBroughtUnder, values_bound_at, SucceedsWith}
+use Rattle.sync_exchange_laws.specs.Starts.{start_valuation, StartsAlongOne}
 use Rattle.sync_exchange_laws.specs.Terms.{terms_as, TermsUnderWay, all_dues, AllReadSame}
 use Rattle.sync_exchange_laws.specs.Guards.{IsShown}
 use Rattle.sync_exchange_laws.proofs.Succeeding.{exchanges-succeed}
@@ -46,7 +46,7 @@ use Rattle.sync_exchange_laws.proofs.Starting.{starts-go-along, starts-follow}
 
 -- ---- the machine
 
-abbrev fields : List Field
+abbrev pub fields : List Field
 fields = record { name = 0; strategy = Count; line = 1 } ∷ record { name = 1; strategy = StorageMap; line = 2 } ∷ []
 
 -- the symbols of a parameter and of a bound name
@@ -60,7 +60,7 @@ abbrev new_object : PlaceTree
 new_object = record { key = Some (Lit (pos 0)); value = Some (Term (Name amount)) }
 
 -- three at the start; the cell 0 with this content is stored
-abbrev begin : OperationTree
+abbrev pub begin : OperationTree
 begin = record {
   name = 2;
   mode = mode.Init;
@@ -77,7 +77,7 @@ abbrev guard : StepTree
 guard = record { act = acts.Guard 1 (record { key = Some (Lit (pos 0)); value = Some (Bind content) }); line = 12 }
 
 -- one is taken, and the object is shown
-abbrev spend : OperationTree
+abbrev pub spend : OperationTree
 spend = record {
   name = 3;
   mode = mode.Transition;
@@ -92,7 +92,7 @@ spend = record {
 abbrev look : OperationTree
 look = record { name = 4; mode = mode.Property; params = []; steps = guard ∷ []; line = 11 }
 
-abbrev stored_cell : MachineTree
+abbrev pub stored_cell : MachineTree
 stored_cell = record { name = 0; fields = fields; ops = begin ∷ spend ∷ look ∷ []; invariants = [] }
 
 symbols : AreTextNames stored_cell
@@ -215,24 +215,24 @@ holds = record {
       (λ n. look-safe s v (cell-stays s reached) at) other;
 }
 
-proved : IsProved stored_cell
+pub proved : IsProved stored_cell
 proved = record { symbols = symbols; named = named; strategies = ruled; holds = holds }
 
 -- ---- its init is exchanged, by a holder of the permission
 
-abbrev owner : List Held
+abbrev pub owner : List Held
 owner = record { name = 7; token = permission (pos 0) (pos 3) } ∷ []
 
-abbrev blank : Kept
+abbrev pub blank : Kept
 blank = record { records = Number (pos 0) ∷ Mapped maps.nil ∷ []; stored = [] }
 
-abbrev kept : Kept
+abbrev pub kept : Kept
 kept = record { records = Number (pos 0) ∷ Mapped maps.nil ∷ []; stored = token_of 1 (pos 0) (pos 3) ∷ [] }
 
-abbrev all_three : Exchanged
+abbrev pub all_three : Exchanged
 all_three = record { hand = record { name = 1; token = token_of 0 (pos 0) (pos 3) } ∷ []; kept = kept; bound = [] }
 
-begin-names : AreNames fields begin (7 ∷ []) (1 ∷ []) owner
+pub begin-names : AreNames fields begin (7 ∷ []) (1 ∷ []) owner
 unfolding act_slot IsDistinct
 begin-names = record {
   enough_tokens = refl;
@@ -246,20 +246,20 @@ begin-names = record {
   given-new name (suc i, lt, is) among = absurd (omega (arith, lt))
   given-new name (zero, lt, is) (suc i, lu, at) = absurd (omega (arith, lu))
 
-nothing-kept : AreBlank fields blank.records
+pub nothing-kept : AreBlank fields blank.records
 unfolding sort_of
 nothing-kept = (refl, (refl, tt))
 
-permissions : ArePermissions (tokens_in owner)
+pub permissions : ArePermissions (tokens_in owner)
 unfolding IsDistinct
 permissions = record { permissions = (refl, tt); apart = (tt, tt) }
 
-asked : AreThere fields (first_names fields begin (pos 3 ∷ [])) begin.steps
-    (begun_under fields (first_names fields begin (pos 3 ∷ [])) begin (pos 3 ∷ []) (7 ∷ []) (1 ∷ []) [] owner blank)
+asked : AreThere fields (start_valuation fields begin (pos 3 ∷ [])) begin.steps
+    (begun_under fields (start_valuation fields begin (pos 3 ∷ [])) begin (pos 3 ∷ []) (7 ∷ []) (1 ∷ []) [] owner blank)
 unfolding held_as argument bound_by truth sort_of
 asked = (refl, (tt, (tt, (refl, tt))))
 
-begins : exchange_of fields begin (pos 3 ∷ []) (7 ∷ []) (1 ∷ []) [] owner blank ≡ Ok all_three
+pub begins : exchange_of fields begin (pos 3 ∷ []) (7 ∷ []) (1 ∷ []) [] owner blank ≡ Ok all_three
 unfolding argument bound_by sort_of
 begins = starts-follow stored_cell proved begin (0, omega arith, refl) refl (pos 3 ∷ []) refl (7 ∷ []) (1 ∷ []) owner
     begin-names permissions blank nothing-kept refl [] asked
@@ -270,13 +270,13 @@ begun-along = starts-go-along unbounded stored_cell proved begin (0, omega arith
 
 -- ---- one is spent
 
-abbrev three : State
+abbrev pub three : State
 three = Number (pos 3) ∷ Mapped (maps.put maps.nil (pos 0) (pos 3)) ∷ []
 
 abbrev begin_values : Valuation
 begin_values = record { number = λ x. pos 3; mapping = λ x. maps.nil }
 
-reached : IsReached stored_cell three
+pub reached : IsReached stored_cell three
 unfolding AreMet condition enabling safety amount_is_natural field_of last_values after sort_of truth
 reached = starts begin (pos 3 ∷ []) (record {
   names = begin_values;
@@ -316,12 +316,12 @@ spend-names = record {
   given_new = λ name has among. absurd (let lt = has.1 in omega (arith, lt));
 }
 
-bound-is : bound_at fields three spend (pos 1 ∷ []) (1 ∷ []) [] [] hand kept ≡ pos 3 ∷ []
+bound-is : values_bound_at fields three spend (pos 1 ∷ []) (1 ∷ []) [] [] hand kept ≡ pos 3 ∷ []
 unfolding does held_as stored_at argument number_fits form_fits truth bound_by
 bound-is = refl
 
-brought : AreBroughtUnder fields (names_at fields three spend (pos 1 ∷ []) (pos 3 ∷ [])) spend.steps
-    (begun_under fields (names_at fields three spend (pos 1 ∷ []) []) spend (pos 1 ∷ []) (1 ∷ []) [] [] hand kept)
+brought : AreBroughtUnder fields (valuation_at fields three spend (pos 1 ∷ []) (pos 3 ∷ [])) spend.steps
+    (begun_under fields (valuation_at fields three spend (pos 1 ∷ []) []) spend (pos 1 ∷ []) (1 ∷ []) [] [] hand kept)
 unfolding held_as argument truth bound_by
 brought = (refl, (refl, (tt, tt)))
 
@@ -330,8 +330,8 @@ spends =
     subst (SucceedsWith stored_cell three spend (pos 1 ∷ []) (1 ∷ []) [] hand kept []) bound-is
     (exchanges-succeed stored_cell proved spend (1, omega arith, refl) (λ e. absurd (cc)) (pos 1 ∷ []) refl (1 ∷ [])
     [] hand spend-names [] kept sound three refl reached [] (inr refl) tt
-    (subst (λ (bs : List ℤ). AreBroughtUnder fields (names_at fields three spend (pos 1 ∷ []) bs) spend.steps
-    (begun_under fields (names_at fields three spend (pos 1 ∷ []) []) spend (pos 1 ∷ []) (1 ∷ []) [] [] hand kept))
+    (subst (λ (bs : List ℤ). AreBroughtUnder fields (valuation_at fields three spend (pos 1 ∷ []) bs) spend.steps
+    (begun_under fields (valuation_at fields three spend (pos 1 ∷ []) []) spend (pos 1 ∷ []) (1 ∷ []) [] [] hand kept))
     (sym bound-is) brought))
 
 -- ---- and over terms: of a local of value 1, and what the store shows is named
@@ -365,7 +365,7 @@ dues-hold : AllByRecursion (Holds known) (all_dues fields names spend.steps term
 unfolding terms_as replaced replaced_in truth
 dues-hold = (refl, (refl, (refl, (refl, tt))))
 
-reads-same : AllReadSame fields (with_terms names known) (names_at fields three spend (pos 1 ∷ []) (pos 3 ∷ []))
+reads-same : AllReadSame fields (with_terms names known) (valuation_at fields three spend (pos 1 ∷ []) (pos 3 ∷ []))
     spend.steps
 unfolding argument truth bound_by
 reads-same = (refl, ((refl, refl), ((refl, refl), tt)))
@@ -376,7 +376,7 @@ of-terms =
     (exchanges-of-terms-succeed stored_cell proved spend (1, omega arith, refl) (λ e. absurd (cc)) (pos 1 ∷ []) refl
     (1 ∷ []) [] hand spend-names [] kept sound three refl reached [] (inr refl) begun refl names known
     (subst (λ (bs : List ℤ). AllReadSame fields (with_terms names known)
-    (names_at fields three spend (pos 1 ∷ []) bs) spend.steps) (sym bound-is) reads-same)
+    (valuation_at fields three spend (pos 1 ∷ []) bs) spend.steps) (sym bound-is) reads-same)
     terms (record { tokens = refl; given = refl; variables = refl; hand = refl; entered = refl }) dues-hold).1
 
 -- ---- the store is shown

@@ -23,7 +23,7 @@ use Rattle.sync_exchange_laws.specs.Along.{key_under, value_under, IsThere, left
 use Rattle.sync_exchange_laws.specs.Terms.{TokenTerms, HeldTerms, token_under, held_under, hand_under, terms_as, terms_without, terms_revalued, TermsUnderWay, is_token, place_dues, dues_at, terms_taken, terms_read, terms_given, terms_changed, terms_started, terms_updated, terms_left, all_dues, HasTerms, IsStoredThere, ReadsSame, AllReadSame, TermsAreExchanged, ExchangesOfTermsFollow}
 use Rattle.sync_exchange.proofs.Rules.{regular}
 use Rattle.sync_exchange.proofs.Beginning.{trust}
-use Rattle.sync_exchange_laws.specs.Conditions.{names_at}
+use Rattle.sync_exchange_laws.specs.Conditions.{valuation_at}
 use Rattle.sync_exchange_laws.proofs.Variables.{token-is, variables-found}
 use Rattle.sync_exchange_laws.proofs.Along.{named-is}
 use Rattle.sync_exchange_laws.proofs.Returning.{learned, exchanges-follow}
@@ -35,7 +35,7 @@ if-some : (b : Bool) (here later : Option TokenTerms) (t : TokenTerms) (P : Type
 if-some true here later t P e now behind = now refl e
 if-some false here later t P e now behind = behind refl e
 
-as-under : (v : Valuation) (name : ℕ) (hs : List HeldTerms) (t : TokenTerms) → terms_as name hs ≡ Some t
+pub as-under : (v : Valuation) (name : ℕ) (hs : List HeldTerms) (t : TokenTerms) → terms_as name hs ≡ Some t
     → held_as name (hand_under v hs) ≡ Some (token_under v t)
 unfolding terms_as held_as
 as-under v name [] t e = absurd (cc)
@@ -83,14 +83,14 @@ module _ (v : Valuation) (d : TermsUnderWay) (x : Exchanging) (h : HasTerms v d 
     entered = h.entered;
   }
 
-  read-so : HasTerms v (terms_read d) (after_reading x)
+  pub read-so : HasTerms v (terms_read d) (after_reading x)
   read-so =
       record { tokens = ap later_names h.tokens; given = h.given; variables = h.variables; hand = h.hand; entered = h.entered }
 
   seen-so : HasTerms v d (after_seeing x)
   seen-so = record { tokens = h.tokens; given = h.given; variables = h.variables; hand = h.hand; entered = h.entered }
 
-  gave : (f : ℕ) (k n : Tree) → HasTerms v (terms_given f k n d) (after_giving (token_of f (num v k) (num v n)) x)
+  pub gave : (f : ℕ) (k n : Tree) → HasTerms v (terms_given f k n d) (after_giving (token_of f (num v k) (num v n)) x)
   gave f k n =
       let held : ℕ → Held = λ name. record { name = name; token = token_of f (num v k) (num v n) } in
       record {
@@ -315,7 +315,7 @@ all-same fs v w (s ∷ ss) x reads there =
 pub exchanges-of-terms-follow : ExchangesOfTermsFollow
 exchanges-of-terms-follow m proved o has other args long tokens given hand apart others kept sound s joined reached
     whole either bound many begun first names v reads d h dues stored =
-    let w = names_at m.fields s o args bound in
+    let w = valuation_at m.fields s o args bound in
     let went = terms-are-exchanged m.fields names v o.steps d begun h dues stored in
     let same = all-same m.fields (with_terms names v) w o.steps begun reads went.0 in
     let rules = regular m proved.symbols proved.named proved.strategies o has in

@@ -31,10 +31,10 @@ use Rattle.sync_exchange.proofs.Answering.{Answers, all-answered, used-bind-noth
 use Rattle.sync_exchange.proofs.Rules.{IsRegular, regular, are-lawful}
 use Rattle.sync_exchange.proofs.Beginning.{valuation, number-inside, mapping-inside, same-outside, Trust, trust}
 use Rattle.sync_exchange.proofs.Transitions.{outcome-ok}
-use Rattle.sync_exchange_laws.specs.Conditions.{names_at}
+use Rattle.sync_exchange_laws.specs.Conditions.{valuation_at}
 use Rattle.sync_exchange_laws.specs.Progress.{IsBrought, AreBrought}
 use Rattle.sync_exchange_laws.specs.Along.{key_under, value_under, begun_under, IsAlong}
-use Rattle.sync_exchange_laws.specs.Succeeding.{IsBroughtUnder, AreBroughtUnder, values_behind, values_bound, bound_at, ExchangesSucceed}
+use Rattle.sync_exchange_laws.specs.Succeeding.{IsBroughtUnder, AreBroughtUnder, values_behind, values_bound, values_bound_at, ExchangesSucceed}
 use Rattle.sync_exchange_laws.proofs.Bringing.{is-asked-cases}
 use Rattle.sync_exchange_laws.proofs.Testing.{argument-front}
 use Rattle.sync_exchange_laws.proofs.Variables.{variables-used}
@@ -153,7 +153,7 @@ module _ (m : MachineTree) (o : OperationTree) (args : List ℤ) (tokens given :
   beyond_fields = record { number = argument (own_names o) (args ++ bound); mapping = λ z. maps.nil }
 
   abbrev v : Valuation
-  v = names_at m.fields s o args bound
+  v = valuation_at m.fields s o args bound
 
   laws : AreLawful m.fields t.test o.params [] o.steps
   laws = are-lawful m.fields o.mode t.test o.params [] o.steps rules.few rules.rules rules.statements rules.texts.bound t.reading
@@ -272,9 +272,9 @@ exchanges-succeed m proved o has other args long tokens given hand names others 
     let rules = regular m proved.symbols proved.named proved.strategies o has in
     let t = trust m.fields o s whole other rules.rules either in
     let start = beginning m.fields o args tokens given whole hand kept in
-    let begun = begun_under m.fields (names_at m.fields s o args []) o args tokens given whole hand kept in
-    let first = variables-used (names_at m.fields s o args []) (variable_slots m.fields o) start variables in
-    let bound = bound_at m.fields s o args tokens given whole hand kept in
+    let begun = begun_under m.fields (valuation_at m.fields s o args []) o args tokens given whole hand kept in
+    let first = variables-used (valuation_at m.fields s o args []) (variable_slots m.fields o) start variables in
+    let bound = values_bound_at m.fields s o args tokens given whole hand kept in
     let e = progresses m proved o has other args long tokens given hand names others kept sound s joined reached whole
     either begun first
     (all-brought m o args tokens given hand others kept s whole joined sound other names rules t begun first long
@@ -291,5 +291,5 @@ exchanges-succeed m proved o has other args long tokens given hand names others 
       left = x;
       answer = e.1;
       bound_as = values;
-      along = subst (λ (bs : List ℤ). IsAlong m.fields (names_at m.fields s o args bs) o args tokens given hand kept whole x) values goes.along;
+      along = subst (λ (bs : List ℤ). IsAlong m.fields (valuation_at m.fields s o args bs) o args tokens given hand kept whole x) values goes.along;
     }

@@ -9,9 +9,9 @@ use Rattle.sync_machine.specs.Machines as acts
 use Rattle.sync_exchange.specs.Exchange.{Exchanging, Exchanged, beginning}
 use Rattle.sync_exchange.proofs.Rules.{regular}
 use Rattle.sync_exchange.proofs.Beginning.{trust}
-use Rattle.sync_exchange_laws.specs.Conditions.{names_at}
+use Rattle.sync_exchange_laws.specs.Conditions.{valuation_at}
 use Rattle.sync_exchange_laws.specs.Along.{left_under, AreThere, all_left, begun_under, ended}
-use Rattle.sync_exchange_laws.specs.Succeeding.{IsBroughtUnder, AreBroughtUnder, values_bound, bound_at, SucceedsWith}
+use Rattle.sync_exchange_laws.specs.Succeeding.{IsBroughtUnder, AreBroughtUnder, values_bound, values_bound_at, SucceedsWith}
 use Rattle.sync_exchange_laws.specs.Terms.{TermsUnderWay, dues_at, terms_left, all_terms_left, all_dues, HasTerms, ReadsSame, AllReadSame, ExchangesOfTermsSucceed}
 use Rattle.sync_exchange_laws.proofs.Variables.{variables-found}
 use Rattle.sync_exchange_laws.proofs.Returning.{learned}
@@ -38,7 +38,7 @@ module _ (fs : List Field) (names : ℕ → Tree) (v : Valuation) where
   one-brought d x h (acts.HaveVariable f) dues = tt
   one-brought d x h (acts.Add f p) dues = tt
 
-  all-brought : (ss : List StepTree) (d : TermsUnderWay) (x : Exchanging) → HasTerms v d x
+  pub all-brought : (ss : List StepTree) (d : TermsUnderWay) (x : Exchanging) → HasTerms v d x
       → AllByRecursion (Holds v) (all_dues fs names ss d)
       → AreBroughtUnder fs u ss x × HasTerms v (all_terms_left fs names ss d) (all_left fs u ss x)
   all-brought [] d x h dues = (tt, h)
@@ -66,7 +66,7 @@ module _ (fs : List Field) (v w : Valuation) where
   brought-same x (acts.HaveVariable f) e there = tt
   brought-same x (acts.Add f p) e there = tt
 
-  all-brought-same : (ss : List StepTree) (x : Exchanging) → AllReadSame fs v w ss
+  pub all-brought-same : (ss : List StepTree) (x : Exchanging) → AllReadSame fs v w ss
       → AreBroughtUnder fs v ss x → AreBroughtUnder fs w ss x
   all-brought-same [] x reads there = tt
   all-brought-same (s ∷ ss) x reads there = (
@@ -88,7 +88,7 @@ module _ (fs : List Field) (v w : Valuation) where
   turned (acts.Withdraw f p) e = (sym e.0, sym e.1)
   turned (acts.Guard f p) e = (sym e.0, sym e.1)
 
-  all-turned : (ss : List StepTree) → AllReadSame fs v w ss → AllReadSame fs w v ss
+  pub all-turned : (ss : List StepTree) → AllReadSame fs v w ss → AllReadSame fs w v ss
   all-turned [] reads = tt
   all-turned (s ∷ ss) reads = (turned s.act reads.0, all-turned ss reads.1)
 
@@ -100,22 +100,22 @@ exchanges-of-terms-succeed m proved o has other args long tokens given hand apar
     let rules = regular m proved.symbols proved.named proved.strategies o has in
     let t = trust m.fields o s whole other rules.rules either in
     let start = beginning m.fields o args tokens given whole hand kept in
-    let slots = λ (bound : List ℤ). variables-found m.fields o.steps (names_at m.fields s o args bound)
+    let slots = λ (bound : List ℤ). variables-found m.fields o.steps (valuation_at m.fields s o args bound)
     (length m.fields) 0 start begun first
     (learned m o args tokens given hand others kept s whole joined sound other apart rules t begun first long bound) in
     let u = with_terms names v in
     let bound = values_bound m.fields o.steps begun in
-    let w = names_at m.fields s o args bound in
-    let before = begun_under m.fields (names_at m.fields s o args []) o args tokens given whole hand kept in
+    let w = valuation_at m.fields s o args bound in
+    let before = begun_under m.fields (valuation_at m.fields s o args []) o args tokens given whole hand kept in
     let is : before ≡ begun = (slots []).1 in
-    let same : bound_at m.fields s o args tokens given whole hand kept ≡ bound =
+    let same : values_bound_at m.fields s o args tokens given whole hand kept ≡ bound =
     ap (values_bound m.fields o.steps) is in
     let went = all-brought m.fields names v o.steps d begun h dues in
     let brought = all-brought-same m.fields u w o.steps begun reads went.0 in
     let e = subst (SucceedsWith m s o args tokens given hand kept whole) same
     (exchanges-succeed m proved o has other args long tokens given hand apart others kept sound s joined reached whole
     either (slots []).0
-    (subst (λ (bs : List ℤ). AreBroughtUnder m.fields (names_at m.fields s o args bs) o.steps before) (sym same)
+    (subst (λ (bs : List ℤ). AreBroughtUnder m.fields (valuation_at m.fields s o args bs) o.steps before) (sym same)
     (subst (AreBroughtUnder m.fields w o.steps) (sym is) brought))) in
     let along = e.along in
     let there = subst (AreThere m.fields w o.steps) (slots bound).1 along.found in

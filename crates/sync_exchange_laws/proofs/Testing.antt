@@ -10,7 +10,7 @@ use Rattle.sync_exchange.proofs.Beginning.{same-outside, at-state, all-both, all
 use Rattle.sync_exchange.proofs.Rules.{regular}
 use Rattle.sync_exchange.proofs.Whole.{params-apart, are-given}
 use Rattle.sync_machine.specs.Named.{own_names}
-use Rattle.sync_exchange_laws.specs.Conditions.{names_at, ConditionsMakeSteps}
+use Rattle.sync_exchange_laws.specs.Conditions.{valuation_at, ConditionsMakeSteps}
 
 -- an argument of a list is the same behind which others stand
 front-cases : (b : Bool) (n m k : ℤ) → (b ≡ false → m ≡ k) → (if b then n else m) ≡ (if b then n else k)
@@ -33,7 +33,7 @@ pub conditions-make-steps : ConditionsMakeSteps
 conditions-make-steps m texts named ruled o has other args bound long s many holds =
     let rules = regular m texts named ruled o has in
     let w : Valuation = record { number = argument (own_names o) (args ++ bound); mapping = λ x. maps.nil } in
-    let v = names_at m.fields s o args bound in
+    let v = valuation_at m.fields s o args bound in
     let value = λ (z : ℕ) (text : IsTextName z) (here : is_in z o.params ≡ true).
     sym (same-outside m.fields s w z (text-outside m.fields z rules.few text)).number ∙ argument-front o.params (bound_names o.steps) args bound z long here in
     record {

@@ -19,7 +19,7 @@ use Rattle.sync_exchange.specs.Projection.{AreNames, IsProved}
 use Rattle.sync_rules.specs.declared.slots.Role.{Role}
 use Rattle.sync_rules.specs.declared.slots.Role.TheVariants.{Given}
 use Rattle.sync_rules.specs.Slots.{SlotTree}
-use Rattle.sync_exchange_laws.specs.Conditions.{names_at}
+use Rattle.sync_exchange_laws.specs.Conditions.{valuation_at}
 
 -- the key and the value of a place
 abbrev pub key_under : Valuation → PlaceTree → ℤ
@@ -137,10 +137,10 @@ AssertHolds v (acts.Guard f p) = Unit {0}
 pub record GoesAlongOne (m : MachineTree) (s : State) (o : OperationTree) (args : List ℤ) (tokens given : List ℕ)
     (hand : List Held)
     (kept : Kept) (whole : State) (x : Exchanged) : Type 0 where
-  pub before : IsAt s (names_at m.fields s o args x.bound)
-  pub named_as : AreGiven (own_names o) (args ++ x.bound) (names_at m.fields s o args x.bound)
-  pub asserts : AllByRecursion (λ (step : StepTree). AssertHolds (names_at m.fields s o args x.bound) step.act) o.steps
-  pub along : IsAlong m.fields (names_at m.fields s o args x.bound) o args tokens given hand kept whole x
+  pub before : IsAt s (valuation_at m.fields s o args x.bound)
+  pub named_as : AreGiven (own_names o) (args ++ x.bound) (valuation_at m.fields s o args x.bound)
+  pub asserts : AllByRecursion (λ (step : StepTree). AssertHolds (valuation_at m.fields s o args x.bound) step.act) o.steps
+  pub along : IsAlong m.fields (valuation_at m.fields s o args x.bound) o args tokens given hand kept whole x
 
 abbrev pub ExchangesGoAlong : Type 0
 ExchangesGoAlong = (fits : ℤ → Bool) (m : MachineTree) → IsProved m → (o : OperationTree) → Contains m.ops o
@@ -163,5 +163,5 @@ ExchangesFollow = (m : MachineTree) → IsProved m → (o : OperationTree) → C
     → (s : State) → join_of m.fields (tokens_in hand ++ others) kept ≡ Some s → IsReached m s
     → (whole : State) → (whole ≡ s) ⊎ (is_plain m.fields o ≡ true)
     → (bound : List ℤ) → length bound ≡ length (bound_names o.steps)
-    → (x : Exchanged) → IsAlong m.fields (names_at m.fields s o args bound) o args tokens given hand kept whole x
+    → (x : Exchanged) → IsAlong m.fields (valuation_at m.fields s o args bound) o args tokens given hand kept whole x
     → (exchange_of m.fields o args tokens given whole hand kept ≡ Ok x) × (x.bound ≡ bound)

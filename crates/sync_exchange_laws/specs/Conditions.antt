@@ -21,8 +21,8 @@ use Rattle.sync_exchange.specs.Projection.{AreNames, IsProved}
 
 -- what symbols stand for: fields for the values of the state, parameters for the arguments, bound names for the
 -- values bound
-abbrev pub names_at : List Field → State → OperationTree → List ℤ → List ℤ → Valuation
-names_at fs s o args bound = record {
+abbrev pub valuation_at : List Field → State → OperationTree → List ℤ → List ℤ → Valuation
+valuation_at fs s o args bound = record {
   number = λ x.
       if nat_lt x (length fs) then number_of (slice_index_or s x (Number (pos 0))) else argument (own_names o) (args ++ bound) x;
   mapping = λ x. if nat_lt x (length fs) then entries_of (slice_index_or s x (Number (pos 0))) else maps.nil;
@@ -30,16 +30,16 @@ names_at fs s o args bound = record {
 
 -- all conditions of its statements are true
 abbrev pub conditions_hold : List Field → State → OperationTree → List ℤ → List ℤ → Bool
-conditions_hold fs s o args bound = are_met fs (names_at fs s o args bound) (first_values fs o.mode) o.steps
+conditions_hold fs s o args bound = are_met fs (valuation_at fs s o args bound) (first_values fs o.mode) o.steps
 
 -- all its safety conditions are, as far as the conditions before them
 abbrev pub safety_holds : List Field → State → OperationTree → List ℤ → List ℤ → Bool
-safety_holds fs s o args bound = is_kept_safe fs (names_at fs s o args bound) (first_values fs o.mode) o.steps
+safety_holds fs s o args bound = is_kept_safe fs (valuation_at fs s o args bound) (first_values fs o.mode) o.steps
 
 -- the state that it leads to
 abbrev pub state_after : List Field → State → OperationTree → List ℤ → List ℤ → State
 state_after fs s o args bound =
-    values_in (names_at fs s o args bound) fs (last_values fs (first_values fs o.mode) o.steps)
+    values_in (valuation_at fs s o args bound) fs (last_values fs (first_values fs o.mode) o.steps)
 
 -- Where the conditions hold, the operation is a step.
 abbrev pub ConditionsMakeSteps : Type 0
@@ -52,8 +52,8 @@ ConditionsMakeSteps = (m : MachineTree) → AreTextNames m → machine_fault m �
 -- computed, and these tokens and what is kept are the shards of the state that is computed.
 pub record MeetsConditions (m : MachineTree) (s : State) (o : OperationTree) (args bound : List ℤ) (bag : List Token)
     (kept : Kept) : Type 0 where
-  pub before : IsAt s (names_at m.fields s o args bound)
-  pub named_as : AreGiven (own_names o) (args ++ bound) (names_at m.fields s o args bound)
+  pub before : IsAt s (valuation_at m.fields s o args bound)
+  pub named_as : AreGiven (own_names o) (args ++ bound) (valuation_at m.fields s o args bound)
   pub conditions : conditions_hold m.fields s o args bound ≡ true
   pub safe : safety_holds m.fields s o args bound ≡ true
   pub joined : join_of m.fields bag kept ≡ Some (state_after m.fields s o args bound)

@@ -14,7 +14,7 @@ use Rattle.sync_join.specs.Join.{join_of}
 use Rattle.sync_exchange.specs.declared.hands.Held.{Held}
 use Rattle.sync_exchange.specs.Exchange.{Exchanged, tokens_in, token_of, stored_at, exchange_in}
 use Rattle.sync_exchange.specs.Projection.{AreNames, IsProved}
-use Rattle.sync_exchange_laws.specs.Conditions.{names_at}
+use Rattle.sync_exchange_laws.specs.Conditions.{valuation_at}
 use Rattle.sync_exchange_laws.specs.Permissions.{stored_often}
 use Rattle.sync_exchange_laws.specs.Along.{key_under, value_under}
 
@@ -37,7 +37,7 @@ shown v ss = filter_map (λ (s : StepTree). shown_by v s.act) ss
 
 -- what an operation guards at a state, with these arguments and these values of the names that it binds
 abbrev pub guarded : List Field → State → OperationTree → List ℤ → List ℤ → List Token
-guarded fs s o args bound = shown (names_at fs s o args bound) o.steps
+guarded fs s o args bound = shown (valuation_at fs s o args bound) o.steps
 
 -- The object is stored at its key, with its value. So its content is there at least once.
 pub record IsShown (kept : Kept) (t : Token) : Type 0 where

@@ -1,4 +1,5 @@
 pub mod Permissions
+pub mod Lasting
 pub mod Conditions
 pub mod Widths
 pub mod Progress
@@ -7,3 +8,5 @@ pub mod Succeeding
 pub mod Guards
 pub mod Terms
 pub mod Starts
+pub mod Agreeing
+pub mod WholeTerms

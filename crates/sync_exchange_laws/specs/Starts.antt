@@ -13,22 +13,22 @@ use Rattle.sync_join.specs.Join.{join_of}
 use Rattle.sync_exchange.specs.declared.hands.Held.{Held}
 use Rattle.sync_exchange.specs.Exchange.{Exchanging, Exchanged, tokens_in, use_variables, variable_slots, beginning, exchange_in, exchange_of}
 use Rattle.sync_exchange.specs.Projection.{AreNames, ArePermissions, AreBlank, IsProved}
-use Rattle.sync_exchange_laws.specs.Conditions.{names_at, conditions_hold, safety_holds, state_after}
+use Rattle.sync_exchange_laws.specs.Conditions.{valuation_at, conditions_hold, safety_holds, state_after}
 use Rattle.sync_exchange_laws.specs.Along.{AreThere, all_left, begun_under, ended, IsAlong}
 use Rattle.sync_exchange_laws.specs.Terms.{TermsUnderWay, HasTerms, AllReadSame, all_dues, all_terms_left}
 
 -- An init has no state before it, and binds no name: parameters stand for the arguments, and all else for nothing.
-abbrev pub first_names : List Field → OperationTree → List ℤ → Valuation
-first_names fs o args = names_at fs [] o args []
+abbrev pub start_valuation : List Field → OperationTree → List ℤ → Valuation
+start_valuation fs o args = valuation_at fs [] o args []
 
 -- the exchange of an init behind its variables' slots, and what it leaves, along this valuation
 abbrev pub first_begun : List Field → OperationTree → List ℤ → List ℕ → List ℕ → State → List Held → Kept → Exchanging
 first_begun fs o args tokens given whole hand kept =
-    begun_under fs (first_names fs o args) o args tokens given whole hand kept
+    begun_under fs (start_valuation fs o args) o args tokens given whole hand kept
 
 abbrev pub first_left : List Field → OperationTree → List ℤ → List ℕ → List ℕ → State → List Held → Kept → Exchanged
 first_left fs o args tokens given whole hand kept =
-    ended (all_left fs (first_names fs o args) o.steps (first_begun fs o args tokens given whole hand kept))
+    ended (all_left fs (start_valuation fs o args) o.steps (first_begun fs o args tokens given whole hand kept))
 
 -- ---- conditions that are computed
 
@@ -45,9 +45,9 @@ ConditionsMakeStarts = (m : MachineTree) → AreTextNames m → machine_fault m 
 pub record StartsAlongOne (m : MachineTree) (o : OperationTree) (args : List ℤ) (tokens given : List ℕ)
     (hand : List Held)
     (kept : Kept) (whole : State) (x : Exchanged) : Type 0 where
-  pub named_as : AreGiven o.params args (first_names m.fields o args)
+  pub named_as : AreGiven o.params args (start_valuation m.fields o args)
   pub none_bound : x.bound ≡ []
-  pub along : IsAlong m.fields (first_names m.fields o args) o args tokens given hand kept whole x
+  pub along : IsAlong m.fields (start_valuation m.fields o args) o args tokens given hand kept whole x
   pub conditions : conditions_hold m.fields [] o args [] ≡ true
   pub safe : safety_holds m.fields [] o args [] ≡ true
   pub joined : join_of m.fields (tokens_in x.hand) x.kept ≡ Some (state_after m.fields [] o args [])
@@ -67,7 +67,7 @@ StartsFollow = (m : MachineTree) → IsProved m → (o : OperationTree) → Cont
     → (tokens given : List ℕ) (hand : List Held) → AreNames m.fields o tokens given hand
     → ArePermissions (tokens_in hand) → (kept : Kept) → AreBlank m.fields kept.records → kept.stored ≡ []
     → (whole : State)
-    → AreThere m.fields (first_names m.fields o args) o.steps (first_begun m.fields o args tokens given whole hand kept)
+    → AreThere m.fields (start_valuation m.fields o args) o.steps (first_begun m.fields o args tokens given whole hand kept)
     → exchange_of m.fields o args tokens given whole hand kept
     ≡ Ok (first_left m.fields o args tokens given whole hand kept)
 
@@ -83,7 +83,7 @@ StartsOfTermsFollow = (m : MachineTree) → IsProved m → (o : OperationTree) �
     → (whole : State) (begun : Exchanging)
     → use_variables (variable_slots m.fields o) (beginning m.fields o args tokens given whole hand kept) ≡ Ok begun
     → (names : ℕ → Tree) (v : Valuation)
-    → AllReadSame m.fields (with_terms names v) (first_names m.fields o args) o.steps
+    → AllReadSame m.fields (with_terms names v) (start_valuation m.fields o args) o.steps
     → (d : TermsUnderWay) → HasTerms v d begun → AllByRecursion (Holds v) (all_dues m.fields names o.steps d)
     → (exchange_of m.fields o args tokens given whole hand kept
     ≡ Ok (ended (all_left m.fields (with_terms names v) o.steps begun)))

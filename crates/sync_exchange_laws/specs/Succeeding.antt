@@ -13,7 +13,7 @@ use Rattle.sync_join.specs.Join.{join_of}
 use Rattle.sync_exchange.specs.declared.hands.Held.{Held}
 use Rattle.sync_exchange.specs.Exchange.{Exchanging, Exchanged, Answer, tokens_in, variable_slots, beginning, does, exchange_of}
 use Rattle.sync_exchange.specs.Projection.{AreNames, IsProved}
-use Rattle.sync_exchange_laws.specs.Conditions.{names_at}
+use Rattle.sync_exchange_laws.specs.Conditions.{valuation_at}
 use Rattle.sync_exchange_laws.specs.Along.{IsThere, left_under, AreVariablesThere, begun_under, IsAlong}
 
 -- What a statement asks of the holder is there, with the key and the value of its place; a require is true. Stored
@@ -40,9 +40,9 @@ values_bound fs [] x = x.bound
 values_bound fs (s ∷ ss) x = values_behind (values_bound fs ss) x.bound (does (λ n. true) fs s x)
 
 -- the values that an operation binds at a state
-abbrev pub bound_at : List Field → State → OperationTree → List ℤ → List ℕ → List ℕ → State → List Held → Kept → List ℤ
-bound_at fs s o args tokens given whole hand kept =
-    values_bound fs o.steps (begun_under fs (names_at fs s o args []) o args tokens given whole hand kept)
+abbrev pub values_bound_at : List Field → State → OperationTree → List ℤ → List ℕ → List ℕ → State → List Held → Kept → List ℤ
+values_bound_at fs s o args tokens given whole hand kept =
+    values_bound fs o.steps (begun_under fs (valuation_at fs s o args []) o args tokens given whole hand kept)
 
 -- The exchange succeeds and goes along the valuation of the values that it binds.
 pub record SucceedsWith (m : MachineTree) (s : State) (o : OperationTree) (args : List ℤ) (tokens given : List ℕ)
@@ -50,7 +50,7 @@ pub record SucceedsWith (m : MachineTree) (s : State) (o : OperationTree) (args 
   pub left : Exchanged
   pub answer : exchange_of m.fields o args tokens given whole hand kept ≡ Ok left
   pub bound_as : left.bound ≡ bound
-  pub along : IsAlong m.fields (names_at m.fields s o args bound) o args tokens given hand kept whole left
+  pub along : IsAlong m.fields (valuation_at m.fields s o args bound) o args tokens given hand kept whole left
 
 -- Under what the theorem of sharding asks: where the tokens of the variables are there, and each other token that the
 -- statements ask for, with the keys and the values that their terms have at the values that are bound on the way, and
@@ -63,7 +63,7 @@ ExchangesSucceed = (m : MachineTree) → IsProved m → (o : OperationTree) → 
     → (others : List Token) (kept : Kept) → AreSoundShards m.fields (tokens_in hand ++ others) kept
     → (s : State) → join_of m.fields (tokens_in hand ++ others) kept ≡ Some s → IsReached m s
     → (whole : State) → (whole ≡ s) ⊎ (is_plain m.fields o ≡ true)
-    → AreVariablesThere (names_at m.fields s o args []) (variable_slots m.fields o) (beginning m.fields o args tokens given whole hand kept)
-    → AreBroughtUnder m.fields (names_at m.fields s o args (bound_at m.fields s o args tokens given whole hand kept)) o.steps
-    (begun_under m.fields (names_at m.fields s o args []) o args tokens given whole hand kept)
-    → SucceedsWith m s o args tokens given hand kept whole (bound_at m.fields s o args tokens given whole hand kept)
+    → AreVariablesThere (valuation_at m.fields s o args []) (variable_slots m.fields o) (beginning m.fields o args tokens given whole hand kept)
+    → AreBroughtUnder m.fields (valuation_at m.fields s o args (values_bound_at m.fields s o args tokens given whole hand kept)) o.steps
+    (begun_under m.fields (valuation_at m.fields s o args []) o args tokens given whole hand kept)
+    → SucceedsWith m s o args tokens given hand kept whole (values_bound_at m.fields s o args tokens given whole hand kept)

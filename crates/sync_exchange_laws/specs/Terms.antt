@@ -22,7 +22,7 @@ use Rattle.sync_join.specs.Join.{join_of}
 use Rattle.sync_exchange.specs.declared.hands.Held.{Held}
 use Rattle.sync_exchange.specs.Exchange.{Exchanging, tokens_in, stored_at, next_name, later_names, token_name, use_variables, variable_slots, beginning, exchange_of}
 use Rattle.sync_exchange.specs.Projection.{AreNames, IsProved}
-use Rattle.sync_exchange_laws.specs.Conditions.{names_at}
+use Rattle.sync_exchange_laws.specs.Conditions.{valuation_at}
 use Rattle.sync_exchange_laws.specs.Along.{key_under, value_under, left_under, AreThere, all_left, ended}
 use Rattle.sync_exchange_laws.specs.Succeeding.{values_bound}
 
@@ -219,7 +219,7 @@ ExchangesOfTermsFollow = (m : MachineTree) → IsProved m → (o : OperationTree
     → (begun : Exchanging)
     → use_variables (variable_slots m.fields o) (beginning m.fields o args tokens given whole hand kept) ≡ Ok begun
     → (names : ℕ → Tree) (v : Valuation)
-    → AllReadSame m.fields (with_terms names v) (names_at m.fields s o args bound) o.steps
+    → AllReadSame m.fields (with_terms names v) (valuation_at m.fields s o args bound) o.steps
     → (d : TermsUnderWay) → HasTerms v d begun → AllByRecursion (Holds v) (all_dues m.fields names o.steps d)
     → AreStoredThere m.fields (with_terms names v) o.steps begun
     → (exchange_of m.fields o args tokens given whole hand kept
@@ -241,7 +241,7 @@ ExchangesOfTermsSucceed = (m : MachineTree) → IsProved m → (o : OperationTre
     → (begun : Exchanging)
     → use_variables (variable_slots m.fields o) (beginning m.fields o args tokens given whole hand kept) ≡ Ok begun
     → (names : ℕ → Tree) (v : Valuation)
-    → AllReadSame m.fields (with_terms names v) (names_at m.fields s o args (values_bound m.fields o.steps begun)) o.steps
+    → AllReadSame m.fields (with_terms names v) (valuation_at m.fields s o args (values_bound m.fields o.steps begun)) o.steps
     → (d : TermsUnderWay) → HasTerms v d begun → AllByRecursion (Holds v) (all_dues m.fields names o.steps d)
     → AreThere m.fields (with_terms names v) o.steps begun
     × (exchange_of m.fields o args tokens given whole hand kept

@@ -1,14 +1,17 @@
 //! Laws of exchanges that what stands on them needs: they do nothing, and their clauses are proved.
 #![tactic(auto)]
 
+ghost use Rattle.sync_exchange_laws.specs.Agreeing.{ValuationsAgree, ExchangesGoByAny, StartsGoByAny};
 ghost use Rattle.sync_exchange_laws.specs.Along.{ExchangesGoAlong, ExchangesFollow};
 ghost use Rattle.sync_exchange_laws.specs.Conditions.{ConditionsMakeSteps, ExchangesMeetConditions};
 ghost use Rattle.sync_exchange_laws.specs.Guards.{PropertiesShowGuards};
+ghost use Rattle.sync_exchange_laws.specs.Lasting.{RunsKeepPermissions, StartsGiveOnce};
 ghost use Rattle.sync_exchange_laws.specs.Permissions.{PermissionsStay, FirstPermissionsStay, MovesKeepPermissions, WritesKeepShards, PermissionIsOnly, StoredIsOnly};
 ghost use Rattle.sync_exchange_laws.specs.Progress.{Progresses, StopsAreHolders};
 ghost use Rattle.sync_exchange_laws.specs.Starts.{ConditionsMakeStarts, StartsGoAlong, StartsFollow, StartsOfTermsFollow};
 ghost use Rattle.sync_exchange_laws.specs.Succeeding.{ExchangesSucceed};
 ghost use Rattle.sync_exchange_laws.specs.Terms.{TermsAreExchanged, ExchangesOfTermsFollow, ExchangesOfTermsSucceed};
+ghost use Rattle.sync_exchange_laws.specs.WholeTerms.{ExchangesGoByTerms, StartsGoByTerms};
 ghost use Rattle.sync_exchange_laws.specs.Widths.{WidthsAgree, PartsAgree, StatesFit};
 
 /// An exchange of a transition or property that succeeds keeps how often each content of each cell is there, as a
@@ -27,7 +30,19 @@ pub fn moves_keep_permissions()
     ensures { MovesKeepPermissions }
 {}
 
-/// A permission with another content leaves sound shards sound, and the state that they make, where there are at most 32
+/// So does any list of moves, between which tokens pass from hand to hand.
+pub fn runs_keep_permissions()
+    ensures { RunsKeepPermissions }
+{}
+
+/// Behind an init and any list of moves each permission is there as it was given to the init, of each cell once at
+/// most.
+pub fn starts_give_once()
+    ensures { StartsGiveOnce }
+{}
+
+/// A permission with another content leaves sound shards sound, and the state that they make, where there are at most
+/// 32
 /// fields.
 pub fn writes_keep_shards()
     ensures { WritesKeepShards }
@@ -59,7 +74,8 @@ pub fn parts_agree()
     ensures { PartsAgree }
 {}
 
-/// Where tokens, records and stored objects are within signed 128 bits, and there are fewer than 2^127 tokens, each joined
+/// Where tokens, records and stored objects are within signed 128 bits, and there are fewer than 2^127 tokens, each
+/// joined
 /// field is exactly where each partial sum of a count is.
 pub fn states_fit()
     ensures { StatesFit }
@@ -142,4 +158,33 @@ pub fn starts_follow()
 /// hold; and it leaves the values of the terms.
 pub fn starts_of_terms_follow()
     ensures { StartsOfTermsFollow }
+{}
+
+/// Valuations that stand for the same at each field, parameter and bound name agree on all that an operation reads.
+pub fn valuations_agree()
+    ensures { ValuationsAgree }
+{}
+
+/// An exchange of a transition or property goes by each valuation that agrees with its own at the end: it succeeds
+/// exactly
+/// where each token that a slot names is there, with the key and the value of its terms, and each require is true; and
+/// then it leaves what the terms have there.
+pub fn exchanges_go_by_any()
+    ensures { ExchangesGoByAny }
+{}
+
+/// So does the exchange of an init, by each valuation that agrees with that of its arguments.
+pub fn starts_go_by_any()
+    ensures { StartsGoByAny }
+{}
+
+/// A whole exchange of terms, with its variables: where the terms of the operation's names have the values of its own
+/// valuation at the end, the exchange of the values succeeds exactly where the dues hold, and leaves the terms' values.
+pub fn exchanges_go_by_terms()
+    ensures { ExchangesGoByTerms }
+{}
+
+/// So is the exchange of an init over terms.
+pub fn starts_go_by_terms()
+    ensures { StartsGoByTerms }
 {}

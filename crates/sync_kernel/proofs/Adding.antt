@@ -17,7 +17,7 @@ use Rattle.sync_terms.specs.Trees.{most_nodes}
 use Rattle.sync_terms.specs.Trees.{Formula, neg, formula_size}
 use Rattle.sync_terms.specs.Values.{Hypothesis}
 use Rattle.sync_terms.specs.Stored.{Stored, Extends, IsForm, formula}
-use Rattle.sync_terms.specs.Building.{BuildsForm}
+use Rattle.sync_terms.specs.Building.{BuildsForm, StopsBuilding}
 use Rattle.sync_kernel_facts.specs.declared.literals.Literal.{Literal}
 use Rattle.sync_kernel.specs.declared.splits.Pair.{Pair}
 use Rattle.sync_kernel_facts.specs.declared.branches.Said.{Said}
@@ -28,9 +28,9 @@ use Rattle.sync_kernel_facts.specs.Literals.{literal_form, IsLiteral}
 use Rattle.sync_kernel.specs.Pairs.{pair_forms, TakesApart}
 use Rattle.sync_kernel_facts.specs.Branches.{said_fact, facts_in, IsSaid, AreSaid, said_size, Begins}
 use Rattle.sync_kernel.specs.Taking.{Two, parts_of, plain_fact, taken}
-use Rattle.sync_kernel.specs.Scripts.{with_fact, fitting, Cases, cases_with, both_fitting}
+use Rattle.sync_kernel.specs.Scripts.{with_fact, fitting, Cases, cases_with, both_fitting, with_cut}
 use Rattle.sync_kernel.specs.Holding.{IsKnown, StopsFor, Leaves, large_stop}
-use Rattle.sync_kernel.proofs.Fitting.{facts-push, facts-more, fits_with, fitting_if, not_fitting, still_not_fitting, both_not_fitting, AreSaid-push, Begins-refl, Begins-push}
+use Rattle.sync_kernel.proofs.Fitting.{facts-push, facts-more, fits_with, fitting_if, not_fitting, still_not_fitting, both_not_fitting, right_not_fitting, AreSaid-push, Begins-refl, Begins-push}
 use Rattle.sync_kernel.proofs.Stepping.{leaves_ok, stops_at, stops_memory}
 
 -- ---- one fact more
@@ -120,6 +120,11 @@ pub cases_stop : (s : Stored) (line name : ℕ) (stop : TermStop) (e : Stop) (fs
 cases_stop s line name term.Memory e fs o is h = stops_memory line e (taken o >>= (λ (t : Two). both_fitting fs name t)) is
 cases_stop s line name term.TooLarge e fs None is h = absurd h
 cases_stop s line name term.TooLarge e fs (Some two) is h = stops_at line e K8 (both_fitting fs name two) is (both_not_fitting fs name two h)
+
+-- the formula of a `cut` that is too large
+pub cut_large : (line name : ℕ) (stop : TermStop) (e : Stop) (fs : List Fact) (form : Formula) → e ≡ large_stop line stop → StopsBuilding (formula_size form) stop → StopsFor line e (with_cut fs form name)
+cut_large line name term.Memory e fs form is h = stops_memory line e (with_cut fs form name) is
+cut_large line name term.TooLarge e fs form is h = stops_at line e K8 (with_cut fs form name) is (right_not_fitting fs name (record { left = neg form; right = form }) h)
 
 -- the two facts over a store that had gained less
 pub cases_from : (s t : Stored) (xs : List Said) (line name : ℕ) (forms : Two) (r : Result Pair Stop) → Extends s t → AreSaid s xs

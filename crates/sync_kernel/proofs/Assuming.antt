@@ -1,7 +1,7 @@
 -- Hypotheses that are ready: over a store that grows, with one more, and behind a proof.
 use Rattle.std.proofs.Common.{◌≡◌, ℕ, ◌+◌, Bool, false, List, [], ◌∷◌, ◌++◌, map, length, take, refl, sym, ap, subst, ◌∙◌}
 use Rattle.std.specs.Prelude.{not, nat_lt}
-use Rattle.std.proofs.lemmas.List.{map_push, take-map}
+use Rattle.std.proofs.lemmas.List.{length-map, map_push, take-map}
 use Rattle.sync_terms.specs.declared.nodes.Sym.{Sym}
 use Rattle.sync_terms.specs.declared.nodes.FormId.{FormId}
 use Rattle.sync_terms.specs.declared.scripts.HypName.TheVariants.{Denied}
@@ -19,7 +19,7 @@ use Rattle.sync_kernel_facts.specs.Literals.{literal_form}
 use Rattle.sync_kernel.specs.Notes.{AreNotes}
 use Rattle.sync_kernel.proofs.Adding.{start_fact, started_facts}
 use Rattle.sync_kernel.proofs.Checking.{begins_before}
-use Rattle.sync_kernel.proofs.Fitting.{facts-more, AreSaid-more, AreSaid-push, size-in, Begins-refl, Begins-push}
+use Rattle.sync_kernel.proofs.Fitting.{facts-more, AreSaid-more, AreSaid-push, AreSaid-take, size-in, Begins-refl, Begins-push}
 use Rattle.sync_kernel.proofs.Noting.{notes_grow}
 
 -- ---- over a store that grows
@@ -84,3 +84,20 @@ cut_ready s t old new ys len e r is cut notes = record {
 pub cut_known : (s t : Stored) (old new : Hypotheses) → Extends s t → AreReady s old → new.branch ≡ old.branch → known_in t new ≡ known_in s old
 unfolding known_in
 cut_known s t old new e r is = ap (facts_in t) is ∙ facts-more s t old.branch e r.said
+
+-- ---- fewer hypotheses
+
+pub known_length : (s : Stored) (h : Hypotheses) (n : ℕ) → n ≡ length h.branch → n ≡ length (known_in s h)
+unfolding known_in
+known_length s h n is = is ∙ sym (length-map h.branch (said_fact s))
+
+pub back_ready : (s : Stored) (old new : Hypotheses) (len : ℕ) → new.branch ≡ take len old.branch → ((facts : List Fact) → AreNotes s facts old.notes → AreNotes s (take len facts) new.notes) → AreReady s old
+    → AreReady s new
+back_ready s old new len is notes r = record {
+  said = subst (AreSaid s) (sym is) (AreSaid-take s len old.branch r.said);
+  notes = subst (λ (fs : List Fact). AreNotes s fs new.notes) (take-map (said_fact s) len old.branch ∙ ap (facts_in s) (sym is)) (notes (facts_in s old.branch) r.notes);
+}
+
+pub back_known : (s : Stored) (old new : Hypotheses) (len : ℕ) → new.branch ≡ take len old.branch → known_in s new ≡ take len (known_in s old)
+unfolding known_in
+back_known s old new len is = ap (facts_in s) is ∙ sym (take-map (said_fact s) len old.branch)

@@ -1,7 +1,7 @@
 -- The nodes of the facts of a branch, as the code counts them.
 use Rattle.std.proofs.Common.{◌≡◌, ℕ, zero, suc, ◌+◌, ◌<◌, Bool, true, false, ◌||◌, ◌&&◌, if◌then◌else◌, List, [], ◌∷◌, ◌++◌, map, length, take, Ok, Err, refl, sym, ap, ◌∙◌, arith}
 use Rattle.std.specs.Prelude.{not, nat_lt}
-use Rattle.std.proofs.lemmas.Bool.{cond-true, cond-false, lt-ltb, ltb-true, or_left}
+use Rattle.std.proofs.lemmas.Bool.{cond-true, cond-false, lt-ltb, ltb-true, or_left, or_right}
 use Rattle.std.proofs.lemmas.List.{map_push, take-append-le, take_all, length_push}
 use Rattle.sync_base.specs.declared.stops.Rule.TheVariants.{K8}
 use Rattle.sync_terms.specs.declared.nodes.Sym.{Sym}
@@ -109,6 +109,11 @@ pub both_not_fitting : (fs : List Fact) (name : ℕ) (forms : Two) → most_node
 both_not_fitting fs name forms h =
     cond-true (nat_lt most_nodes (facts_size (with_fact fs name forms.left)) || nat_lt most_nodes (facts_size (with_fact fs name forms.right))) (Err K8) (Ok (cases_with fs name forms))
     (or_left (nat_lt most_nodes (facts_size (with_fact fs name forms.left))) (nat_lt most_nodes (facts_size (with_fact fs name forms.right))) (too_large_with fs name forms.left h))
+
+pub right_not_fitting : (fs : List Fact) (name : ℕ) (forms : Two) → most_nodes < formula_size forms.right → both_fitting fs name forms ≡ Err K8
+right_not_fitting fs name forms h =
+    cond-true (nat_lt most_nodes (facts_size (with_fact fs name forms.left)) || nat_lt most_nodes (facts_size (with_fact fs name forms.right))) (Err K8) (Ok (cases_with fs name forms))
+    (or_right (nat_lt most_nodes (facts_size (with_fact fs name forms.left))) (nat_lt most_nodes (facts_size (with_fact fs name forms.right))) (too_large_with fs name forms.right h))
 
 two_tests : (a b c d : Bool) → c ≡ not a → d ≡ not b → (c && d) ≡ not (a || b)
 two_tests a b c d e f = ap (λ (x : Bool). x && d) e ∙ by a

@@ -22,3 +22,6 @@ pub mod Seeing
 pub mod Renewing
 pub mod Noting
 pub mod Assuming
+pub mod Pairing
+pub mod Itself
+pub mod Reading

@@ -19,7 +19,7 @@ use Rattle.sync_kernel_facts.specs.Lemmas.{cong_fact, read_fact, size_fact, tota
 use Rattle.sync_kernel_facts.specs.Laws.{AreTrue}
 use Rattle.sync_kernel_facts.specs.Facts.{Fact, same_name, newest, denial, as_hypothesis, facts_size, no_params, is_plain}
 use Rattle.sync_kernel.specs.Steps.{at_line, same_fault, sum_fault}
-use Rattle.sync_kernel.specs.Taking.{Two, parts_of, cases_of, plain_fact, taken, by_params, instance}
+use Rattle.sync_kernel.specs.Taking.{all_fit, fitting_terms, Two, parts_of, cases_of, plain_fact, taken, by_params, instance}
 use Rattle.sync_kernel.specs.Scripts.{with_fact, fitting, with_instance, with_parts, Cases, cases_with, both_fitting, with_cases, with_cut, after, going, block_fault, script_fault}
 use Rattle.sync_kernel.proofs.Sound.{AllHold, sum_refutes}
 use Rattle.sync_kernel.proofs.Opposing.{same_refutes}
@@ -101,9 +101,13 @@ taken_is : (o : Option Two) (t : Two) → taken o ≡ Ok t → o ≡ Some t
 taken_is None t e = absurd (cc)
 taken_is (Some x) t e = cc
 
-instance_if : (f g : Formula) (b : Bool) → ◌≡◌ {A = Result Formula Rule} (if b then Ok f else Err K3) (Ok g) → f ≡ g
-instance_if f g true e = cc
-instance_if f g false e = absurd (cc)
+instance_if : (f g : Formula) (terms : List Tree) (b : Bool) → ◌≡◌ {A = Result Formula Rule} (if b then fitting_terms terms f else Err K3) (Ok g) → f ≡ g
+instance_if f g terms true e = by (all_fit terms) e
+  where
+    by : (a : Bool) → ◌≡◌ {A = Result Formula Rule} (if a then Ok f else Err K8) (Ok g) → f ≡ g
+    by true h = cc
+    by false h = absurd (cc)
+instance_if f g terms false e = absurd (cc)
 
 instance_found : (v : Valuation) (fs : List Fact) (hyp : HypName) (terms : List Tree) → FactsHold v fs → (form : Formula) → instance (newest hyp fs) terms ≡ Ok form → Holds v form
 instance_found v fs hyp terms h form e = by (newest hyp fs) refl e
@@ -111,7 +115,7 @@ instance_found v fs hyp terms h form e = by (newest hyp fs) refl e
     by : (o : Option Fact) → newest hyp fs ≡ o → instance o terms ≡ Ok form → Holds v form
     by None q r = absurd (cc)
     by (Some f) q r =
-        subst (λ (x : Formula). Holds v x) (instance_if (replaced_in (by_params f.params terms) f.form) form (nat_eq (length f.params) (length terms)) r)
+        subst (λ (x : Formula). Holds v x) (instance_if (replaced_in (by_params f.params terms) f.form) form terms (nat_eq (length f.params) (length terms)) r)
         (instance_holds v f.params terms f.form (named_holds v hyp fs h f q))
 
 -- ---- the steps

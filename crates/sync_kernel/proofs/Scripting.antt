@@ -15,6 +15,7 @@ use Rattle.sync_terms.specs.Stored.{Stored, IsTerm, IsForm, Extends}
 use Rattle.sync_terms.specs.Plans.{Plan, Then, End, Same, Sum, Inst, Parts, Split, Cut, Read, Size, Total, Cong, kind_plan, block_plan, step_plan, steps_before, plan_of, IsScriptOf}
 use Rattle.sync_terms.proofs.Extending.{Extends-trans}
 use Rattle.sync_kernel.specs.Scripts.{then_of, IsStepOf, after}
+use Rattle.sync_kernel.specs.Replaced.{plan_replaced}
 use Rattle.sync_kernel.proofs.Ids.{stays_term, stays_form, stay_terms}
 
 -- a kind of step, read in the store
@@ -81,19 +82,19 @@ with_rest (Cong line m j k name rest) r = Cong line m j k name r
 record IsThen (f : ℕ → Then) : Type 0 where
   rest : (line : ℕ) (r : Plan) → rest_of (f line r) ≡ r
   with : (line : ℕ) (r q : Plan) → with_rest (f line r) q ≡ f line q
-  behind : (line : ℕ) (r : Plan) → after (f line r) ≡ Some (record { line = line; rule = K9 })
+  behind : (subs : ℕ → Tree) (line : ℕ) (r : Plan) → after (plan_replaced subs (f line r)) ≡ Some (record { line = line; rule = K9 })
 
 kind_then : (s : Stored) (k : StepKind-F (ℕ → Then) Plan Then) → IsThen (kind_plan s k)
-kind_then s StepKind-F.Same = record { rest = λ l r. refl; with = λ l r q. refl; behind = λ l r. refl }
-kind_then s (StepKind-F.Sum parts) = record { rest = λ l r. refl; with = λ l r q. refl; behind = λ l r. refl }
-kind_then s (StepKind-F.Inst hyp terms name) = record { rest = λ l r. refl; with = λ l r q. refl; behind = λ l r. refl }
-kind_then s (StepKind-F.Parts hyp left right) = record { rest = λ l r. refl; with = λ l r q. refl; behind = λ l r. refl }
-kind_then s (StepKind-F.Split hyp name one two) = record { rest = λ l r. refl; with = λ l r q. refl; behind = λ l r. refl }
-kind_then s (StepKind-F.Cut form name block) = record { rest = λ l r. refl; with = λ l r q. refl; behind = λ l r. refl }
-kind_then s (StepKind-F.Read m k name) = record { rest = λ l r. refl; with = λ l r q. refl; behind = λ l r. refl }
-kind_then s (StepKind-F.Size m k name) = record { rest = λ l r. refl; with = λ l r q. refl; behind = λ l r. refl }
-kind_then s (StepKind-F.Total m k name) = record { rest = λ l r. refl; with = λ l r q. refl; behind = λ l r. refl }
-kind_then s (StepKind-F.Cong m j k name) = record { rest = λ l r. refl; with = λ l r q. refl; behind = λ l r. refl }
+kind_then s StepKind-F.Same = record { rest = λ l r. refl; with = λ l r q. refl; behind = λ g l r. refl }
+kind_then s (StepKind-F.Sum parts) = record { rest = λ l r. refl; with = λ l r q. refl; behind = λ g l r. refl }
+kind_then s (StepKind-F.Inst hyp terms name) = record { rest = λ l r. refl; with = λ l r q. refl; behind = λ g l r. refl }
+kind_then s (StepKind-F.Parts hyp left right) = record { rest = λ l r. refl; with = λ l r q. refl; behind = λ g l r. refl }
+kind_then s (StepKind-F.Split hyp name one two) = record { rest = λ l r. refl; with = λ l r q. refl; behind = λ g l r. refl }
+kind_then s (StepKind-F.Cut form name block) = record { rest = λ l r. refl; with = λ l r q. refl; behind = λ g l r. refl }
+kind_then s (StepKind-F.Read m k name) = record { rest = λ l r. refl; with = λ l r q. refl; behind = λ g l r. refl }
+kind_then s (StepKind-F.Size m k name) = record { rest = λ l r. refl; with = λ l r q. refl; behind = λ g l r. refl }
+kind_then s (StepKind-F.Total m k name) = record { rest = λ l r. refl; with = λ l r q. refl; behind = λ g l r. refl }
+kind_then s (StepKind-F.Cong m j k name) = record { rest = λ l r. refl; with = λ l r q. refl; behind = λ g l r. refl }
 
 then_rest : (s : Stored) (x : ScriptStep) (r : Plan) → rest_of (then_of s x r) ≡ r
 then_rest s x r = ap rest_of (then_reads s x r) ∙ (kind_then s (read_in s (kind_of x))).rest (line_of x) r
@@ -102,8 +103,8 @@ then_with : (s : Stored) (x : ScriptStep) (r q : Plan) → with_rest (then_of s 
 then_with s x r q = ap (λ (p : Plan). with_rest p q) (then_reads s x r) ∙ (kind_then s (read_in s (kind_of x))).with (line_of x) r q ∙ sym (then_reads s x q)
 
 -- a step stands where nothing may
-pub after_step : (s : Stored) (x : ScriptStep) (r : Plan) → after (then_of s x r) ≡ Some (record { line = line_of x; rule = K9 })
-after_step s x r = ap after (then_reads s x r) ∙ (kind_then s (read_in s (kind_of x))).behind (line_of x) r
+pub after_step : (subs : ℕ → Tree) (s : Stored) (x : ScriptStep) (r : Plan) → after (plan_replaced subs (then_of s x r)) ≡ Some (record { line = line_of x; rule = K9 })
+after_step subs s x r = ap (λ (p : Plan). after (plan_replaced subs p)) (then_reads s x r) ∙ (kind_then s (read_in s (kind_of x))).behind subs (line_of x) r
 
 -- ---- that a script's ids are of the store
 

@@ -3,6 +3,8 @@ pub mod Steps
 pub mod Taking
 pub mod Pairs
 pub mod Scripts
+pub mod Replaced
+pub mod Readings
 pub mod Shapes
 pub mod Holding
 pub mod Opposed

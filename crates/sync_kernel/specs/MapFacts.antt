@@ -1,15 +1,17 @@
--- What a step says of a map, as a formula of a store.
-use Rattle.sync_terms.specs.Stored.{Stored, tree, IsTerm}
-use Rattle.sync_terms.specs.Trees.{Formula}
+-- What a step says of a map, as a formula.
+use Rattle.sync_terms.specs.declared.nodes.TermId.{TermId}
+use Rattle.sync_terms.specs.Stored.{Stored, IsTerm}
+use Rattle.sync_terms.specs.Trees.{Tree, Formula}
 use Rattle.sync_kernel_facts.specs.Lemmas.{cong_fact, read_fact, size_fact, total_fact}
 use Rattle.sync_kernel.specs.declared.steps.MapFact.{MapFact}
 use Rattle.sync_kernel.specs.declared.steps.MapFact.TheVariants.{Read, Size, Total, Cong}
 
-abbrev pub map_form : Stored → MapFact → Formula
-map_form s (Read map key) = read_fact (tree s map) (tree s key)
-map_form s (Size map key) = size_fact (tree s map) (tree s key)
-map_form s (Total map key) = total_fact (tree s map) (tree s key)
-map_form s (Cong map left right) = cong_fact (tree s map) (tree s left) (tree s right)
+-- what is said, its ids being these trees
+abbrev pub map_form : (TermId → Tree) → MapFact → Formula
+map_form t (Read map key) = read_fact (t map) (t key)
+map_form t (Size map key) = size_fact (t map) (t key)
+map_form t (Total map key) = total_fact (t map) (t key)
+map_form t (Cong map left right) = cong_fact (t map) (t left) (t right)
 
 -- its terms are of the store
 abbrev pub HasMapIds : Stored → MapFact → Type 0

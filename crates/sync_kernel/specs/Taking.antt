@@ -1,8 +1,9 @@
 -- What `parts`, `split` and `inst` take from a fact.
-use Rattle.std.specs.Prelude.{ℕ, nat_eq, List, [], ◌∷◌, length, Option, Some, None, Result, Ok, Err, if◌then◌else◌}
+use Rattle.std.specs.Prelude.{ℕ, Bool, not, nat_eq, nat_lt, List, [], ◌∷◌, length, Option, Some, None, Result, Ok, Err, if◌then◌else◌}
+use Rattle.std.specs.List.{list_all}
 use Rattle.sync_base.specs.declared.stops.Rule.{Rule}
-use Rattle.sync_base.specs.declared.stops.Rule.TheVariants.{K1, K2, K3}
-use Rattle.sync_terms.specs.Trees.{Tree, Name, Formula, Le, Lt, Eq, Not, And, Or, Imp, neg, replaced_in}
+use Rattle.sync_base.specs.declared.stops.Rule.TheVariants.{K1, K2, K3, K8}
+use Rattle.sync_terms.specs.Trees.{Tree, Name, Formula, Le, Lt, Eq, Not, And, Or, Imp, most_nodes, tree_size, neg, replaced_in}
 use Rattle.sync_kernel_facts.specs.Facts.{Fact, is_plain}
 
 pub record Two : Type 0 where
@@ -66,7 +67,17 @@ by_params (p ∷ ps) (t ∷ ts) x = if nat_eq p x then t else by_params ps ts x
 by_params (p ∷ ps) [] x = Name x
 by_params [] ts x = Name x
 
+-- no term has more than so many nodes
+abbrev pub all_fit : List Tree → Bool
+all_fit terms = list_all (λ (t : Tree). not (nat_lt most_nodes (tree_size t))) terms
+
+-- terms that all fit, in a formula; also a term that is not used has to fit
+abbrev pub fitting_terms : List Tree → Formula → Result Formula Rule
+fitting_terms terms form = if all_fit terms then Ok form else Err K8
+
 -- the fact of a name, with a term for each parameter
 abbrev pub instance : Option Fact → List Tree → Result Formula Rule
 instance None terms = Err K1
-instance (Some f) terms = if nat_eq (length f.params) (length terms) then Ok (replaced_in (by_params f.params terms) f.form) else Err K3
+instance (Some f) terms =
+    if nat_eq (length f.params) (length terms) then fitting_terms terms (replaced_in (by_params f.params terms) f.form)
+    else Err K3

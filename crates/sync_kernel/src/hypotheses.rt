@@ -1,5 +1,5 @@
 //! Hypotheses that are ready for the proofs of many claims.
-ghost use Rattle.std.specs.Prelude.{◌≡◌, ◌+◌, ◌++◌, ◌∷◌, [], not, nat_lt, OnOk, OnErr};
+ghost use Rattle.std.specs.Prelude.{◌≡◌, ◌+◌, ◌++◌, ◌∷◌, [], length, take, not, nat_lt, OnOk, OnErr};
 ghost use Rattle.sync_terms.specs.Trees.{most_nodes};
 ghost use Rattle.sync_terms.specs.Stored.{Stored, IsForm};
 ghost use Rattle.sync_kernel_facts.specs.Facts.{fact_of, facts_size};
@@ -42,6 +42,22 @@ impl Hypotheses {
         self.branch
             .push(Said::new(terms, hyp.name, hyp.params, says))?;
         Ok(())
+    }
+
+    /// The number of hypotheses.
+    pub fn len(&self) -> usize
+        ensures { (s : Stored) → result ≡ length (known_in s self.now) }
+    {
+        self.branch.len()
+    }
+
+    /// Leaves the oldest hypotheses, so many, and takes the newer ones back.
+    pub fn cut_back(&mut self, len: usize)
+        ensures ready { (s : Stored) → AreReady s self.old → AreReady s self.new }
+        ensures known { (s : Stored) → known_in s self.new ≡ take len (known_in s self.old) }
+    {
+        self.branch.cut_back(len);
+        self.notes.cut_back(len);
     }
 
     /// Whether their formulas have at most `MOST_NODES` nodes together with so many more.

@@ -6,6 +6,7 @@ mod hypotheses;
 mod lines;
 mod notes;
 mod provers;
+mod readings;
 mod rows;
 mod sames;
 mod seen;
@@ -15,6 +16,6 @@ mod stops;
 mod sums;
 
 pub use hypotheses::Hypotheses;
-pub use provers::{prove, prove_from};
+pub use provers::{prove, prove_by_names, prove_from};
 pub use sync_kernel_facts::{Hyp, Sequent};
 pub use sync_terms::{Block, HypName, Part, Script, ScriptStep, StepKind};

@@ -1,10 +1,12 @@
 //! The steps of a script: what each takes from the facts of its branch, and the facts that it adds.
-ghost use Rattle.std.specs.Prelude.{◌≡◌, ℕ, All, Ok, OnOk, IfOk, map, length, zip};
-ghost use Rattle.sync_terms.specs.Stored.{Stored, Extends, IsTerm, IsForm, tree, formula};
+ghost use Rattle.std.specs.Prelude.{◌≡◌, ℕ, All, Ok, OnOk, IfOk};
+ghost use Rattle.sync_terms.specs.Stored.{Stored, Extends, IsTerm, IsForm};
 ghost use Rattle.sync_terms.specs.Trees.{Formula};
 ghost use Rattle.sync_terms.specs.Building.{BuildsForm};
 ghost use Rattle.sync_kernel_facts.specs.Facts.{newest, named};
 ghost use Rattle.sync_kernel_facts.specs.Literals.{literal_form, IsLiteral};
+ghost use Rattle.sync_typing_reading.specs.Sayings.{AreSaidOf};
+ghost use Rattle.sync_kernel.specs.Readings.{form_read, tree_read, trees_read};
 ghost use Rattle.sync_kernel.specs.Pairs.{pair_forms, IsPair};
 ghost use Rattle.sync_kernel_facts.specs.Branches.{facts_in, said_fact, IsSaid, AreSaid, Begins};
 ghost use Rattle.sync_kernel.specs.Taking.{plain_fact, instance};
@@ -12,13 +14,15 @@ ghost use Rattle.sync_kernel.specs.Scripts.{fitting, both_fitting, with_fact, wi
 ghost use Rattle.sync_kernel.specs.MapFacts.{map_form, HasMapIds};
 ghost use Rattle.sync_kernel.specs.Holding.{Leaves, LeavesFacts, LeavesCases, Makes};
 
+use crate::readings::{paired, read_both, read_form, read_term};
 use crate::splits::{Pair, cases_of, parts_of};
 use crate::stops::{refusal, too_large};
 use sqlite_items::Items;
-use std::alloc::{AllocError, Global};
+use std::alloc::Global;
 use sync_base::{Rule, Stop};
 use sync_kernel_facts::{Branch, Literal, Said, cong_fact, read_fact, size_fact, total_fact};
-use sync_terms::{FormId, HypName, Sym, TermId, TermStop, Terms};
+use sync_terms::{FormId, HypName, TermId, TermStop, Terms};
+use sync_typing_ledgers::Ledger;
 
 /// Whether a step leaves its branch open, or has closed it.
 #[derive(Clone, Copy, PartialEq, Eq, Debug)]
@@ -80,20 +84,12 @@ fn add_built(
     }
 }
 
-/// Each parameter with the term at its place.
-fn paired(alloc: Global, params: &[Sym], list: &[TermId]) -> Result<Vec<(Sym, TermId)>, AllocError>
-    requires { length params.now ≡ length list.now }
-    ensures { IfOk result (λ v. v.items ≡ zip params.now list.now) }
-{
-    let terms = list.iter().copied();
-    params.iter().copied().zip(terms).collect(alloc)
-}
-
 /// The newest fact of a name, with terms for its parameters: K1 where there is none, K3 where it has another number of
-/// parameters, K8 where it is too large.
+/// parameters, K8 where a term or the instance is too large.
 fn instance(
     alloc: Global,
     terms: &mut Terms,
+    names: &Ledger,
     branch: &Branch,
     hyp: HypName,
     list: &[TermId],
@@ -101,7 +97,9 @@ fn instance(
 ) -> Result<Literal, Stop>
     requires branch { AreSaid terms.old branch.now }
     requires list { All (IsTerm terms.old) list.now }
-    ensures makes { Makes terms.new line result (instance (newest hyp (facts_in terms.old branch.now)) (map (tree terms.old) list.now)) }
+    requires said { AreSaidOf terms.old names.now }
+    ensures makes { Makes terms.new line result
+        (instance (newest hyp (facts_in terms.old branch.now)) (trees_read terms.old names.now list.now)) }
     ensures keeps { Extends terms.old terms.new }
 {
     let Some(said) = branch.find(hyp) else {
@@ -111,7 +109,10 @@ fn instance(
     if params.len() != list.len() {
         return Err(refusal(line, Rule::K3));
     }
-    let pairs = paired(alloc, params, list)?;
+    let pairs = match paired(alloc, terms, names, params, list) {
+        Ok(pairs) => pairs,
+        Err(stop) => return Err(too_large(stop, line)),
+    };
     match terms.subst(said.says.form, pairs.as_slice()) {
         Ok(form) => Ok(Literal {
             form,
@@ -125,6 +126,7 @@ fn instance(
 pub(crate) fn inst(
     alloc: Global,
     terms: &mut Terms,
+    names: &Ledger,
     branch: &mut Branch,
     hyp: HypName,
     list: &[TermId],
@@ -133,12 +135,14 @@ pub(crate) fn inst(
 ) -> Result<(), Stop>
     requires branch { AreSaid terms.old branch.old }
     requires list { All (IsTerm terms.old) list.now }
-    ensures leaves { LeavesFacts line result terms.new branch.new (with_instance (facts_in terms.old branch.old) hyp (map (tree terms.old) list.now) name) }
+    requires said { AreSaidOf terms.old names.now }
+    ensures leaves { LeavesFacts line result terms.new branch.new
+        (with_instance (facts_in terms.old branch.old) hyp (trees_read terms.old names.now list.now) name) }
     ensures said { OnOk result (AreSaid terms.new branch.new) }
     ensures begins { OnOk result (Begins branch.old branch.new) }
     ensures keeps { Extends terms.old terms.new }
 {
-    let says = instance(alloc, terms, branch, hyp, list, line)?;
+    let says = instance(alloc, terms, names, branch, hyp, list, line)?;
     add(alloc, terms, branch, name, says, line)
 }
 
@@ -212,17 +216,31 @@ pub(crate) fn split(
 }
 
 /// `cut`: the negation of a formula, for the block, and the formula, for what goes on.
-pub(crate) fn cut(terms: &Terms, branch: &Branch, form: FormId, line: u32) -> Result<Pair, Stop>
-    requires branch { AreSaid terms.now branch.now }
-    requires form { IsForm terms.now form }
-    ensures leaves { (name : ℕ) → LeavesCases line result terms.now (facts_in terms.now branch.now) name (with_cut (facts_in terms.now branch.now) (formula terms.now form) name) }
-    ensures stored { IfOk result (IsPair terms.now) }
+pub(crate) fn cut(
+    terms: &mut Terms,
+    names: &Ledger,
+    branch: &Branch,
+    form: FormId,
+    line: u32,
+) -> Result<Pair, Stop>
+    requires branch { AreSaid terms.old branch.now }
+    requires form { IsForm terms.old form }
+    requires said { AreSaidOf terms.old names.now }
+    ensures leaves { (name : ℕ) → LeavesCases line result terms.new (facts_in terms.old branch.now) name
+        (with_cut (facts_in terms.old branch.now) (form_read terms.old names.now form) name) }
+    ensures stored { IfOk result (IsPair terms.new) }
+    ensures keeps { Extends terms.old terms.new }
 {
-    let pair = Pair {
-        left: Literal::denial(terms, form),
-        right: Literal::plain(form),
-    };
-    both(terms, branch, pair, line)
+    match read_form(terms, names, form) {
+        Ok(read) => {
+            let pair = Pair {
+                left: Literal::denial(terms, read),
+                right: Literal::plain(read),
+            };
+            both(terms, branch, pair, line)
+        }
+        Err(stop) => Err(too_large(stop, line)),
+    }
 }
 
 /// What a step says of a map: at a key, or at two keys.
@@ -234,17 +252,31 @@ pub(crate) enum MapFact {
     Cong(TermId, TermId, TermId),
 }
 
-/// The formula of what is said.
-fn built(terms: &mut Terms, fact: MapFact) -> Result<FormId, TermStop>
-    requires { HasMapIds terms.old fact }
-    ensures built { BuildsForm terms.new (map_form terms.old fact) result }
+/// The formula of what is said, its terms as the names say.
+fn built(terms: &mut Terms, names: &Ledger, fact: MapFact) -> Result<FormId, TermStop>
+    requires fact { HasMapIds terms.old fact }
+    requires said { AreSaidOf terms.old names.now }
+    ensures built { BuildsForm terms.new (map_form (tree_read terms.old names.now) fact) result }
     ensures keeps { Extends terms.old terms.new }
 {
     match fact {
-        MapFact::Read(map, key) => read_fact(terms, map, key),
-        MapFact::Size(map, key) => size_fact(terms, map, key),
-        MapFact::Total(map, key) => total_fact(terms, map, key),
-        MapFact::Cong(map, left, right) => cong_fact(terms, map, left, right),
+        MapFact::Read(map, key) => {
+            let at = read_both(terms, names, map, key)?;
+            read_fact(terms, at.0, at.1)
+        }
+        MapFact::Size(map, key) => {
+            let at = read_both(terms, names, map, key)?;
+            size_fact(terms, at.0, at.1)
+        }
+        MapFact::Total(map, key) => {
+            let at = read_both(terms, names, map, key)?;
+            total_fact(terms, at.0, at.1)
+        }
+        MapFact::Cong(map, left, right) => {
+            let at = read_term(terms, names, map)?;
+            let keys = read_both(terms, names, left, right)?;
+            cong_fact(terms, at, keys.0, keys.1)
+        }
     }
 }
 
@@ -252,6 +284,7 @@ fn built(terms: &mut Terms, fact: MapFact) -> Result<FormId, TermStop>
 pub(crate) fn learn(
     alloc: Global,
     terms: &mut Terms,
+    names: &Ledger,
     branch: &mut Branch,
     fact: MapFact,
     name: u32,
@@ -259,11 +292,13 @@ pub(crate) fn learn(
 ) -> Result<(), Stop>
     requires branch { AreSaid terms.old branch.old }
     requires fact { HasMapIds terms.old fact }
-    ensures leaves { LeavesFacts line result terms.new branch.new (fitting (with_fact (facts_in terms.old branch.old) name (map_form terms.old fact))) }
+    requires said { AreSaidOf terms.old names.now }
+    ensures leaves { LeavesFacts line result terms.new branch.new
+        (fitting (with_fact (facts_in terms.old branch.old) name (map_form (tree_read terms.old names.now) fact))) }
     ensures said { OnOk result (AreSaid terms.new branch.new) }
     ensures begins { OnOk result (Begins branch.old branch.new) }
     ensures keeps { Extends terms.old terms.new }
 {
-    let form = built(terms, fact);
+    let form = built(terms, names, fact);
     add_built(alloc, terms, branch, form, name, line)
 }

@@ -21,7 +21,7 @@ use Rattle.sync_thread.specs.Views.{Then, TailThen, index_tree, scripts_tree, do
 use Rattle.sync_read_programs.specs.declared.scopes.Purpose.TheVariants as purpose
 use Rattle.sync_read_programs.specs.declared.scopes.ProgramScope.{ProgramScope}
 use Rattle.sync_read_programs.specs.Scopes.{may_assign, assign_name, cell_in}
-use Rattle.sync_read_programs.specs.Operands.{operand_in, scripts_from, index_in}
+use Rattle.sync_read_programs.specs.Operands.{token_name, operand_in, scripts_from, index_in}
 use Rattle.sync_read_programs.specs.ProofStatements.{exchange_in}
 use Rattle.sync_read_programs.specs.Statements.{read_in, peek_in, write_in}
 use Rattle.sync_read_programs.specs.Parts.{kind_tree}
@@ -41,18 +41,19 @@ write_is t c i o p ss line =
     ap (λ k. kind_tree t k line) (sym (rolls-Write c i o p ss))
     ∙ ap (λ (f : ℕ → Then). f line) (fold-roll-StmtKind (ℕ → Then) TailThen (ℕ → Then) ListTree Then TailThen (kind_then t) (tail_then t) (atomic_then t) list_then stmt_then (when_then t) (StmtKind-F.Write c i o p ss))
 
-pub read_made : (s s1 s2 s3 : ProgramScope) (t : Stored) (x : RawName) (r : RawRead) (line n c : ℕ) (i : Idx) (ss : List Script)
+pub read_made : (s s1 s2 s3 : ProgramScope) (t : Stored) (x : RawName) (r : RawRead) (line n c p : ℕ) (i : Idx) (ss : List Script)
     → may_assign s x ≡ Ok n → cell_in s r.cell ≡ Ok c → index_in s r.index ≡ Ok (index_tree t i, s1)
-    → scripts_from [] s1 r.scripts ≡ Ok (scripts_tree t ss, s2) → assign_name s2 x ≡ Ok s3
-    → read_in x r line s ≡ Ok (kind_tree t (made.Read n c i r.permission.name ss) line, s3)
+    → scripts_from [] s1 r.scripts ≡ Ok (scripts_tree t ss, s2) → assign_name s2 x ≡ Ok s3 → p ≡ token_name r.permission
+    → read_in x r line s ≡ Ok (kind_tree t (made.Read n c i p ss) line, s3)
 unfolding read_in
-read_made s s1 s2 s3 t x r line n c i ss one two three four five =
-    ap (λ y. y >>= (λ n. cell_in s r.cell >>= (λ c. index_in s r.index >>= (λ i. scripts_from [] i.1 r.scripts >>= (λ ss. assign_name ss.1 x >>= (λ s2. Ok (On (tree.Read n c i.0 r.permission.name ss.0) line, s2))))))) one
-    ∙ ap (λ y. y >>= (λ c. index_in s r.index >>= (λ i. scripts_from [] i.1 r.scripts >>= (λ ss. assign_name ss.1 x >>= (λ s2. Ok (On (tree.Read n c i.0 r.permission.name ss.0) line, s2)))))) two
-    ∙ ap (λ y. y >>= (λ i. scripts_from [] i.1 r.scripts >>= (λ ss. assign_name ss.1 x >>= (λ s2. Ok (On (tree.Read n c i.0 r.permission.name ss.0) line, s2))))) three
-    ∙ ap (λ y. y >>= (λ ss. assign_name ss.1 x >>= (λ s2. Ok (On (tree.Read n c (index_tree t i) r.permission.name ss.0) line, s2)))) four
-    ∙ ap (λ y. y >>= (λ s2. Ok (On (tree.Read n c (index_tree t i) r.permission.name (scripts_tree t ss)) line, s2))) five
-    ∙ ap (λ f. Ok (f, s3)) (sym (read_is t n c i r.permission.name ss line))
+read_made s s1 s2 s3 t x r line n c p i ss one two three four five six =
+    ap (λ y. y >>= (λ n. cell_in s r.cell >>= (λ c. index_in s r.index >>= (λ i. scripts_from [] i.1 r.scripts >>= (λ ss. assign_name ss.1 x >>= (λ s2. Ok (On (tree.Read n c i.0 (token_name r.permission) ss.0) line, s2))))))) one
+    ∙ ap (λ y. y >>= (λ c. index_in s r.index >>= (λ i. scripts_from [] i.1 r.scripts >>= (λ ss. assign_name ss.1 x >>= (λ s2. Ok (On (tree.Read n c i.0 (token_name r.permission) ss.0) line, s2)))))) two
+    ∙ ap (λ y. y >>= (λ i. scripts_from [] i.1 r.scripts >>= (λ ss. assign_name ss.1 x >>= (λ s2. Ok (On (tree.Read n c i.0 (token_name r.permission) ss.0) line, s2))))) three
+    ∙ ap (λ y. y >>= (λ ss. assign_name ss.1 x >>= (λ s2. Ok (On (tree.Read n c (index_tree t i) (token_name r.permission) ss.0) line, s2)))) four
+    ∙ ap (λ y. y >>= (λ s2. Ok (On (tree.Read n c (index_tree t i) (token_name r.permission) (scripts_tree t ss)) line, s2))) five
+    ∙ ap (λ f. Ok (f, s3)) (sym (read_is t n c i (token_name r.permission) ss line))
+    ∙ ap (λ q. Ok (kind_tree t (made.Read n c i q ss) line, s3)) (sym six)
 
 pub peek_made : (s s1 s2 s3 : ProgramScope) (t : Stored) (x : RawName) (p : RawPeek) (line n c : ℕ) (i : Idx) (d : DoForm)
     → may_assign s x ≡ Ok n → cell_in s p.cell ≡ Ok c → index_in s p.index ≡ Ok (index_tree t i, s1)
@@ -67,14 +68,15 @@ peek_made s s1 s2 s3 t x p line n c i d one two three four five =
     ∙ ap (λ y. y >>= (λ s2. Ok (On (tree.Peek n c (index_tree t i) (do_tree t d)) line, s2))) five
     ∙ ap (λ f. Ok (f, s3)) (sym (peek_is t n c i d line))
 
-pub write_made : (s s1 s2 : ProgramScope) (t : Stored) (w : RawWrite) (line c : ℕ) (i : Idx) (o : Opd) (ss : List Script)
+pub write_made : (s s1 s2 : ProgramScope) (t : Stored) (w : RawWrite) (line c p : ℕ) (i : Idx) (o : Opd) (ss : List Script)
     → cell_in s w.cell ≡ Ok c → index_in s w.index ≡ Ok (index_tree t i, s1) → operand_in s1 w.operand ≡ Ok o
-    → scripts_from [] s1 w.scripts ≡ Ok (scripts_tree t ss, s2)
-    → write_in w line s ≡ Ok (kind_tree t (made.Write c i o w.permission.name ss) line, s2)
+    → scripts_from [] s1 w.scripts ≡ Ok (scripts_tree t ss, s2) → p ≡ token_name w.permission
+    → write_in w line s ≡ Ok (kind_tree t (made.Write c i o p ss) line, s2)
 unfolding write_in
-write_made s s1 s2 t w line c i o ss one two three four =
-    ap (λ y. y >>= (λ c. index_in s w.index >>= (λ i. operand_in i.1 w.operand >>= (λ o. scripts_from [] i.1 w.scripts >>= (λ ss. Ok (On (tree.Write c i.0 o w.permission.name ss.0) line, ss.1)))))) one
-    ∙ ap (λ y. y >>= (λ i. operand_in i.1 w.operand >>= (λ o. scripts_from [] i.1 w.scripts >>= (λ ss. Ok (On (tree.Write c i.0 o w.permission.name ss.0) line, ss.1))))) two
-    ∙ ap (λ y. y >>= (λ o. scripts_from [] s1 w.scripts >>= (λ ss. Ok (On (tree.Write c (index_tree t i) o w.permission.name ss.0) line, ss.1)))) three
-    ∙ ap (λ y. y >>= (λ ss. Ok (On (tree.Write c (index_tree t i) o w.permission.name ss.0) line, ss.1))) four
-    ∙ ap (λ f. Ok (f, s2)) (sym (write_is t c i o w.permission.name ss line))
+write_made s s1 s2 t w line c p i o ss one two three four five =
+    ap (λ y. y >>= (λ c. index_in s w.index >>= (λ i. operand_in i.1 w.operand >>= (λ o. scripts_from [] i.1 w.scripts >>= (λ ss. Ok (On (tree.Write c i.0 o (token_name w.permission) ss.0) line, ss.1)))))) one
+    ∙ ap (λ y. y >>= (λ i. operand_in i.1 w.operand >>= (λ o. scripts_from [] i.1 w.scripts >>= (λ ss. Ok (On (tree.Write c i.0 o (token_name w.permission) ss.0) line, ss.1))))) two
+    ∙ ap (λ y. y >>= (λ o. scripts_from [] s1 w.scripts >>= (λ ss. Ok (On (tree.Write c (index_tree t i) o (token_name w.permission) ss.0) line, ss.1)))) three
+    ∙ ap (λ y. y >>= (λ ss. Ok (On (tree.Write c (index_tree t i) o (token_name w.permission) ss.0) line, ss.1))) four
+    ∙ ap (λ f. Ok (f, s2)) (sym (write_is t c i o (token_name w.permission) ss line))
+    ∙ ap (λ q. Ok (kind_tree t (made.Write c i o q ss) line, s2)) (sym five)

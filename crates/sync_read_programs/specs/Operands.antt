@@ -22,7 +22,7 @@ use Rattle.sync_thread.specs.declared.operands.Cond.{Cond}
 use Rattle.sync_thread.specs.declared.operands.Calc.{Calc}
 use Rattle.sync_thread.specs.declared.operands.Calc.TheVariants as calc
 use Rattle.sync_thread.specs.Programs.{ScriptTree, IndexTree}
-use Rattle.sync_read_names.specs.Scopes.{refuse, is_assigned}
+use Rattle.sync_read_names.specs.Scopes.{refuse, number_in, is_assigned}
 use Rattle.sync_read.specs.Acts.{few_before}
 use Rattle.sync_read.specs.Scripts.{script_in}
 use Rattle.sync_read_programs.specs.declared.scopes.ProgramScope.{ProgramScope}
@@ -30,6 +30,13 @@ use Rattle.sync_read_programs.specs.declared.scopes.ProgramScope.{ProgramScope}
 -- a number that is a place; what is above 4,294,967,295 is kept as that
 abbrev pub place_of : ℕ → ℕ
 place_of n = min n 4294967295
+
+-- the number of the name of a token; a text has fewer names than bytes
+abbrev pub token_name : RawName → ℕ
+token_name n = number_in n.name
+
+abbrev pub token_name_if : Option RawName → Option ℕ
+token_name_if name = option_map token_name name
 
 abbrev pub label_of : Option RawName → Option ℕ
 label_of label = option_map (λ (n : RawName). n.name) label

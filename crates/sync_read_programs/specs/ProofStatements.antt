@@ -37,7 +37,7 @@ use Rattle.sync_read_programs.specs.declared.scopes.Purpose.{Purpose}
 use Rattle.sync_read_programs.specs.declared.scopes.Purpose.TheVariants as purpose
 use Rattle.sync_read_programs.specs.declared.scopes.ProgramScope.{ProgramScope}
 use Rattle.sync_read_programs.specs.Scopes.{as_many, may_call, may_prove, prove_name, standing_of, is_cell, word_in, thread_named, next_list, with_constants, with_atomic}
-use Rattle.sync_read_programs.specs.Operands.{place_of, label_of, scripts_from}
+use Rattle.sync_read_programs.specs.Operands.{place_of, token_name, token_name_if, label_of, scripts_from}
 use Rattle.sync_read_programs.specs.Keeps.{proof_names_from}
 
 -- ---- tokens and exchanges
@@ -46,10 +46,10 @@ use Rattle.sync_read_programs.specs.Keeps.{proof_names_from}
 abbrev pub token_in : ProgramScope → RawToken → Result Tok Refusal
 token_in s t = of t.at where
   of : Option ℕ → Result Tok Refusal
-  of None = Ok (record { name = t.name.name; at = None })
+  of None = Ok (record { name = token_name t.name; at = None })
   of (Some j) =
-      if s.starts && is_cell (standing_of s t.name.name).declared
-      then Ok (record { name = t.name.name; at = Some (place_of j) })
+      if s.starts && is_cell (standing_of s (token_name t.name)).declared
+      then Ok (record { name = token_name t.name; at = Some (place_of j) })
       else refuse N1 t.name.line
 
 unfoldable pub tokens_from : List Tok → ProgramScope → List RawToken → Result (List Tok) Refusal
@@ -94,7 +94,7 @@ exchange_with op args s d = do
       op = op;
       args = args;
       tokens = ts;
-      given = map (λ (n : RawName). n.name) d.given;
+      given = map token_name d.given;
       label = label_of d.label;
       scripts = ss.0;
       line = d.operation.line;
@@ -140,12 +140,12 @@ unfoldable pub split_in : ProgramScope → RawSplit → Result (ProofTree × Pro
 split_in s x = do
   t ← term_of sort.Number x.amount s.scope
   ss ← scripts_from [] s x.scripts
-  Ok (tree.Split x.token.name x.first.name x.second.name t ss.0, ss.1)
+  Ok (tree.Split (token_name x.token) (token_name x.first) (token_name x.second) t ss.0, ss.1)
 
 unfoldable pub move_in : ProgramScope → RawMove → Result ProofTree Refusal
 move_in s x = do
   t ← token_in s x.token
-  Ok (tree.Move t x.given.name)
+  Ok (tree.Move t (token_name x.given))
 
 unfoldable pub assert_in : ProgramScope → RawAssert → Result (ProofTree × ProgramScope) Refusal
 assert_in s x = do
@@ -159,8 +159,8 @@ plain_in s (plain.Do d) = do
   x ← exchange_in purpose.Do s d
   Ok (tree.Exchange x.0, x.1)
 plain_in s (plain.Split x) = split_in s x
-plain_in s (plain.Merge x) = Ok (tree.Merge x.first.name x.second.name x.given.name, s)
-plain_in s (plain.Copy x) = Ok (tree.Copy x.token.name x.given.name, s)
+plain_in s (plain.Merge x) = Ok (tree.Merge (token_name x.first) (token_name x.second) (token_name x.given), s)
+plain_in s (plain.Copy x) = Ok (tree.Copy (token_name x.token) (token_name x.given), s)
 plain_in s (plain.Move x) = do
   t ← move_in s x
   Ok (t, s)
@@ -176,12 +176,12 @@ unfoldable pub open_in : WordCounts → ℕ → ProgramScope → RawOpen → Res
 open_in w line s x = do
   n ← opens w x line
   ns ← proof_names_from false [] (next_list s) x.names
-  Ok (tree.Open ns.0 (map (λ (n : RawName). n.name) x.tokens) (label_of x.label), ns.1)
+  Ok (tree.Open ns.0 (map token_name x.tokens) (label_of x.label), ns.1)
 
 unfoldable pub case_in : ProgramScope → RawCase → Result (ProofTree × ProgramScope) Refusal
 case_in s x = do
   ss ← scripts_from [] s x.scripts
-  Ok (tree.Case (record { clause = place_of x.clause; taken = label_of x.yes; scripts = ss.0 }), ss.1)
+  Ok (tree.Case (record { clause = place_of x.clause; taken = token_name_if x.yes; scripts = ss.0 }), ss.1)
 
 unfoldable pub close_in : WordCounts → ℕ → ProgramScope → RawClosing → Result (ProofTree × ProgramScope) Refusal
 close_in w line s c = do

@@ -1,5 +1,5 @@
 -- What the names of a program stand for at a place, and how they come to stand for it.
-use Rattle.std.specs.Prelude.{ℕ, ◌+◌, ◌-◌, ◌^◌, ◌==◌, nat_eq, min, Bool, true, false, ◌||◌, List, [], ◌∷◌, length, map, count_by, replicate, slice_get, slice_set, Option, Some, None, Result, Ok, if◌then◌else◌}
+use Rattle.std.specs.Prelude.{ℕ, ◌+◌, ◌-◌, ◌^◌, ◌==◌, nat_eq, nat_lt, min, Bool, true, false, ◌||◌, List, [], ◌∷◌, length, map, count_by, replicate, slice_get, slice_set, Option, Some, None, Result, Ok, if◌then◌else◌}
 use Rattle.sync_base.specs.declared.stops.Refusal.{Refusal}
 use Rattle.sync_base.specs.declared.stops.Rule.TheVariants.{N1, N2, N3}
 use Rattle.sync_base.specs.declared.strategies.Strategy.{Strategy}
@@ -238,9 +238,13 @@ is_undeclared declared.Nothing = true
 is_undeclared (declared.Word c) = false
 is_undeclared declared.Cell = false
 
+-- the name is one of the text, or it is unknown
+abbrev pub if_there : ProgramScope → RawName → Result ProgramScope Refusal → Result ProgramScope Refusal
+if_there s n rest = if nat_lt n.name (length s.standings) then rest else refuse N1 n.line
+
 -- a word or cell of a new name
 abbrev pub declare_name : Declared → ProgramScope → RawName → Result ProgramScope Refusal
-declare_name d s n = if is_undeclared (standing_of s n.name).declared then Ok (with_standing s n.name (record (standing_of s n.name) { declared = d })) else refuse N2 n.line
+declare_name d s n = if_there s n (if is_undeclared (standing_of s n.name).declared then Ok (with_standing s n.name (record (standing_of s n.name) { declared = d })) else refuse N2 n.line)
 
 abbrev pub counts_of : Declared → ℕ → Result WordCounts Refusal
 counts_of (declared.Word c) line = Ok c
@@ -290,7 +294,7 @@ next_list s = record s { lists = min (s.lists + 1) (2 ^ 32 - 1) }
 
 -- a name stands in a list once
 abbrev pub list_name : ProgramScope → RawName → Result ProgramScope Refusal
-list_name s n = if (standing_of s n.name).listed == s.lists then refuse N2 n.line else Ok (with_standing s n.name (record (standing_of s n.name) { listed = s.lists }))
+list_name s n = if_there s n (if (standing_of s n.name).listed == s.lists then refuse N2 n.line else Ok (with_standing s n.name (record (standing_of s n.name) { listed = s.lists })))
 
 -- a token name of a keep that a thread ends with, which no other such keep has
 abbrev pub end_token : ProgramScope → RawName → Result ProgramScope Refusal

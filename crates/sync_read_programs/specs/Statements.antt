@@ -36,7 +36,7 @@ use Rattle.sync_read_programs.specs.declared.scopes.Purpose.TheVariants as purpo
 use Rattle.sync_read_programs.specs.declared.scopes.Aims.{Aims}
 use Rattle.sync_read_programs.specs.declared.scopes.ProgramScope.{ProgramScope}
 use Rattle.sync_read_programs.specs.Scopes.{as_many_if, may_assign, assign_name, word_in, cell_in, with_wrap, knows_wrap}
-use Rattle.sync_read_programs.specs.Operands.{label_of, operand_in, two_operands, condition_in, calculation_in, scripts_from, index_in}
+use Rattle.sync_read_programs.specs.Operands.{token_name, label_of, operand_in, two_operands, condition_in, calculation_in, scripts_from, index_in}
 use Rattle.sync_read_programs.specs.Keeps.{keep_in, keep_if}
 use Rattle.sync_read_programs.specs.ProofStatements.{exchange_in, plain_in, proof_block}
 
@@ -116,7 +116,7 @@ read_in x r line s = do
   i ← index_in s r.index
   ss ← scripts_from [] i.1 r.scripts
   s2 ← assign_name ss.1 x
-  Ok (On (tree.Read n c i.0 r.permission.name ss.0) line, s2)
+  Ok (On (tree.Read n c i.0 (token_name r.permission) ss.0) line, s2)
 
 unfoldable pub peek_in : RawName → RawPeek → ℕ → ProgramScope → Result (Then × ProgramScope) Refusal
 peek_in x p line s = do
@@ -133,7 +133,7 @@ write_in w line s = do
   i ← index_in s w.index
   o ← operand_in i.1 w.operand
   ss ← scripts_from [] i.1 w.scripts
-  Ok (On (tree.Write c i.0 o w.permission.name ss.0) line, ss.1)
+  Ok (On (tree.Write c i.0 o (token_name w.permission) ss.0) line, ss.1)
 
 unfoldable pub print_in : RawName → RawOperand → ℕ → ProgramScope → Result (Then × ProgramScope) Refusal
 print_in label o line s = do

@@ -3,12 +3,12 @@ ghost use Rattle.std.specs.Prelude.{◌≡◌, []};
 ghost use Rattle.sync_base.specs.Outcome.{Gives};
 ghost use Rattle.sync_terms.specs.Stored.{Stored, Extends};
 ghost use Rattle.sync_thread.specs.Views.{script_tree, scripts_tree, index_tree};
-ghost use Rattle.sync_read_programs.specs.Operands.{place_of, label_of, word_number, divisor, local_in, operand_in, two_operands, operand_and_divisor, relation_of, condition_in, calculation_in, one_script, scripts_from, index_in};
+ghost use Rattle.sync_read_programs.specs.Operands.{place_of, token_name, token_name_if, label_of, word_number, divisor, local_in, operand_in, two_operands, operand_and_divisor, relation_of, condition_in, calculation_in, one_script, scripts_from, index_in};
 
 use crate::scopes::ProgramScope;
 use sqlite_items::Items;
 use std::alloc::Global;
-use sync_base::{Rule, Stop};
+use sync_base::{LONGEST_TEXT, Rule, Stop};
 use sync_parse::RawScript;
 use sync_parse_exprs::RawName;
 use sync_parse_programs::{
@@ -24,6 +24,23 @@ pub(crate) fn place_of(number: u128) -> u32
     ensures { result ≡ place_of number }
 {
     number.min(u32::MAX as u128) as u32
+}
+
+/// The number of the name of a token; a text has fewer names than bytes.
+pub(crate) fn token_name(named: RawName) -> u32
+    ensures { result ≡ token_name named }
+{
+    named.name.min(LONGEST_TEXT as u32 - 1)
+}
+
+/// The same, where there is a name.
+pub(crate) fn token_name_if(named: Option<RawName>) -> Option<u32>
+    ensures { result ≡ token_name_if named }
+{
+    match named {
+        Some(named) => Some(token_name(named)),
+        None => None,
+    }
 }
 
 /// The name of a label.

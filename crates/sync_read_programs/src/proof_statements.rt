@@ -2,13 +2,13 @@
 ghost use Rattle.std.specs.Prelude.{◌≡◌, [], map, IfOk};
 ghost use Rattle.sync_base.specs.Outcome.{Gives};
 ghost use Rattle.sync_terms.specs.Stored.{Stored, tree, Extends};
-ghost use Rattle.sync_parse_exprs.specs.declared.raw_names.RawName.{RawName};
 ghost use Rattle.sync_read.specs.Scripts.{numbers_from};
 ghost use Rattle.sync_thread.specs.Views.{do_tree, closing_tree, case_tree, proof_tree, proof_step_tree, proof_steps_tree};
+ghost use Rattle.sync_read_programs.specs.Operands.{token_name};
 ghost use Rattle.sync_read_programs.specs.ProofStatements.{token_in, tokens_from, token_or_no, tokens_or_no_from, has_counts, call_with, called, exchange_with, exchange_in, start_exchange, closing_in, closes, let_in, split_in, move_in, assert_in, plain_in, opens, open_in, case_in, close_in, proof_in, proof_step, proof_steps_from, proof_block, seal_in, give_in, start_kind, start_step, start_steps_from};
 
 use crate::keeps::proof_names;
-use crate::operands::{label_of, place_of, scripts};
+use crate::operands::{label_of, place_of, scripts, token_name, token_name_if};
 use crate::scopes::{ProgramScope, Purpose, WordCounts, as_many, may_call};
 use sqlite_items::{Items, at};
 use std::alloc::{AllocError, Global};
@@ -30,7 +30,7 @@ use sync_thread::{CaseForm, Closing, DoForm, ProofKind, ProofStmt, Tok};
 fn token(scope: &ProgramScope, raw: RawToken) -> Result<Tok, Stop>
     ensures { Gives (λ x. x) result (token_in scope.now raw) }
 {
-    let name = raw.name.name;
+    let name = token_name(raw.name);
     match raw.at {
         None => Ok(Tok { name, at: None }),
         Some(number) => {
@@ -83,13 +83,13 @@ fn tokens_or_no(
     Ok(held)
 }
 
-/// The numbers of names.
+/// The numbers of names of tokens.
 fn names_of(alloc: Global, raw: &[RawName]) -> Result<Items<u32>, AllocError>
-    ensures { IfOk result (λ ns. ns ≡ map (λ (n : RawName). n.name) raw.now) }
+    ensures { IfOk result (λ ns. ns ≡ map token_name raw.now) }
 {
     let mut held = Items::new(alloc);
     for named in raw {
-        held.push(named.name)?;
+        held.push(token_name(*named))?;
     }
     Ok(held)
 }
@@ -236,9 +236,9 @@ fn split(
     let amount = term_of(terms, &scope.scope, &raw.amount, Sort::Number)?;
     let scripts = scripts(alloc, terms, scope, raw.scripts.as_slice())?;
     Ok(ProofKind::Split(
-        raw.token.name,
-        raw.first.name,
-        raw.second.name,
+        token_name(raw.token),
+        token_name(raw.first),
+        token_name(raw.second),
         amount,
         scripts,
     ))
@@ -249,7 +249,7 @@ fn move_kind(scope: &ProgramScope, raw: RawMove) -> Result<ProofKind, Stop>
     ensures { (t : Stored) → Gives (proof_tree t) result (move_in scope.now raw) }
 {
     let moved = token(scope, raw.token)?;
-    Ok(ProofKind::Move(moved, raw.given.name))
+    Ok(ProofKind::Move(moved, token_name(raw.given)))
 }
 
 #[tactic(auto, using(sync_read_names::proofs::Kept::kept_formula, sync_read_names::proofs::Kept::along, sync_read_names::proofs::Kept::stays), unfolding(crate::specs::ProofStatements::assert_in))]
@@ -284,8 +284,12 @@ pub(crate) fn plain(
             Ok(ProofKind::Do(made))
         }
         RawPlainProof::Split(x) => split(alloc, terms, scope, x),
-        RawPlainProof::Merge(x) => Ok(ProofKind::Merge(x.first.name, x.second.name, x.given.name)),
-        RawPlainProof::Copy(x) => Ok(ProofKind::Copy(x.token.name, x.given.name)),
+        RawPlainProof::Merge(x) => Ok(ProofKind::Merge(
+            token_name(x.first),
+            token_name(x.second),
+            token_name(x.given),
+        )),
+        RawPlainProof::Copy(x) => { Ok(ProofKind::Copy(token_name(x.token), token_name(x.given))) }
         RawPlainProof::Move(x) => move_kind(scope, *x),
         RawPlainProof::Assert(x) => assertion(alloc, terms, scope, x),
     }
@@ -334,7 +338,7 @@ fn case(
     let scripts = scripts(alloc, terms, scope, raw.scripts.as_slice())?;
     Ok(ProofKind::Case(CaseForm {
         clause: place_of(raw.clause),
-        yes: label_of(raw.yes),
+        yes: token_name_if(raw.yes),
         scripts,
     }))
 }

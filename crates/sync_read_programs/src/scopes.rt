@@ -567,6 +567,9 @@ impl ProgramScope {
     pub(crate) fn declare_name(&mut self, declared: Declared, named: RawName) -> Result<(), Stop>
         ensures { Gives (λ _. self.new) result (declare_name declared self.old named) }
     {
+        if named.name as usize >= self.standings.len() {
+            return Err(refused(Rule::N1, named.line));
+        }
         let mut standing = self.standing(named.name);
         match standing.declared {
             Declared::Nothing => {
@@ -655,6 +658,9 @@ impl ProgramScope {
     pub(crate) fn list_name(&mut self, named: RawName) -> Result<(), Stop>
         ensures { Gives (λ _. self.new) result (list_name self.old named) }
     {
+        if named.name as usize >= self.standings.len() {
+            return Err(refused(Rule::N1, named.line));
+        }
         let mut standing = self.standing(named.name);
         if standing.listed == self.lists {
             return Err(refused(Rule::N2, named.line));

@@ -7,7 +7,9 @@ ghost use Rattle.sync_read_programs.specs.Statements.{load_in, change_in, cas_in
 ghost use Rattle.sync_read_programs.specs.Parts.{kind_of, right_of, tail_of, if_of, loop_of, when_of, kind_tree, tail_tree, when_tree, word_operation_tree, change_op};
 
 use crate::keeps::{keep, keep_if};
-use crate::operands::{calculation, condition, index, label_of, operand, scripts, two_operands};
+use crate::operands::{
+    calculation, condition, index, label_of, operand, scripts, token_name, two_operands,
+};
 use crate::proof_statements::{exchange, plain, proof_block};
 use crate::scopes::{Aims, ProgramScope, Purpose, WordCounts, as_many_if};
 use sqlite_items::Items;
@@ -203,7 +205,7 @@ fn read(
     let index = index(alloc, terms, scope, &raw.index)?;
     let scripts = scripts(alloc, terms, scope, raw.scripts.as_slice())?;
     scope.assign_name(local)?;
-    Ok(StmtKind::Read(name, cell, index, raw.permission.name, scripts))
+    Ok(StmtKind::Read(name, cell, index, token_name(raw.permission), scripts))
 }
 
 #[tactic(auto, using(sync_read_names::proofs::Kept::along, sync_read_names::proofs::Kept::stays), unfolding(crate::specs::Statements::peek_in))]
@@ -241,7 +243,7 @@ fn write(
     let index = index(alloc, terms, scope, &raw.index)?;
     let operand = operand(scope, raw.operand)?;
     let scripts = scripts(alloc, terms, scope, raw.scripts.as_slice())?;
-    Ok(StmtKind::Write(cell, index, operand, raw.permission.name, scripts))
+    Ok(StmtKind::Write(cell, index, operand, token_name(raw.permission), scripts))
 }
 
 #[tactic(auto, unfolding(crate::specs::Statements::print_in))]

@@ -8,35 +8,9 @@ use Rattle.sync_base.specs.Outcome.{◌>>=◌}
 use Rattle.sync_thread.specs.Control.{Halt, Language, ProgramMeaning, Running, event, events, AllMove, waits_at}
 use Rattle.sync_thread.specs.Code.{CodeTree, code_meaning, ErasedConfig, erased_start, erased_after}
 use Rattle.sync_thread.specs.Reports.{steps_in}
+use Rattle.sync_thread_events.proofs.Schedules.{events_more}
+use Rattle.sync_thread_events.proofs.Tables.{ok_same}
 use Rattle.sync_run.specs.Turns.{LeadsTo, LeadsOn}
-
-ok_or : {A : Type 0} → A → Result A Halt → A
-ok_or d (Ok c) = c
-ok_or d (Err h) = d
-
-IsOk : {A : Type 0} → Result A Halt → Type 0
-IsOk (Ok a) = Unit {0}
-IsOk (Err h) = ⊥
-
-ok_same : {A : Type 0} (a b : A) → ◌≡◌ {A = Result A Halt} (Ok a) (Ok b) → a ≡ b
-unfolding ok_or
-ok_same a b same = ap (ok_or a) same
-
-bound : {A B : Type 0} (r : Result A Halt) (f : A → Result B Halt) (d : B) → r >>= f ≡ Ok d
-    → (b : A) × (r ≡ Ok b) × (f b ≡ Ok d)
-unfolding IsOk
-bound (Ok b) f d is = (b, refl, is)
-bound (Err h) f d is = absurd (subst IsOk (sym is) tt)
-
-pub events_more : {g : Language} (p : ProgramMeaning g) (sigma : List ℕ) (t : ℕ) (c d : Running g)
-    (r : Result (Running g) Halt) → events p sigma c ≡ Ok d → event p t d ≡ r → events p (sigma ++ t ∷ []) c ≡ r
-events_more {g = g} p [] t c d r is goes = subst (λ (b : Running g). event p t b >>= events p [] ≡ r) (sym (ok_same c d is)) (by (event p t d) ∙ goes) where
-  by : (q : Result (Running g) Halt) → q >>= events p [] ≡ q
-  by (Ok b) = refl
-  by (Err h) = refl
-events_more p (s ∷ ss) t c d r is goes =
-    let (b, first, rest) = bound (event p s c) (events p ss) d is in
-    ap (λ q. q >>= events p (ss ++ t ∷ [])) first ∙ events_more p ss t b d r rest goes
 
 moves_more : {g : Language} (p : ProgramMeaning g) (sigma : List ℕ) (t : ℕ) (c d : Running g)
     → events p sigma c ≡ Ok d → AllMove p sigma c → waits_at t d.places ≡ true → AllMove p (sigma ++ t ∷ []) c

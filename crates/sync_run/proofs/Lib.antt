@@ -1,4 +1,3 @@
-mod Places
 mod Leading
 mod Rounds
 mod Whole

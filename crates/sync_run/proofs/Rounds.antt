@@ -11,7 +11,7 @@ use Rattle.sync_thread_events.specs.declared.endings.Halted.{Halted}
 use Rattle.sync_thread_events.specs.declared.endings.Halted.TheVariants.{Stuck, Memory}
 use Rattle.sync_thread_events.specs.Moves.{Halts}
 use Rattle.sync_run.specs.Turns.{LeadsTo, LeadsOn, GetsStuck, HasMade, IsInRound, IsInLast}
-use Rattle.sync_run.proofs.Places.{others_stay}
+use Rattle.sync_thread_events.proofs.Others.{others_stay}
 use Rattle.sync_run.proofs.Leading.{one_more, steps_same, steps_other, leads_more, stuck_after}
 
 -- whoever makes a step has made one more

@@ -9,3 +9,6 @@ pub mod Waiting
 pub mod Leading
 pub mod Fresh
 pub mod Stepping
+pub mod Others
+pub mod Schedules
+pub mod Called

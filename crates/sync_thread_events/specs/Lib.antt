@@ -5,3 +5,4 @@ pub mod Doing
 pub mod Moves
 pub mod Layout
 pub mod Moments
+pub mod Calls

@@ -2,6 +2,7 @@
 #![tactic(auto)]
 
 mod asking;
+mod calls;
 mod endings;
 mod finding;
 mod laws;
@@ -12,9 +13,10 @@ mod steps;
 mod stores;
 
 pub use asking::{asked, local_of};
+pub use calls::{ErasedConfig, erased_event, start_config};
 pub use endings::Halted;
 pub use finding::list_at;
-pub use laws::steps_are_code_steps;
+pub use laws::{final_block_waits_last, steps_are_code_steps};
 pub use layout::{Laid, lay};
 pub use moments::Moment;
 pub use moving::{begin, go_on};

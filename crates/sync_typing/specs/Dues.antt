@@ -12,8 +12,9 @@ use Rattle.sync_rules.specs.Locality.{names_only, form_names_only}
 use Rattle.sync_kernel_facts.specs.Facts.{facts_size}
 use Rattle.sync_kernel.specs.Rows.{atoms_of, narrow}
 use Rattle.sync_kernel.specs.Scripts.{script_fault}
+use Rattle.sync_kernel.specs.Replaced.{plan_replaced}
 use Rattle.sync_thread.specs.Programs.{ScriptTree}
-use Rattle.sync_typing.specs.Symbols.{scripts_name_only, plan_replaced}
+use Rattle.sync_typing.specs.Symbols.{scripts_name_only}
 use Rattle.sync_typing.specs.Environments.{Env, stands, is_at_hand, Outcome, refused, fits, is_held, token}
 
 -- Wants: a test is true. Makes: a term is made. Owes: a formula is clear, or the statement's next script proves it.

@@ -1,7 +1,7 @@
 -- What symbols stand for, as a list, and which symbols a script names.
-use Rattle.std.specs.Prelude.{ℕ, Bool, true, ◌&&◌, List, [], ◌∷◌, map, nat_eq, Option, Some, None, if◌then◌else◌}
+use Rattle.std.specs.Prelude.{ℕ, Bool, true, ◌&&◌, List, [], ◌∷◌, nat_eq, Option, Some, None, if◌then◌else◌}
 use Rattle.std.specs.List.{list_all}
-use Rattle.sync_terms.specs.Trees.{Tree, replaced, replaced_in}
+use Rattle.sync_terms.specs.Trees.{Tree}
 use Rattle.sync_terms.specs.Plans.{Plan, End, Same, Sum, Inst, Parts, Split, Cut, Read, Size, Total, Cong}
 use Rattle.sync_rules.specs.Locality.{names_only, form_names_only}
 use Rattle.sync_thread.specs.Programs.{ScriptTree}
@@ -41,20 +41,3 @@ plan_names_only p (Cong line m j k name rest) =
 
 abbrev pub scripts_name_only : (ℕ → Bool) → List ScriptTree → Bool
 scripts_name_only p ss = list_all (λ (s : ScriptTree). plan_names_only p s.plan) ss
-
--- each symbol of a script replaced at once
-abbrev pub plan_replaced : (ℕ → Tree) → Plan → Plan
-plan_replaced s (End line) = End line
-plan_replaced s (Same line rest) = Same line (plan_replaced s rest)
-plan_replaced s (Sum line parts rest) = Sum line parts (plan_replaced s rest)
-plan_replaced s (Inst line hyp terms name rest) = Inst line hyp (map (replaced s) terms) name (plan_replaced s rest)
-plan_replaced s (Parts line hyp left right rest) = Parts line hyp left right (plan_replaced s rest)
-plan_replaced s (Split line hyp name one two rest) =
-    Split line hyp name (plan_replaced s one) (plan_replaced s two) (plan_replaced s rest)
-plan_replaced s (Cut line form name block rest) =
-    Cut line (replaced_in s form) name (plan_replaced s block) (plan_replaced s rest)
-plan_replaced s (Read line m k name rest) = Read line (replaced s m) (replaced s k) name (plan_replaced s rest)
-plan_replaced s (Size line m k name rest) = Size line (replaced s m) (replaced s k) name (plan_replaced s rest)
-plan_replaced s (Total line m k name rest) = Total line (replaced s m) (replaced s k) name (plan_replaced s rest)
-plan_replaced s (Cong line m j k name rest) =
-    Cong line (replaced s m) (replaced s j) (replaced s k) name (plan_replaced s rest)

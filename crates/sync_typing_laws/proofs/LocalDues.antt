@@ -23,7 +23,7 @@ use Rattle.sync_kernel.specs.Scripts.{script_fault}
 use Rattle.sync_thread.specs.Programs.{ScriptTree}
 use Rattle.sync_typing.specs.Dues.{Due, Wants, Makes, Owes, Alone, Spare, same_line, is_clear, script_rule, use_first, show, spare, pay, row}
 use Rattle.sync_typing.specs.Environments.{Env, stands, Outcome, refused, fits}
-use Rattle.sync_typing.specs.Symbols.{plan_replaced}
+use Rattle.sync_kernel.specs.Replaced.{plan_replaced}
 use Rattle.sync_typing_laws.specs.Rests.{IsKnown}
 use mathlib.Core.Path.{refl, sym, subst}
 

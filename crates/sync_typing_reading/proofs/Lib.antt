@@ -1,3 +1,3 @@
-mod Staying
+pub mod Staying
 mod Terms
 mod Formulas

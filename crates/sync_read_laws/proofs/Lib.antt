@@ -1,0 +1,15 @@
+pub mod TermsRead
+pub mod Places
+pub mod Moves
+pub mod Parts
+pub mod KeepsRead
+pub mod ProofsRead
+pub mod BlocksRead
+pub mod Locals
+pub mod SinglesRead
+pub mod ListsRead
+pub mod EveryList
+pub mod ThreadsRead
+pub mod DeclarationsRead
+pub mod ProgramsRead
+pub mod ScopesRead

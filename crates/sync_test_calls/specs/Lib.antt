@@ -1,0 +1,2 @@
+-- What the programs that the tests run are.
+pub mod Counting

@@ -1,0 +1,3 @@
+pub mod Safety
+pub mod Widths
+pub mod Deals

@@ -1,2 +1,0 @@
--- Lines of terms that are within 128 bits.
-pub mod Clearing

@@ -1,3 +1,0 @@
-mod Saying
-mod Holding
-mod Beginning

@@ -1,2 +1,0 @@
--- Hands, and what they are to the environments of the rules.
-pub mod Hands

@@ -1,0 +1,11 @@
+mod Saying
+mod Holding
+mod Beginning
+mod Alike
+mod Placing
+mod Following
+mod Scripting
+mod Owing
+mod Taking
+mod Binding
+mod Owning
